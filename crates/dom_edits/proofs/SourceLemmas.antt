@@ -9,7 +9,7 @@ use Rattle.dom_nodes.specs.declared.fault.EditFault.TheVariants.{UnknownNode, No
 use Rattle.dom_links.specs.Copying.{AreNodesOf}
 use Rattle.dom_links.proofs.copies.CopiedForests.{stands_here}
 use Rattle.dom_links.specs.Forest.{Forest}
-use Rattle.dom_links.specs.Moves.{cut}
+use Rattle.dom_links.specs.Moves.{detach}
 use Rattle.dom_links.specs.declared.gap.Place.{Place}
 use Rattle.dom_trees.specs.Refusals.{KnownCause}
 use Rattle.dom_edits.specs.declared.edit.Edit.TheVariants.{Remove}
@@ -40,11 +40,11 @@ refused_at forest sources i n here is past = record {
 
 removed_each : (ns : List ℕ) (old new : Forest) → Each (edit_at Remove) ns old new → new ≡ removed ns old
 removed_each [] old new done = done
-removed_each (n ∷ ns) old new done = removed_each ns (cut (n ∷ []) old) new done.1
+removed_each (n ∷ ns) old new done = removed_each ns (detach (n ∷ []) old) new done.1
 
 length-removed : (ns : List ℕ) (old : Forest) → length (removed ns old).content ≡ length old.content
 length-removed [] old = refl
-length-removed (n ∷ ns) old = length-removed ns (cut (n ∷ []) old)
+length-removed (n ∷ ns) old = length-removed ns (detach (n ∷ []) old)
 
 known_at : (forest : Forest) (ns : List ℕ) (i n : ℕ) → AreNodesOf forest ns → slice_get ns i ≡ Some n → n < length forest.content
 known_at forest [] i n known is = absurd (none-some n is)

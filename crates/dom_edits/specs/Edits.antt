@@ -1,4 +1,4 @@
--- What is done at a node, and at each node of a list.
+-- Edits at a node, and at each node of a list.
 use Rattle.std.specs.Prelude.{◌≡◌, ◌≤◌, ℕ, List, [], ◌∷◌, Result, Some, IfErr, OnOk, length, map, slice_get, take}
 use Rattle.dom_nodes.specs.declared.fault.EditFault.{EditFault}
 use Rattle.dom_nodes.specs.declared.fault.EditFault.TheVariants.{UnknownNode}
@@ -14,16 +14,17 @@ use Rattle.dom_edits.specs.declared.edit.Edit.{Edit}
 use Rattle.dom_edits.specs.declared.edit.Edit.TheVariants.{Change, SetText, Remove, Unwrap, Strip, Normalize, Put, Copy}
 use Rattle.dom_edits.specs.declared.edit.SelectionFault.{SelectionFault}
 
--- the elements below x of these local names are replaced by their children
+-- Replacing each element below x with one of the local names by its children.
 abbrev pub stripping : List (List ℕ) → ℕ → TreeEdit
 stripping names x = record { after = stripped names x; Allowed = IsKnown x; Cause = KnownCause x }
 
--- why what was read isn't put at a place: x is unknown, or it is known, and this is the cause there
+-- When inserting parsed markup may fail: x is unknown, or it is known and the insertion at the
+-- place fails.
 abbrev pub PutKnownCause : Place → ℕ → Forest → Forest → EditFault → Type 0
 PutKnownCause place x read forest UnknownNode = length forest.content ≤ x
 PutKnownCause place x read forest fault = IsKnown x forest × PutCause place x read forest fault
 
--- the nodes at the top of what was read go to a place at x
+-- Inserting the top-level nodes of parsed markup at a place relative to x.
 abbrev pub putting_known : Place → Forest → ℕ → TreeEdit
 putting_known place read x = record {
   after = inserted read (top_nodes read) place x;
@@ -31,7 +32,7 @@ putting_known place read x = record {
   Cause = PutKnownCause place x read;
 }
 
--- copies of nodes of the same forest go to a place at x
+-- Inserting copies of nodes of the same forest at a place relative to x.
 abbrev pub copying_to : Place → List ℕ → ℕ → TreeEdit
 copying_to place ns x = record {
   after = λ forest. inserted forest ns place x forest;
@@ -39,7 +40,7 @@ copying_to place ns x = record {
   Cause = λ forest. InsertCause forest ns place x forest;
 }
 
--- what is done at the node
+-- The edit that is made at a node.
 abbrev pub edit_at : Edit → ℕ → TreeEdit
 edit_at (Change change) n = changing n change
 edit_at (SetText text) n = setting_text n text.now
@@ -50,19 +51,20 @@ edit_at Normalize n = normalizing n
 edit_at (Put place snippet) n = putting_known place snippet.now n
 edit_at (Copy place ids) n = copying_to place ids.now n
 
--- it is done at each of the nodes, one after the other, and was allowed there
+-- The edit was made at each of the nodes, one after another, and was allowed there.
 abbrev pub Each : (ℕ → TreeEdit) → List ℕ → Forest → Forest → Type 0
 Each edit [] old new = new ≡ old
 Each edit (n ∷ ns) old new = (edit n).Allowed old × Each edit ns ((edit n).after old) new
 
--- it is done at exactly the first `done` nodes, and at the next one it is refused with its cause
+-- The edit was made at exactly the first `done` nodes, and failed at the next one with a fault that
+-- has its cause.
 pub record Stops (edit : ℕ → TreeEdit) (nodes : List ℕ) (old new : Forest) (stop : SelectionFault) : Type 0 where
   pub node : ℕ
   pub next : slice_get nodes stop.done ≡ Some node
   pub before : Each edit (take stop.done nodes) old new
   pub cause : (edit node).Cause new stop.fault
 
--- It is done at each of the nodes, or it stops at one
+-- The result of an edit at each node: it was made at all of them, or it stopped at one.
 pub record EditsEach (result : Result Unit SelectionFault) (old new : Forest) (nodes : List ℕ) (edit : ℕ → TreeEdit) : Type 0 where
   pub ok : OnOk result (Each edit nodes old new)
   pub err : IfErr result (Stops edit nodes old new)

@@ -1,4 +1,4 @@
-//! What is done at a node, and at each node of a list.
+//! One edit as a value, made at one node or at each node of a list.
 
 ghost use Rattle.std.specs.Prelude.{map};
 ghost use Rattle.dom_trees.specs.Edits.{Edits};
@@ -11,29 +11,30 @@ use dom_nodes::node_data::Change;
 use dom_nodes::node_id::NodeId;
 use dom_trees::tree::Tree;
 
-/// What is done at a node. The calls of `Tree` and `NodeMut` say what each does there.
+/// An edit that is made at a node. The methods of `Tree` with these names say what each does and
+/// when it fails.
 #[derive(Clone, Copy)]
 pub enum Edit<'a> {
-    /// What the node is changes.
+    /// Changes the node's own data.
     Change(Change<'a>),
-    /// Its text is set.
+    /// Sets the node's text.
     SetText(&'a str),
-    /// It is cut out of its list.
+    /// Detaches the node.
     Remove,
-    /// Its parent's children take the parent's place.
+    /// Removes the node's parent and keeps the parent's children in its place.
     Unwrap,
-    /// The elements below it of these local names are replaced by their children.
+    /// Replaces each element below the node with one of these local names by its children.
     Strip(&'a [&'a str]),
-    /// Each row of texts below it is joined.
+    /// Joins adjacent text nodes below the node.
     Normalize,
-    /// Copies of the nodes that markup spells are put at the place at the node.
+    /// Inserts copies of the nodes of parsed markup at a place relative to the node.
     Put(Place, &'a Snippet),
-    /// Copies of nodes of its tree are put at the place at the node.
+    /// Inserts copies of nodes of the same tree at a place relative to the node.
     Copy(Place, &'a [NodeId]),
 }
 
-/// Why an edit of several nodes ended early. Exactly the first `done` nodes are done; the next one,
-/// at which the edit is refused, and those after it are as they were.
+/// Why an edit of several nodes ended early. The edit was made at the first `done` nodes; at the
+/// next one it failed with `fault`, and that node and those after it are unchanged.
 #[derive(Clone, Copy, PartialEq, Eq, Debug, Drop, thiserror::Error)]
 #[error("edit refused after {done} nodes: {fault}")]
 pub struct SelectionFault {
@@ -41,7 +42,8 @@ pub struct SelectionFault {
     pub fault: EditFault,
 }
 
-/// Does it at one node. An unknown number is refused as `UnknownNode`, whatever is to be done.
+/// Makes the edit at one node. Whatever the edit is, it fails with `UnknownNode` for an unknown id.
+/// After an error the tree is unchanged.
 pub fn edit_node(tree: &mut Tree, id: NodeId, edit: Edit) -> Result<(), EditFault>
     ensures { Edits result tree.old tree.new (edit_at edit.entry id) }
 {
@@ -57,7 +59,8 @@ pub fn edit_node(tree: &mut Tree, id: NodeId, edit: Edit) -> Result<(), EditFaul
     }
 }
 
-/// Puts what was read at the place at a node, if there is one of that number.
+/// Inserts the parsed markup at a place relative to the node `id`. For an unknown id it fails with
+/// `UnknownNode`, before any other test.
 fn put_known(tree: &mut Tree, id: NodeId, place: Place, snippet: &Snippet) -> Result<(), EditFault>
     ensures { Edits result tree.old tree.new (putting_known place snippet.now id) }
 {
@@ -67,7 +70,8 @@ fn put_known(tree: &mut Tree, id: NodeId, place: Place, snippet: &Snippet) -> Re
     snippet.put_at(tree, &id, place)
 }
 
-/// Strips below a node, if there is one of that number.
+/// Replaces elements below the node by their children. For an unknown id it fails with
+/// `UnknownNode`.
 fn strip_known(tree: &mut Tree, id: NodeId, names: &[&str]) -> Result<(), EditFault>
     ensures { Edits result tree.old tree.new (stripping (map (λ name. name.now) names.now) id) }
 {
@@ -78,7 +82,8 @@ fn strip_known(tree: &mut Tree, id: NodeId, names: &[&str]) -> Result<(), EditFa
     Ok(())
 }
 
-/// Does it at each of the nodes, one after the other, and stops at the first that refuses it.
+/// Makes the edit at each of the nodes, one after another. It stops at the first node at which
+/// `edit_node` fails, and returns that fault with the number of nodes that were done.
 pub fn edit_each(tree: &mut Tree, nodes: &[NodeId], edit: Edit) -> Result<(), SelectionFault>
     ensures { EditsEach result tree.old tree.new nodes.now (edit_at edit.entry) }
 {

@@ -1,4 +1,4 @@
-//! Markup that is put at each node of a selection.
+//! Inserting parsed markup at each node of a selection.
 
 ghost use Rattle.std.specs.Prelude.{◌≡◌, IfErr, IfOk};
 ghost use Rattle.dom_edits.specs.Loans.{PutsSelected};
@@ -14,7 +14,7 @@ use dom_markup::document::snippet::Snippet;
 use dom_markup::setters::edit_fault;
 use std::alloc::Global;
 
-/// Reads markup before the first node is changed.
+/// Parses the markup, before the first node is changed.
 fn read_first(alloc: Global, html: &str) -> Result<Snippet, SelectionFault>
     ensures ok { IfOk result (λ snippet. IsSpelled html.now snippet) }
     ensures done { IfErr result (λ stop. stop.done ≡ 0) }
@@ -29,12 +29,13 @@ fn read_first(alloc: Global, html: &str) -> Result<Snippet, SelectionFault>
     }
 }
 
-/// The markup is read first, also where there are no nodes, and refused as `Markup` with `done` 0.
-/// Then copies of the nodes at its top, without doctypes, are put at each node, in their order.
-/// Refused there as `UnknownNode`; as `NoChildrenHere` or `RootOrFragment` by the node, also where
-/// the markup is empty; as `TooManyNodes` or `Memory`.
+/// Inserting markup. The markup is parsed before anything else, even if there are no nodes; if that
+/// fails, the fault is `Markup` (or `TooManyNodes` or `Memory`) and `done` is 0. Then copies of its
+/// top-level nodes, without doctypes, are inserted at each node, in their order. At a node this
+/// fails with `UnknownNode`; with `NoChildrenHere` or `RootOrFragment` when nodes can't be put
+/// there, even if the markup is empty; and with `TooManyNodes` or `Memory`.
 impl<'a> SelectionMut<'a> {
-    /// Puts markup at the place at each of the nodes.
+    /// Inserts the markup at this place relative to each of the nodes.
     fn put_html(&mut self, place: Place, html: &str) -> Result<(), SelectionFault>
         ensures { PutsSelected result self.old self.new html.now place }
     {
@@ -42,43 +43,54 @@ impl<'a> SelectionMut<'a> {
         edit_each(self.tree, &self.nodes, Edit::Put(place, &snippet))
     }
 
-    /// Puts the markup in the place of the children. These are cut out, and are a run of their own.
+    /// Replaces the children of each node by the markup. The old children are detached and stay
+    /// siblings of each other. Bad markup fails with `Markup` before anything changes. At a node it
+    /// fails with `UnknownNode`, `NoChildrenHere`, `TooManyNodes` or `Memory`.
     pub fn set_html(&mut self, html: &str) -> Result<(), SelectionFault>
         ensures { PutsSelected result self.old self.new html.now InsteadOfChildren }
     {
         self.put_html(Place::InsteadOfChildren, html)
     }
 
-    /// Puts the markup behind the children.
+    /// Appends the markup to the children of each node. Bad markup fails with `Markup` before
+    /// anything changes. At a node it fails with `UnknownNode`, `NoChildrenHere`, `TooManyNodes` or
+    /// `Memory`.
     pub fn append_html(&mut self, html: &str) -> Result<(), SelectionFault>
         ensures { PutsSelected result self.old self.new html.now AtEnd }
     {
         self.put_html(Place::AtEnd, html)
     }
 
-    /// Puts the markup in front of the children.
+    /// Inserts the markup before the first child of each node. Bad markup fails with `Markup`
+    /// before anything changes. At a node it fails with `UnknownNode`, `NoChildrenHere`,
+    /// `TooManyNodes` or `Memory`.
     pub fn prepend_html(&mut self, html: &str) -> Result<(), SelectionFault>
         ensures { PutsSelected result self.old self.new html.now AtFront }
     {
         self.put_html(Place::AtFront, html)
     }
 
-    /// Puts the markup right before the nodes.
+    /// Inserts the markup immediately before each node. Bad markup fails with `Markup` before
+    /// anything changes. At a node it fails with `UnknownNode`, `RootOrFragment`, `TooManyNodes` or
+    /// `Memory`.
     pub fn before_html(&mut self, html: &str) -> Result<(), SelectionFault>
         ensures { PutsSelected result self.old self.new html.now Before }
     {
         self.put_html(Place::Before, html)
     }
 
-    /// Puts the markup right after the nodes.
+    /// Inserts the markup immediately after each node. Bad markup fails with `Markup` before
+    /// anything changes. At a node it fails with `UnknownNode`, `RootOrFragment`, `TooManyNodes` or
+    /// `Memory`.
     pub fn after_html(&mut self, html: &str) -> Result<(), SelectionFault>
         ensures { PutsSelected result self.old self.new html.now After }
     {
         self.put_html(Place::After, html)
     }
 
-    /// Puts the markup in the place of the nodes, which are cut out, also where the markup is
-    /// empty.
+    /// Replaces each node by the markup. The nodes are detached, even if the markup is empty. Bad
+    /// markup fails with `Markup` before anything changes. At a node it fails with `UnknownNode`,
+    /// `RootOrFragment`, `TooManyNodes` or `Memory`.
     pub fn replace_with_html(&mut self, html: &str) -> Result<(), SelectionFault>
         ensures { PutsSelected result self.old self.new html.now InsteadOfNode }
     {

@@ -1,4 +1,7 @@
-//! Edits of a tree at one node, and at each node of a list.
+//! Edits at one node and at each node of a list.
+//!
+//! Start at `selection_mut`: a `SelectionMut` is a list of nodes with a mutable borrow of their
+//! tree. `edit` has the edits as values.
 #![tactic(auto)]
 
 pub mod edit;

@@ -1,4 +1,4 @@
-//! Nodes of one tree that are changed together.
+//! `SelectionMut`: nodes of one tree that are edited together.
 
 ghost use Rattle.std.specs.Prelude.{◌≡◌};
 ghost use Rattle.dom_nodes.specs.declared.node_data.changing.Change.TheVariants.{
@@ -19,9 +19,9 @@ use dom_nodes::node_data::Change;
 use dom_nodes::node_id::NodeId;
 use dom_trees::tree::Tree;
 
-/// Nodes, by their numbers and their tree, which may be changed. Each call does the same at each of
-/// them, in their order; where one refuses it, as `UnknownNode` where the tree has no node of that
-/// number, the fault holds how many were done before.
+/// A list of node ids with a mutable borrow of their tree. Each edit is made at every node, in
+/// order. At the first error it stops: the `SelectionFault` says how many nodes were done, and the
+/// rest is unchanged. An id that the tree doesn't have fails with `UnknownNode`.
 #[derive(Drop)]
 pub struct SelectionMut<'a> {
     pub tree: &'a mut Tree,
@@ -29,7 +29,7 @@ pub struct SelectionMut<'a> {
 }
 
 impl<'a> SelectionMut<'a> {
-    /// These nodes of the tree, in this order; a node may stand there twice.
+    /// Returns these nodes of the tree, in this order. A node may occur more than once.
     pub fn new(tree: &'a mut Tree, nodes: Vec<NodeId>) -> SelectionMut<'a>
         ensures tree { result.tree ≡ tree.entry }
         ensures nodes { result.nodes ≡ nodes }
@@ -37,38 +37,40 @@ impl<'a> SelectionMut<'a> {
         SelectionMut { tree, nodes }
     }
 
-    /// Cuts the nodes out of their lists. Each is then a run of its own. Takes no memory.
+    /// Detaches each of the nodes. It allocates no memory. It fails with `UnknownNode` only.
     pub fn remove(&mut self) -> Result<(), SelectionFault>
         ensures { EditsSelected result self.old self.new (edit_at Edit.Remove) }
     {
         edit_each(self.tree, &self.nodes, Edit::Remove)
     }
 
-    /// Puts one text in the place of each element's children, or of each text's contents; any other
-    /// node stays.
+    /// Replaces the children of each element by one text node, and the contents of each text node.
+    /// Other nodes are left alone. It fails with `UnknownNode`; at an element also with
+    /// `TooManyNodes`; at an element or a text also with `Memory`.
     pub fn set_text(&mut self, text: &str) -> Result<(), SelectionFault>
         ensures { EditsSelected result self.old self.new (edit_at (Edit.SetText text.entry)) }
     {
         edit_each(self.tree, &self.nodes, Edit::SetText(text))
     }
 
-    /// Replaces each element below the nodes whose local name is one of the names by its children.
-    /// Takes no memory.
+    /// Replaces each element below the nodes whose local name is in `names` by its children. It
+    /// allocates no memory. It fails with `UnknownNode` only.
     pub fn strip_elements(&mut self, names: &[&str]) -> Result<(), SelectionFault>
         ensures { EditsSelected result self.old self.new (edit_at (Edit.Strip names.entry)) }
     {
         edit_each(self.tree, &self.nodes, Edit::Strip(names))
     }
 
-    /// Makes the change of each node.
+    /// Applies the change to each node.
     fn change(&mut self, change: Change) -> Result<(), SelectionFault>
         ensures { EditsSelected result self.old self.new (edit_at (Edit.Change change.entry)) }
     {
         edit_each(self.tree, &self.nodes, Edit::Change(change))
     }
 
-    /// Gives the first attribute of that local name the value, or adds one at the end, without
-    /// prefix and namespace.
+    /// Sets the value of the first attribute with this local name of each element. When there is
+    /// none, it appends an attribute without prefix and namespace. It fails with `UnknownNode`, or
+    /// with `Memory` at an element.
     pub fn set_attr(&mut self, name: &str, value: &str) -> Result<(), SelectionFault>
         ensures { EditsSelected result self.old self.new
             (edit_at (Edit.Change (SetAttr name.entry value.entry))) }
@@ -76,7 +78,8 @@ impl<'a> SelectionMut<'a> {
         self.change(Change::SetAttr { name, value })
     }
 
-    /// Changes the local name of the elements alone.
+    /// Changes the local name of each element; prefix and namespace stay. It fails with
+    /// `UnknownNode`, or with `Memory` at an element.
     pub fn rename(&mut self, name: &str) -> Result<(), SelectionFault>
         ensures { EditsSelected result self.old self.new
             (edit_at (Edit.Change (Rename name.entry))) }
@@ -84,8 +87,9 @@ impl<'a> SelectionMut<'a> {
         self.change(Change::Rename(name))
     }
 
-    /// Adds the words of the text that aren't classes yet at the end of the first attribute
-    /// `class`, or of one at the end. A text that is empty or white changes nothing.
+    /// Adds the words of `classes` that an element doesn't have yet to its first attribute `class`;
+    /// when there is no such attribute, one is appended. A blank `classes` changes nothing. It
+    /// fails with `UnknownNode`, or with `Memory` at an element.
     pub fn add_class(&mut self, classes: &str) -> Result<(), SelectionFault>
         ensures { EditsSelected result self.old self.new
             (edit_at (Edit.Change (AddClass classes.entry))) }
@@ -93,8 +97,9 @@ impl<'a> SelectionMut<'a> {
         self.change(Change::AddClass(classes))
     }
 
-    /// Takes the words of the text out of the first attribute `class`. A text that is empty or
-    /// white changes nothing.
+    /// Removes the words of `classes` from the first attribute `class` of each element. A blank
+    /// `classes` changes nothing. It fails with `UnknownNode`, or with `Memory` at an element with
+    /// an attribute `class`.
     pub fn remove_class(&mut self, classes: &str) -> Result<(), SelectionFault>
         ensures { EditsSelected result self.old self.new
             (edit_at (Edit.Change (RemoveClass classes.entry))) }
@@ -102,7 +107,8 @@ impl<'a> SelectionMut<'a> {
         self.change(Change::RemoveClass(classes))
     }
 
-    /// Removes every attribute of that local name. Takes no memory.
+    /// Removes every attribute with this local name. It allocates no memory. It fails with
+    /// `UnknownNode` only.
     pub fn remove_attr(&mut self, name: &str) -> Result<(), SelectionFault>
         ensures { EditsSelected result self.old self.new
             (edit_at (Edit.Change (RemoveAttr name.entry))) }
@@ -110,7 +116,8 @@ impl<'a> SelectionMut<'a> {
         self.change(Change::RemoveAttr(name))
     }
 
-    /// Removes every attribute whose local name is one of the names. Takes no memory.
+    /// Removes every attribute whose local name is in `names`. It allocates no memory. It fails
+    /// with `UnknownNode` only.
     pub fn remove_attrs(&mut self, names: &[&str]) -> Result<(), SelectionFault>
         ensures { EditsSelected result self.old self.new
             (edit_at (Edit.Change (RemoveAttrs names.entry))) }
@@ -118,7 +125,8 @@ impl<'a> SelectionMut<'a> {
         self.change(Change::RemoveAttrs(names))
     }
 
-    /// Removes every attribute whose local name is none of the names. Takes no memory.
+    /// Removes every attribute whose local name isn't in `names`. It allocates no memory. It fails
+    /// with `UnknownNode` only.
     pub fn retain_attrs(&mut self, names: &[&str]) -> Result<(), SelectionFault>
         ensures { EditsSelected result self.old self.new
             (edit_at (Edit.Change (RetainAttrs names.entry))) }
@@ -126,7 +134,7 @@ impl<'a> SelectionMut<'a> {
         self.change(Change::RetainAttrs(names))
     }
 
-    /// Removes every attribute. Takes no memory.
+    /// Removes every attribute. It allocates no memory. It fails with `UnknownNode` only.
     pub fn remove_all_attrs(&mut self) -> Result<(), SelectionFault>
         ensures { EditsSelected result self.old self.new (edit_at (Edit.Change RemoveAllAttrs)) }
     {

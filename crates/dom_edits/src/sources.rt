@@ -1,4 +1,4 @@
-//! Source nodes of the tree, copies of which are put at each node of a selection.
+//! Inserting nodes of the tree itself at each node of a selection, as copies.
 
 ghost use Rattle.std.specs.Prelude.{◌≡◌, IfOk, reverse};
 ghost use Rattle.dom_edits.specs.Sources.{CopiesSelected, TransfersSelected, DetachesSources};
@@ -12,7 +12,7 @@ use dom_nodes::node_id::NodeId;
 use dom_trees::tree::Tree;
 use std::alloc::Global;
 
-/// Looks the source nodes up, and then cuts each of them out of its list.
+/// Tests that all source nodes exist, and then detaches each of them.
 fn detach_sources(tree: &mut Tree, sources: &[NodeId]) -> Result<(), SelectionFault>
     ensures { DetachesSources result tree.old tree.new sources.now }
 {
@@ -27,7 +27,7 @@ fn detach_sources(tree: &mut Tree, sources: &[NodeId]) -> Result<(), SelectionFa
     edit_each(tree, sources, Edit::Remove)
 }
 
-/// The numbers the other way round.
+/// Returns the ids in reverse order.
 fn reversed(alloc: Global, ids: &[NodeId]) -> Result<Vec<NodeId>, OutOfMemory>
     ensures { IfOk result (λ reversed. reversed.items ≡ reverse ids.now) }
 {
@@ -37,13 +37,15 @@ fn reversed(alloc: Global, ids: &[NodeId]) -> Result<Vec<NodeId>, OutOfMemory>
     Ok(reversed)
 }
 
-/// The source nodes are looked up first, and refused as `UnknownNode` with `done` 0. Then they are
-/// removed, which stays so; and then copies of them, with all that is below them, are put at each
-/// node, all made at its turn before it is changed. No sources change nothing. Refused at a node as
-/// `UnknownNode`; as `NoChildrenHere` by the node; as `RootOrFragment` by it, or where the root, a
-/// document or a fragment is a source; as `TooManyNodes` or `Memory`.
+/// Inserting nodes of the same tree, the sources. If a source is unknown, the fault is
+/// `UnknownNode`, `done` is 0 and nothing changes. Otherwise the sources are detached first, and
+/// stay detached even if an error follows. Then copies of them with their subtrees are inserted at
+/// each node; all copies for a node are made before the node is changed. Without sources nothing
+/// changes. At a node this fails with `UnknownNode`; with `NoChildrenHere` or `RootOrFragment` when
+/// nodes can't be put there, or when a source is a document or a fragment; and with `TooManyNodes`
+/// or `Memory`.
 impl<'a> SelectionMut<'a> {
-    /// Puts copies of nodes at the place at each of the nodes.
+    /// Inserts copies of the nodes at this place relative to each node of the selection.
     fn copy_each(&mut self, place: Place, sources: &[NodeId]) -> Result<(), SelectionFault>
         ensures { CopiesSelected result self.old self.new sources.now place }
     {
@@ -53,7 +55,7 @@ impl<'a> SelectionMut<'a> {
         edit_each(self.tree, &self.nodes, Edit::Copy(place, sources))
     }
 
-    /// Puts copies of nodes in front of the children, the last of them first.
+    /// Inserts copies of the nodes before the first child of each node, the last one first.
     fn copy_reversed(&mut self, sources: &[NodeId]) -> Result<(), SelectionFault>
         ensures { CopiesSelected result self.old self.new (reverse sources.now) AtFront }
     {
@@ -69,7 +71,10 @@ impl<'a> SelectionMut<'a> {
         }
     }
 
-    /// Puts copies of the source nodes behind the children.
+    /// Detaches the source nodes, and appends copies of them to the children of each node. An
+    /// unknown source fails with `UnknownNode` before anything changes. At a node it fails with
+    /// `UnknownNode`, `NoChildrenHere`, `RootOrFragment` (for a source), `TooManyNodes` or
+    /// `Memory`; the sources stay detached.
     pub fn append_selection(&mut self, sources: &[NodeId]) -> Result<(), SelectionFault>
         ensures { TransfersSelected result self.old self.new sources.now sources.now AtEnd }
     {
@@ -77,8 +82,8 @@ impl<'a> SelectionMut<'a> {
         self.copy_each(Place::AtEnd, sources)
     }
 
-    /// Puts copies of the source nodes in front of the children, one by one, so that the last one
-    /// stands first.
+    /// Detaches the source nodes, and inserts copies of them before the first child of each node,
+    /// one by one, so that the last source comes first. It fails as `append_selection` does.
     pub fn prepend_selection(&mut self, sources: &[NodeId]) -> Result<(), SelectionFault>
         ensures { TransfersSelected result self.old self.new sources.now
             (reverse sources.now) AtFront }
@@ -87,8 +92,9 @@ impl<'a> SelectionMut<'a> {
         self.copy_reversed(sources)
     }
 
-    /// Puts copies of the source nodes in the place of the nodes, each of which is cut out at its
-    /// turn.
+    /// Detaches the source nodes, and replaces each node by copies of them. An unknown source fails
+    /// with `UnknownNode` before anything changes. At a node it fails with `UnknownNode`,
+    /// `RootOrFragment`, `TooManyNodes` or `Memory`; the sources stay detached.
     pub fn replace_with_selection(&mut self, sources: &[NodeId]) -> Result<(), SelectionFault>
         ensures { TransfersSelected result self.old self.new sources.now sources.now InsteadOfNode }
     {

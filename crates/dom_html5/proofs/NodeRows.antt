@@ -8,7 +8,7 @@ use Rattle.std.proofs.lemmas.Option.{slice_get_past, slice_get-map}
 use Rattle.dom_nodes.specs.declared.node_data.NodeData.{NodeData}
 use Rattle.dom_nodes.specs.declared.node_data.TreeNode.{TreeNode}
 use Rattle.dom_links.specs.Forest.{Forest, children_of, contents_of, forest_of, owner_from, parent}
-use Rattle.dom_links.specs.Lists.{names, stands_in}
+use Rattle.dom_links.specs.Lists.{names, is_member}
 use Rattle.dom_links.specs.Sound.{IsSoundArena}
 use Rattle.dom_markup.specs.Numbered.{Row, children_among, document_of, rows_from, rows_of}
 use Rattle.dom_markup.specs.ValueTrees.{ValueTrees}
@@ -28,13 +28,13 @@ record Owned (i : ℕ) (lists : List (List ℕ)) (n q : ℕ) : Type 0 where
   place : ℕ
   is : q ≡ i + place
   within : place < length lists
-  stands : stands_in n (get_or lists place []) ≡ true
+  stands : is_member n (get_or lists place []) ≡ true
 
 owned : (i : ℕ) (lists : List (List ℕ)) (n q : ℕ) → owner_from i lists n ≡ Some q → Owned i lists n q
 owned i [] n q e = absurd (cc)
-owned i (ns ∷ rest) n q e = by_test (stands_in n ns) refl (owned (i + 1) rest n q)
+owned i (ns ∷ rest) n q e = by_test (is_member n ns) refl (owned (i + 1) rest n q)
   where
-    by_test : (t : Bool) → stands_in n ns ≡ t → (owner_from (i + 1) rest n ≡ Some q → Owned (i + 1) rest n q) → Owned i (ns ∷ rest) n q
+    by_test : (t : Bool) → is_member n ns ≡ t → (owner_from (i + 1) rest n ≡ Some q → Owned (i + 1) rest n q) → Owned i (ns ∷ rest) n q
     by_test true t more =
         let here : Some i ≡ Some q = rw t at e in
         let same : i ≡ q = cc in
@@ -64,11 +64,11 @@ parent_of_row trees n q row is e =
     let many : length (document_of trees).content ≡ length (rows_of trees) = content_length trees in
     let low : q < length (rows_of trees) = omega (arith, place, within, each, many) in
     let zero-place : q ≡ found.place = omega (arith, place) in
-    let stands : stands_in n (children_of (document_of trees) q) ≡ true = subst (λ (k : ℕ). stands_in n (children_of (document_of trees) k) ≡ true) (sym zero-place) found.stands in
+    let stands : is_member n (children_of (document_of trees) q) ≡ true = subst (λ (k : ℕ). is_member n (children_of (document_of trees) k) ≡ true) (sym zero-place) found.stands in
     let among : children_of (document_of trees) q ≡ children_among 0 (rows_of trees) q = (document_rows trees).children q (omega arith) (omega (arith, low)) in
     let zero-n : 0 + n ≡ n = omega arith in
     let at : parent_from 0 (rows_of trees) n ≡ row.parent = ap (parent_from 0 (rows_of trees)) (sym zero-n) ∙ parent_at 0 n (rows_of trees) row is in
-    names_some row.parent q (ap (λ o. names o q) (sym at) ∙ (sym (stands-children 0 (rows_of trees) q n) ∙ (ap (stands_in n) (sym among) ∙ stands)))
+    names_some row.parent q (ap (λ o. names o q) (sym at) ∙ (sym (stands-children 0 (rows_of trees) q n) ∙ (ap (is_member n) (sym among) ∙ stands)))
 
 -- a row names a parent among the rows, which the node has too
 node_of_row : (trees : ValueTrees) (n p : ℕ) (row : Row) → slice_get (rows_of trees) n ≡ Some row → row.parent ≡ Some p → p < length (rows_of trees) → parent (document_of trees) n ≡ Some p
@@ -76,7 +76,7 @@ node_of_row trees n p row is e low =
     let among : children_of (document_of trees) p ≡ children_among 0 (rows_of trees) p = (document_rows trees).children p (omega arith) (omega (arith, low)) in
     let zero-n : 0 + n ≡ n = omega arith in
     let at : parent_from 0 (rows_of trees) n ≡ Some p = ap (parent_from 0 (rows_of trees)) (sym zero-n) ∙ (parent_at 0 n (rows_of trees) row is ∙ e) in
-    let stands : stands_in n (children_of (document_of trees) p) ≡ true = ap (stands_in n) among ∙ (stands-children 0 (rows_of trees) p n ∙ (ap (λ o. names o p) at ∙ eq-eqb p p refl)) in
+    let stands : is_member n (children_of (document_of trees) p) ≡ true = ap (is_member n) among ∙ (stands-children 0 (rows_of trees) p n ∙ (ap (λ o. names o p) at ∙ eq-eqb p p refl)) in
     ((document_sound trees).once.in_children p n stands).1
 
 no_some : (p : ℕ) → None ≡ Some p → ⊥

@@ -17,8 +17,8 @@ use Rattle.dom_markup.specs.ValueTrees.ValueTrees.{no_trees, text_node, comment_
 use Rattle.dom_html5.specs.Calm.{admits, are_calm, bars, inside, may_hold_comment, may_hold_text, top}
 use Rattle.html5_trees.specs.ElementKinds.{holds_doctype, kind_of, may_hold, names_of}
 use Rattle.dom_html5.specs.Scopes.{next_scope, scope_below}
-use Rattle.html5_trees.specs.declared.element_kinds.Kind.{Kind}
-use Rattle.html5_trees.specs.declared.element_kinds.Kind.TheVariants.{Document, Other}
+use Rattle.html5_trees.specs.declared.element_kinds.ElementCategory.{ElementCategory}
+use Rattle.html5_trees.specs.declared.element_kinds.ElementCategory.TheVariants.{Document, Other}
 use Rattle.dom_html5.specs.declared.calm.nesting.Scope.{Scope}
 
 -- each of these rows may stand where it stands, where the nodes before them have these scopes
@@ -71,7 +71,7 @@ template_other : (name : List ℕ) → is_template name ≡ true → kind_of nam
 unfolding kind_of names_of
 template_other name h = let is : codes "template" ≡ name = (bytes_eq-Decides (codes "template") name).0 h in sym (ap kind_of is)
 
-holds_no_other : (kind : Kind) → may_hold kind Other ≡ false
+holds_no_other : (kind : ElementCategory) → may_hold kind Other ≡ false
 holds_no_other Document = refl
 holds_no_other _ = refl
 

@@ -1,4 +1,4 @@
--- What each node of a document stands in, found in order of the nodes' numbers.
+-- The scope of each node of a document, computed in the order of the node ids.
 use Rattle.std.specs.Prelude.{ℕ, List, Option, None, Some, slice_get, if◌then◌else◌}
 use Rattle.std.specs.Option.{option_and_then}
 use Rattle.dom_nodes.specs.declared.node_data.NodeData.{NodeData}
@@ -7,7 +7,7 @@ use Rattle.dom_html5.specs.Calm.{admits, inside, may_hold_comment, may_hold_text
 use Rattle.html5_trees.specs.ElementKinds.{holds_doctype, kind_of}
 use Rattle.dom_html5.specs.declared.calm.nesting.Scope.{Scope}
 
--- what the children of a node stand in, where it may stand in that scope
+-- the scope of a node's children, if the node may be in this scope
 abbrev pub scope_below : Scope → NodeData → Option Scope
 scope_below scope (Text contents) = if may_hold_text scope.parent contents then Some scope else None
 scope_below scope (Comment contents) = if may_hold_comment scope.parent contents then Some scope else None
@@ -15,6 +15,6 @@ scope_below scope (Doctype _ _ _) = if holds_doctype scope.parent then Some scop
 scope_below scope (AnElement element) = if admits scope (kind_of element.name.local) then Some (inside scope (kind_of element.name.local)) else None
 scope_below scope _ = None
 
--- the same, by the number of the parent, and what the children of the nodes before stand in
+-- the scope of a node's children, from the node's parent and the scopes of the nodes before it
 abbrev pub next_scope : List Scope → Option ℕ → NodeData → Option Scope
 next_scope scopes parent content = option_and_then (λ p. option_and_then (λ scope. scope_below scope content) (slice_get scopes p)) parent

@@ -1,4 +1,5 @@
-//! Calm pages, which tree construction reads as the explicit markup that they are.
+//! The fast path for calm pages. A page is calm if it is explicit markup that tree construction
+//! leaves as it is; then `Document::parse` gives the same tree.
 
 ghost use Rattle.std.specs.Prelude.{◌≡◌, IfErr, IfOk, IfSome, MatchOption, MatchResult, true};
 ghost use Rattle.dom_html5.specs.Calm.{IsCalmDocument, IsCalmPage, are_calm, top};
@@ -24,7 +25,8 @@ use dom_trees::tree::Tree;
 use html5_trees::{PageFault, is_page};
 use std::alloc::Global;
 
-/// The document of a calm page; None where the page isn't calm. `Err` where a limit was met.
+/// Returns the document of a calm page, or `None` if the page isn't calm. Fails only with a limit:
+/// `Memory` or `TooManyNodes`.
 pub fn read_calm(alloc: Global, source: &str) -> Result<Option<Document>, PageFault>
     ensures page { IfOk result (λ found. IfSome found (λ document. IsPage document.tree)) }
     ensures calm { (trees : ValueTrees) → IsCalmPage source.now trees → IfOk result (λ found.
@@ -36,6 +38,7 @@ pub fn read_calm(alloc: Global, source: &str) -> Result<Option<Document>, PageFa
     if !is_calm_text(source) {
         return Ok(None);
     }
+    // Calls of laws: they do nothing, and their contracts prove the clause `calm`.
     one_reading();
     documents_are_forests();
     match Document::parse(alloc, source) {
@@ -44,7 +47,8 @@ pub fn read_calm(alloc: Global, source: &str) -> Result<Option<Document>, PageFa
     }
 }
 
-/// What a text comes to that isn't read as explicit markup: a limit is a fault of a page too.
+/// Converts a fault of the parser of explicit markup: a limit is an error here too, and any other
+/// fault means that the page isn't calm.
 fn unread(fault: MarkupFault) -> Result<Option<Document>, PageFault>
     ensures none { IfOk result (λ found. found ≡ None) }
     ensures limit { IsLimitFault fault.kind → IfOk result (λ _. ⊥) }
@@ -56,7 +60,7 @@ fn unread(fault: MarkupFault) -> Result<Option<Document>, PageFault>
     }
 }
 
-/// The document, where it is calm.
+/// Returns the document if it is calm, and otherwise `None`.
 fn calm_only(document: Document) -> Result<Option<Document>, PageFault>
     ensures page { IfOk result (λ found. IfSome found (λ calm. IsPage calm.tree)) }
     ensures calm { (trees : ValueTrees) → document.tree ≡ document_of trees → IsCalmDocument trees
@@ -68,7 +72,7 @@ fn calm_only(document: Document) -> Result<Option<Document>, PageFault>
     Ok(None)
 }
 
-/// Whether a tree that was read from explicit markup is calm.
+/// Returns whether a tree that was parsed from explicit markup is calm.
 fn is_calm(tree: &Tree) -> Result<bool, PageFault>
     ensures page { IfOk result (λ is. is ≡ true → IsPage tree.now) }
     ensures calm { (trees : ValueTrees) → tree.now ≡ document_of trees → IsCalmDocument trees
@@ -83,8 +87,8 @@ fn is_calm(tree: &Tree) -> Result<bool, PageFault>
     are_nodes_calm(tree)
 }
 
-/// Whether the first and the last node in the element `html` are elements: then whitespace stands
-/// in it between its head and its body alone.
+/// Returns whether the first and the last child of the element `html` are elements. Whitespace can
+/// then only be between the head and the body.
 fn has_elements_at_ends(tree: &Tree) -> bool
     ensures { result ≡ has_elements_at_ends tree.now }
 {
@@ -97,7 +101,7 @@ fn has_elements_at_ends(tree: &Tree) -> bool
     ends_with_element(tree, html.id)
 }
 
-/// Whether the first child of the node is an element.
+/// Returns whether the first child of the node is an element.
 fn begins_with_element(tree: &Tree, id: NodeId) -> bool
     ensures { result ≡ is_element_at tree.now (first (children_of tree.now id)) }
 {
@@ -107,7 +111,7 @@ fn begins_with_element(tree: &Tree, id: NodeId) -> bool
     }
 }
 
-/// Whether the last child of the node is an element.
+/// Returns whether the last child of the node is an element.
 fn ends_with_element(tree: &Tree, id: NodeId) -> bool
     ensures { result ≡ is_element_at tree.now (last (children_of tree.now id)) }
 {
@@ -117,8 +121,8 @@ fn ends_with_element(tree: &Tree, id: NodeId) -> bool
     }
 }
 
-/// Whether each node may stand where it stands. The nodes of a tree that was read are numbered in
-/// order of start, so that what a node stands in is known before it.
+/// Returns whether each node may be in its scope. The nodes of a parsed tree have their ids in
+/// document order, so the scope of a parent is known before that of its children.
 fn are_nodes_calm(tree: &Tree) -> Result<bool, PageFault>
     ensures { (trees : ValueTrees) → tree.now ≡ document_of trees
         → IfOk result (λ are. are ≡ are_calm top trees) }

@@ -1,4 +1,4 @@
-//! What is true of pages. The functions do nothing.
+//! Laws about pages. The functions do nothing; their contracts are the theorems.
 
 ghost use Rattle.std.specs.Prelude.{◌⊎◌, codes, find};
 ghost use Rattle.dom_html5.specs.Calm.{IsCalmForest, SpellsCalmPage};
@@ -15,8 +15,8 @@ use dom_markup::laws::plain::{
     html_of_trees, one_meaning, plain_documents_are_spelled, plain_reads_back,
 };
 
-/// Of a page `html_root` and `head` return elements of these names, and `body` does so too where no
-/// element `frameset` stands in its place.
+/// For a page, `html_root` and `head` return elements with these names. `body` does so too, unless
+/// the page has a `frameset` in its place.
 pub fn pages_have_parts()
     ensures html_root { (page : Forest) → IsPage page
         → IsFound page (codes "html") (find (element_at page) (children_of page 0)) }
@@ -27,12 +27,13 @@ pub fn pages_have_parts()
         ⊎ IsFound page (codes "frameset") (page_part page (codes "frameset")) }
 {}
 
-/// The HTML of a plain document that is calm is a calm page of the same tree, which `parse_page`
-/// reads back.
+/// The HTML of a document that is plain and calm is a calm page of the same tree, so `parse_page`
+/// reads it back.
 pub fn calm_documents_are_pages()
     ensures { (forest : Forest) → IsForest forest → IsPlain forest → IsCalmForest forest
         → SpellsCalmPage (html_of forest 0) forest }
 {
+    // Laws of `dom_markup`, called for their contracts alone.
     html_of_trees();
     one_meaning();
     one_reading();

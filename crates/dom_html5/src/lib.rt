@@ -1,4 +1,7 @@
-//! Reading pages: documents of what tree construction builds, or of calm pages as they stand.
+//! Parsing web pages into documents, as the HTML Standard says. Start at `reading::parse_page`.
+//!
+//! A page is parsed by tree construction (`html5_trees`). A calm page, which tree construction
+//! would leave as it is, is parsed faster as explicit markup.
 #![tactic(auto)]
 
 mod calm;

@@ -1,4 +1,5 @@
-//! Reading a page or a fragment, whole or in pieces.
+//! Parsing a page or a fragment, whole or in pieces. Start at `parse_page`; `PageParser` takes
+//! pieces.
 
 ghost use Rattle.std.specs.Prelude.{◌≡◌, ◌↔◌, IfOk, IsTrue, IsUtf8};
 ghost use Rattle.dom_links.specs.Forest.{Forest};
@@ -14,16 +15,19 @@ use dom_markup::document::Document;
 use html5_trees::{Context, Options, PageFault, PageReader, make_page, without_mark};
 use std::alloc::Global;
 
-/// What reads a page in pieces.
+/// A parser for a page or a fragment whose text comes in pieces.
 #[derive(Drop)]
 pub struct PageParser {
     reader: PageReader,
     is_fragment: bool,
 }
 
-/// The document that a page stands for. Every text is a page: the standard says what is made of
-/// markup that has faults. A calm page is explicit markup, and is read as `Document::parse` reads
-/// it, where depth isn't bounded and no errors are noted.
+/// Parses a page and returns its document, which always has the shape of a page. Malformed markup
+/// is no error: the HTML Standard says what becomes of it. Fails only with a limit: `Memory` or
+/// `TooManyNodes`.
+///
+/// A calm page, which is explicit markup that tree construction would leave as it is, is parsed as
+/// `Document::parse` does, if depth is not limited and errors are not collected.
 pub fn parse_page(alloc: Global, source: &str, options: Options) -> Result<Document, PageFault>
     ensures page { IfOk result (λ document. IsPage document.tree) }
     ensures calm { (trees : ValueTrees) → IsCalmPage source.now trees → ReadsCalm options
@@ -40,14 +44,14 @@ pub fn parse_page(alloc: Global, source: &str, options: Options) -> Result<Docum
     }
 }
 
-/// Whether calm pages are read as explicit markup.
+/// Returns whether calm pages are parsed as explicit markup with these options.
 fn reads_calm(options: Options) -> bool
     ensures { IsTrue result ↔ ReadsCalm options }
 {
     options.max_depth.is_none() && !options.errors
 }
 
-/// The document that a page stands for, by tree construction.
+/// Parses a page by tree construction and returns its document.
 fn parse_any_page(alloc: Global, source: &str, options: Options) -> Result<Document, PageFault>
     ensures { IfOk result (λ document. IsPage document.tree) }
 {
@@ -55,9 +59,9 @@ fn parse_any_page(alloc: Global, source: &str, options: Options) -> Result<Docum
     parser.read_whole(source)
 }
 
-/// The document that a page in UTF-8 stands for. A byte order mark at its beginning is dropped, and
-/// U+FFFD takes the place of what isn't UTF-8. A page in another encoding has to be transcoded
-/// before: neither a `meta` nor a header of HTTP is looked at.
+/// Parses a page in UTF-8 like `parse_page`, and fails as it does. A byte order mark at the start
+/// is removed, and bytes that are not UTF-8 become U+FFFD. A page in another encoding has to be
+/// converted before: neither a `meta` element nor an HTTP header is considered.
 pub fn parse_page_bytes(
     alloc: Global,
     source: &[u8],
@@ -77,8 +81,9 @@ pub fn parse_page_bytes(
     parse_page(alloc, text.as_str(), options)
 }
 
-/// The fragment that a text stands for inside an element: below the root an element `html`, and in
-/// that the nodes.
+/// Parses a text as the content of the context element (13.4) and returns a fragment: below the
+/// root is an element `html`, and below that are the nodes. Fails only with `Memory` or
+/// `TooManyNodes`.
 pub fn parse_page_fragment(
     alloc: Global,
     source: &str,
@@ -89,7 +94,7 @@ pub fn parse_page_fragment(
     parser.read_whole(source)
 }
 
-/// The document that was read, in the shape of a page.
+/// Returns the document in the shape of a page.
 fn page_of(document: Document) -> Result<Document, PageFault>
     ensures { IfOk result (λ page. IsPage page.tree) }
 {
@@ -99,7 +104,7 @@ fn page_of(document: Document) -> Result<Document, PageFault>
 }
 
 impl PageParser {
-    /// What reads a page.
+    /// Returns a parser for a page. Fails only when memory runs out.
     pub fn new(alloc: Global, options: Options) -> Result<PageParser, PageFault>
         ensures { IfOk result ReadsPage }
     {
@@ -109,7 +114,7 @@ impl PageParser {
         })
     }
 
-    /// What reads the contents of an element.
+    /// Returns a parser for the content of the context element. Fails only when memory runs out.
     pub fn for_fragment(
         alloc: Global,
         context: Context<'_>,
@@ -121,7 +126,7 @@ impl PageParser {
         })
     }
 
-    /// The document of a text that is one piece.
+    /// Parses a text in one piece and returns its document.
     fn read_whole(self, source: &str) -> Result<Document, PageFault>
         ensures { ReadsPage self → IfOk result (λ document. IsPage document.tree) }
     {
@@ -130,25 +135,26 @@ impl PageParser {
         parser.finish()
     }
 
-    /// Reads the next piece of the text; the pieces may be cut anywhere. After an `Err` nothing is
-    /// read any more, and each further call returns that fault again.
+    /// Parses the next piece of the text. The text may be split anywhere. Fails only with `Memory`
+    /// or `TooManyNodes`; then nothing more is parsed, and each further call returns the same
+    /// error.
     pub fn feed(&mut self, piece: &str) -> Result<(), PageFault>
         ensures { ReadsPage self.old → ReadsPage self.new }
     {
         self.reader.feed(piece)
     }
 
-    /// Reads the next bytes of a page in UTF-8, as a file or a connection gives them; the pieces
-    /// may be cut anywhere. As by `parse_page_bytes`, a byte order mark at the beginning is
-    /// dropped, and U+FFFD takes the place of what isn't UTF-8. After an `Err` nothing is read any
-    /// more.
+    /// Parses the next bytes of a page in UTF-8, such as a file or a connection delivers them. The
+    /// page may be split anywhere, even inside a character. A byte order mark at the start is
+    /// removed, and bytes that are not UTF-8 become U+FFFD. Fails as `feed` does.
     pub fn feed_bytes(&mut self, piece: &[u8]) -> Result<(), PageFault>
         ensures { ReadsPage self.old → ReadsPage self.new }
     {
         self.reader.feed_bytes(piece)
     }
 
-    /// The document, once all pieces are read.
+    /// Returns the document after the last piece. Fails with the error of an earlier call, or with
+    /// `Memory` or `TooManyNodes`.
     pub fn finish(self) -> Result<Document, PageFault>
         ensures { ReadsPage self → IfOk result (λ document. IsPage document.tree) }
     {

@@ -9,7 +9,7 @@ use Rattle.dom_nodes.specs.declared.node_data.NodeData.TheVariants.{Document, Fr
 use Rattle.dom_nodes.specs.Kinds.{is_top, children_allowed}
 use Rattle.dom_links.specs.Forest.{Forest, children_or, parent, run_of, siblings}
 use Rattle.dom_links.specs.Laws.{AreLines}
-use Rattle.dom_links.specs.Lists.{stands_in}
+use Rattle.dom_links.specs.Lists.{is_member}
 use Rattle.dom_links.specs.Sound.{IsForest, stays}
 use Rattle.dom_links.specs.Trees.{ancestors}
 use Rattle.dom_links.specs.Walk.{rest_after}
@@ -46,8 +46,8 @@ module _ (forest : Forest) (lines : AreLines forest) where
   may_first Adjacent exempt w p b other = inr (beside_element forest exempt lines w p b)
   may_first Sibling exempt w p b other = inr (beside_element forest exempt lines w p b)
 
-  no_earlier : (w u : ℕ) → earlier forest u ≡ [] → stands_in w (earlier forest u) ≡ true → ⊥
-  no_earlier w u e s = true≢false (sym s ∙ ap (stands_in w) e)
+  no_earlier : (w u : ℕ) → earlier forest u ≡ [] → is_member w (earlier forest u) ≡ true → ⊥
+  no_earlier w u e s = true≢false (sym s ∙ ap (is_member w) e)
 
   may_last : (k : Combinator) (w u v : ℕ) → IsFit forest v → CombinatorHolds forest k w u → MayBeOperand forest v k u → (other : ℕ) → MayBeOperand forest other k u
   unfolding CombinatorHolds
@@ -85,13 +85,13 @@ module _ (forest : Forest) (lines : AreLines forest) where
       (u, (h.1.0, may_first s.0 v w first h.1.1 exempt, may_last s.0 w u v fit h.1.0 h.1.2 exempt), h.2, sparing_there exempt v fit ss u h.3)
 
 module _ (forest : Forest) (good : IsForest forest) (lines : AreLines forest) where
-  some_child : (ns : List ℕ) (n v : ℕ) → ancestors forest n ≡ ns → stands_in v ns ≡ true → (c : ℕ) × (parent forest c ≡ Some v)
+  some_child : (ns : List ℕ) (n v : ℕ) → ancestors forest n ≡ ns → is_member v ns ≡ true → (c : ℕ) × (parent forest c ≡ Some v)
   some_child [] n v e s = absurd (true≢false (sym s))
   some_child (m ∷ ms) n v e s =
       let up = parent_first forest lines n m ms e in
       let both : m ∷ ms ≡ m ∷ ancestors forest m = sym e ∙ lines.up n m up in
       let rest : ancestors forest m ≡ ms = cc in
-      elim (or_cases (m == v) (stands_in v ms) s) [
+      elim (or_cases (m == v) (is_member v ms) s) [
         | inl here ↦ (n, up ∙ ap (λ p. Some p) (eqb-true m v here))
         | inr there ↦ some_child ms m v rest there
       ]

@@ -5,13 +5,13 @@ use Rattle.std.specs.List.{flat_map}
 use Rattle.std.proofs.lemmas.Bool.{cases_Bool, eq-eqb, eqb-true, or_right}
 use Rattle.std.proofs.lemmas.List.{length-set}
 use Rattle.dom_links.specs.Forest.{Forest}
-use Rattle.dom_links.specs.Lists.{stands_in}
-use Rattle.dom_links.proofs.forest.Neighbours.{stands_in-append}
+use Rattle.dom_links.specs.Lists.{is_member}
+use Rattle.dom_links.proofs.forest.Neighbours.{is_member-append}
 use Rattle.dom_links.specs.ListMoves.{element_at}
-use Rattle.dom_select.specs.Meaning.{Means}
+use Rattle.dom_select.specs.Meaning.{MatchesNode}
 use Rattle.dom_select.specs.Selected.{FiltersTo, Selected, first_occurrences}
 use Rattle.dom_selectors.specs.Syntax.{SelectorList}
-use Rattle.dom_links.specs.Trees.{walk_below}
+use Rattle.dom_links.specs.Trees.{descendants_in_order}
 use Rattle.dom_index.specs.Collected.{collected, set_left}
 use Rattle.dom_selectors.specs.Spelling.{Decides}
 use Rattle.dom_index.specs.NodeSets.{IsSetOf, in_set}
@@ -51,23 +51,23 @@ module _ (forest : Forest) where
 
   module _ (list : SelectorList) where
     abbrev IsIt : ℕ → Type 0
-    IsIt n = (element_at forest n ≡ true) × Means list forest n
+    IsIt n = (element_at forest n ≡ true) × MatchesNode list forest n
 
     -- the set has what matches and didn't come before
     abbrev IsNew : List Bool → List ℕ → ℕ → Type 0
-    IsNew table before n = MatchBool (chosen table n) (IsIt n × (stands_in n before ≡ false)) (IsIt n → stands_in n before ≡ true)
+    IsNew table before n = MatchBool (chosen table n) (IsIt n × (is_member n before ≡ false)) (IsIt n → is_member n before ≡ true)
 
-    later_before : (n m : ℕ) (before : List ℕ) (b : Bool) → m ≢ n → stands_in m before ≡ b → stands_in m (n ∷ before) ≡ b
+    later_before : (n m : ℕ) (before : List ℕ) (b : Bool) → m ≢ n → is_member m before ≡ b → is_member m (n ∷ before) ≡ b
     later_before n m before b other e = elim (cases_Bool (n == m)) [
       | inl t ↦ absurd (other (sym (eqb-true n m t)))
-      | inr f ↦ ap (λ c. c || stands_in m before) f ∙ e
+      | inr f ↦ ap (λ c. c || is_member m before) f ∙ e
     ]
 
-    here_before : (n : ℕ) (before : List ℕ) → stands_in n (n ∷ before) ≡ true
-    here_before n before = ap (λ c. c || stands_in n before) (eq-eqb n n refl)
+    here_before : (n : ℕ) (before : List ℕ) → is_member n (n ∷ before) ≡ true
+    here_before n before = ap (λ c. c || is_member n before) (eq-eqb n n refl)
 
-    in_set_at : (b : Bool) (m : ℕ) (one other : List ℕ) → ((c : Bool) → stands_in m one ≡ c → stands_in m other ≡ c) →
-        MatchBool b (IsIt m × (stands_in m one ≡ false)) (IsIt m → stands_in m one ≡ true) → MatchBool b (IsIt m × (stands_in m other ≡ false)) (IsIt m → stands_in m other ≡ true)
+    in_set_at : (b : Bool) (m : ℕ) (one other : List ℕ) → ((c : Bool) → is_member m one ≡ c → is_member m other ≡ c) →
+        MatchBool b (IsIt m × (is_member m one ≡ false)) (IsIt m → is_member m one ≡ true) → MatchBool b (IsIt m × (is_member m other ≡ false)) (IsIt m → is_member m other ≡ true)
     in_set_at true m one other same h = (h.0, same false h.1)
     in_set_at false m one other same h = λ i. same true (h i)
 
@@ -75,8 +75,8 @@ module _ (forest : Forest) where
     in_set_added : (count n : ℕ) (table : List Bool) (before : List ℕ) → n < length table → ((m : ℕ) → m < count → IsNew table before m) → (m : ℕ) → m < count → IsNew (set table n false) (n ∷ before) m
     in_set_added count n table before known answer m inside = elim (same_or_not m n) [
       | inl e ↦ subst (λ k. IsNew (set table n false) (n ∷ before) k) (sym e)
-          (subst (λ b. MatchBool (b && element_at forest n) (IsIt n × (stands_in n (n ∷ before) ≡ false)) (IsIt n → stands_in n (n ∷ before) ≡ true)) (sym (written_here table n false known)) (λ _. here_before n before))
-      | inr other ↦ subst (λ b. MatchBool (b && element_at forest m) (IsIt m × (stands_in m (n ∷ before) ≡ false)) (IsIt m → stands_in m (n ∷ before) ≡ true)) (sym (written_elsewhere table n m false other))
+          (subst (λ b. MatchBool (b && element_at forest n) (IsIt n × (is_member n (n ∷ before) ≡ false)) (IsIt n → is_member n (n ∷ before) ≡ true)) (sym (written_here table n false known)) (λ _. here_before n before))
+      | inr other ↦ subst (λ b. MatchBool (b && element_at forest m) (IsIt m × (is_member m (n ∷ before) ≡ false)) (IsIt m → is_member m (n ∷ before) ≡ true)) (sym (written_elsewhere table n m false other))
           (in_set_at (chosen table m) m before (n ∷ before) (λ c e. later_before n m before c other e) (answer m inside))
     ]
 
@@ -87,52 +87,52 @@ module _ (forest : Forest) where
       | inr other ↦ in_set_at (chosen table m) m before (n ∷ before) (λ c is. later_before n m before c other is) (answer m inside)
     ]
 
-    collected_new : (count : ℕ) (ns before : List ℕ) (table : List Bool) → length table ≡ count → ((m : ℕ) → stands_in m ns ≡ true → m < count) → ((m : ℕ) → m < count → IsNew table before m) →
+    collected_new : (count : ℕ) (ns before : List ℕ) (table : List Bool) → length table ≡ count → ((m : ℕ) → is_member m ns ≡ true → m < count) → ((m : ℕ) → m < count → IsNew table before m) →
         FiltersTo IsIt (first_occurrences before ns) (collected forest table ns)
     collected_new count [] before table long inside answer = refl
     collected_new count (n ∷ ns) before table long inside answer =
         let known = inside n (here_before n ns) in
         let within = subst (λ (k : ℕ). n < k) (sym long) known in
-        let rest : (m : ℕ) → stands_in m ns ≡ true → m < count = λ m s. inside m (or_right (n == m) (stands_in m ns) s) in
-        at (stands_in n before) (chosen table n) refl refl (answer n known) within (λ later left is is_member. collected_new count ns later left is rest is_member)
+        let rest : (m : ℕ) → is_member m ns ≡ true → m < count = λ m s. inside m (or_right (n == m) (is_member m ns) s) in
+        at (is_member n before) (chosen table n) refl refl (answer n known) within (λ later left is is_member. collected_new count ns later left is rest is_member)
       where
-        at : (s c : Bool) → stands_in n before ≡ s → chosen table n ≡ c → IsNew table before n → n < length table →
+        at : (s c : Bool) → is_member n before ≡ s → chosen table n ≡ c → IsNew table before n → n < length table →
             ((later : List ℕ) (left : List Bool) → length left ≡ count → ((m : ℕ) → m < count → IsNew left later m) → FiltersTo IsIt (first_occurrences later ns) (collected forest left ns)) →
             FiltersTo IsIt (first_occurrences before (n ∷ ns)) (collected forest table (n ∷ ns))
-        at true true e f h within next = let here : IsIt n × (stands_in n before ≡ false) = rw f at h in absurd (true≢false (sym e ∙ here.1))
+        at true true e f h within next = let here : IsIt n × (is_member n before ≡ false) = rw f at h in absurd (true≢false (sym e ∙ here.1))
         at true false e f h within next = rw (e, f) (next before table long answer)
         at false true e f h within next =
-            let here : IsIt n × (stands_in n before ≡ false) = rw f at h in
+            let here : IsIt n × (is_member n before ≡ false) = rw f at h in
             rw (e, f) (inl (here.0, collected forest (set table n false) ns, refl, next (n ∷ before) (set table n false) (length-set table n false ∙ long) (in_set_added count n table before within answer)))
         at false false e f h within next =
-            let here : IsIt n → stands_in n before ≡ true = rw f at h in
+            let here : IsIt n → is_member n before ≡ true = rw f at h in
             let out : IsIt n → ⊥ = λ i. true≢false (sym (here i) ∙ e) in
             rw (e, f) (inr (out, next (n ∷ before) table long (in_set_passed count n table before out f answer)))
 
-    decided_first : (t e : Bool) (n : ℕ) → element_at forest n ≡ e → Decides t (Means list forest n) → MatchBool (t && e) (IsIt n × (stands_in n [] ≡ false)) (IsIt n → stands_in n [] ≡ true)
+    decided_first : (t e : Bool) (n : ℕ) → element_at forest n ≡ e → Decides t (MatchesNode list forest n) → MatchBool (t && e) (IsIt n × (is_member n [] ≡ false)) (IsIt n → is_member n [] ≡ true)
     decided_first true true n is h = ((is, h), refl)
     decided_first true false n is h = λ i. absurd (true≢false (sym i.0 ∙ is))
     decided_first false e n is h = λ i. absurd (h i.1)
 
-    pub collected_selected : (roots : List ℕ) (table : List Bool) → ((m : ℕ) → stands_in m (flat_map (walk_below forest) roots) ≡ true → m < length forest.content) →
-        IsSetOf table (length forest.content) (Means list forest) → Selected forest roots list (collected forest table (flat_map (walk_below forest) roots))
+    pub collected_selected : (roots : List ℕ) (table : List Bool) → ((m : ℕ) → is_member m (flat_map (descendants_in_order forest) roots) ≡ true → m < length forest.content) →
+        IsSetOf table (length forest.content) (MatchesNode list forest) → Selected forest roots list (collected forest table (flat_map (descendants_in_order forest) roots))
     unfolding Selected
     collected_selected roots table inside answer =
-        collected_new (length forest.content) (flat_map (walk_below forest) roots) [] table answer.long inside (λ m known. decided_first (in_set table m) (element_at forest m) m refl (answer.each m known))
+        collected_new (length forest.content) (flat_map (descendants_in_order forest) roots) [] table answer.long inside (λ m known. decided_first (in_set table m) (element_at forest m) m refl (answer.each m known))
 
 -- a walk in which a node is looked at: what was collected, what is to come, and the table that is left
 pub record Collected (forest : Forest) (found : List ℕ) (table : List Bool) (left all : List ℕ) (end : List Bool) : Type 0 where
   pub long : length table ≡ length forest.content
-  pub inside : (m : ℕ) → stands_in m left ≡ true → m < length forest.content
+  pub inside : (m : ℕ) → is_member m left ≡ true → m < length forest.content
   pub all_collected : found ++ collected forest table left ≡ all
   pub rest : set_left forest table left ≡ end
 
 module _ (forest : Forest) (found : List ℕ) (table : List Bool) (left more : List ℕ) (n : ℕ) (all : List ℕ) (end : List Bool) (h : Collected forest found table left all end) (step : left ≡ n ∷ more) where
   pub next_inside : n < length forest.content
-  next_inside = h.inside n (ap (stands_in n) step ∙ ap (λ c. c || stands_in n more) (eq-eqb n n refl))
+  next_inside = h.inside n (ap (is_member n) step ∙ ap (λ c. c || is_member n more) (eq-eqb n n refl))
 
-  later_inside : (m : ℕ) → stands_in m more ≡ true → m < length forest.content
-  later_inside m s = h.inside m (ap (stands_in m) step ∙ or_right (n == m) (stands_in m more) s)
+  later_inside : (m : ℕ) → is_member m more ≡ true → m < length forest.content
+  later_inside m s = h.inside m (ap (is_member m) step ∙ or_right (n == m) (is_member m more) s)
 
   pub collect_it : (b : Bool) → b ≡ (in_set table n && element_at forest n) → b ≡ true → Collected forest (found ++ n ∷ []) (set table n false) more all end
   collect_it b is t =
@@ -161,17 +161,17 @@ module _ (forest : Forest) (found : List ℕ) (table : List Bool) (left more : L
         rest = rw chosen at left_so;
       }
 
-pub walks_inside : (forest : Forest) (roots : List ℕ) → ((n m : ℕ) → stands_in m (walk_below forest n) ≡ true → m < length forest.content) →
-    (m : ℕ) → stands_in m (flat_map (walk_below forest) roots) ≡ true → m < length forest.content
+pub walks_inside : (forest : Forest) (roots : List ℕ) → ((n m : ℕ) → is_member m (descendants_in_order forest n) ≡ true → m < length forest.content) →
+    (m : ℕ) → is_member m (flat_map (descendants_in_order forest) roots) ≡ true → m < length forest.content
 walks_inside forest [] inside m s = absurd (true≢false (sym s))
-walks_inside forest (r ∷ roots) inside m s = elim (cases_Bool (stands_in m (walk_below forest r))) [
+walks_inside forest (r ∷ roots) inside m s = elim (cases_Bool (is_member m (descendants_in_order forest r))) [
   | inl t ↦ inside r m t
-  | inr f ↦ walks_inside forest roots inside m (ap (λ b. b || stands_in m (flat_map (walk_below forest) roots)) (sym f) ∙ (sym (stands_in-append (walk_below forest r) (flat_map (walk_below forest) roots) m) ∙ s))
+  | inr f ↦ walks_inside forest roots inside m (ap (λ b. b || is_member m (flat_map (descendants_in_order forest) roots)) (sym f) ∙ (sym (is_member-append (descendants_in_order forest r) (flat_map (descendants_in_order forest) roots) m) ∙ s))
 ]
 
 -- roots that are left: a root's walk, and the others'
-pub roots_cut : (forest : Forest) (i : ℕ) (roots : List ℕ) (r : ℕ) → i < length roots → r ≡ get_or roots i r → flat_map (walk_below forest) (drop i roots) ≡ walk_below forest r ++ flat_map (walk_below forest) (drop (i + 1) roots)
-roots_cut forest i roots r known is = ap (flat_map (walk_below forest)) (row_cut i roots r known is)
+pub roots_cut : (forest : Forest) (i : ℕ) (roots : List ℕ) (r : ℕ) → i < length roots → r ≡ get_or roots i r → flat_map (descendants_in_order forest) (drop i roots) ≡ descendants_in_order forest r ++ flat_map (descendants_in_order forest) (drop (i + 1) roots)
+roots_cut forest i roots r known is = ap (flat_map (descendants_in_order forest)) (row_cut i roots r known is)
 
 pub root_collected : (forest : Forest) (found new : List ℕ) (table left : List Bool) (walk more : List ℕ) (all : List ℕ) → new ≡ found ++ collected forest table walk → left ≡ set_left forest table walk →
     found ++ collected forest table (walk ++ more) ≡ all → new ++ collected forest left more ≡ all

@@ -5,7 +5,7 @@ use Rattle.std.proofs.Math.Seq.{drop-cons}
 use Rattle.std.proofs.lemmas.List.{take_more}
 use Rattle.std.specs.Prelude.{◌&&◌, ◌||◌, not}
 use Rattle.dom_links.specs.Forest.{Forest}
-use Rattle.dom_select.specs.Meaning.{ListHolds, ListsHold, Means}
+use Rattle.dom_select.specs.Meaning.{ListHolds, ListsHold, MatchesNode}
 use Rattle.dom_selectors.specs.declared.syntax.Combinator.{Combinator}
 use Rattle.dom_selectors.specs.declared.syntax.Nested.{Nested}
 use Rattle.dom_selectors.specs.declared.syntax.Selector.{Selector, out-Selector}
@@ -118,11 +118,11 @@ turned_at false true P e h = λ none. none h
 turned_at true false P e h = h
 turned_at false false P e h = absurd (true≢false (sym e))
 
-pub turned_where : (forest : Forest) (wanted : List Bool) (count : ℕ) (list : SelectorList) (table other : List Bool) → IsSetWithin wanted other count (Means list forest) → IsComplement table other →
+pub turned_where : (forest : Forest) (wanted : List Bool) (count : ℕ) (list : SelectorList) (table other : List Bool) → IsSetWithin wanted other count (MatchesNode list forest) → IsComplement table other →
     IsSetWithin wanted table count (ListHolds (not_list list) forest)
 turned_where forest wanted count list table other answer turned = record {
   long = turned.long ∙ answer.long;
-  each = λ n known here. turned_at _ _ (Means list forest n) (turned.each n (subst (λ (m : ℕ). n < m) (sym answer.long) known)) (answer.each n known here);
+  each = λ n known here. turned_at _ _ (MatchesNode list forest n) (turned.each n (subst (λ (m : ℕ). n < m) (sym answer.long) known)) (answer.each n known here);
 }
 
 -- so many tests were made, and so many more may be

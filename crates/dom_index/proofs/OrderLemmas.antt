@@ -7,13 +7,13 @@ use Rattle.std.specs.Option.{is_none}
 use Rattle.std.proofs.lemmas.Bool.{cases_Bool, cases_lt, eq-eqb, eqb-true, or_cases, or_right}
 use Rattle.dom_links.specs.Forest.{Forest, children_of, parent, run_of, siblings}
 use Rattle.dom_links.specs.Laws.{AreLines, AreTrees}
-use Rattle.dom_links.specs.Lists.{stands_in, IsDistinct, after, before, first}
+use Rattle.dom_links.specs.Lists.{is_member, IsDistinct, after, before, first}
 use Rattle.dom_links.specs.Sound.{IsForest}
-use Rattle.dom_links.specs.Trees.{ancestors, trees, walk, walk_below}
+use Rattle.dom_links.specs.Trees.{ancestors, trees, walk, descendants_in_order}
 use Rattle.dom_links.specs.Walk.{IsWithin, later, rest_after, row_on}
 use Rattle.dom_links.proofs.walks.Apart.{Under, compared, parted, walk_apart, walk_under, under_inside}
 use Rattle.dom_links.proofs.forest.Depth.{parent_inside}
-use Rattle.dom_links.proofs.forest.Neighbours.{before_here, distinct-append, stands_in-append}
+use Rattle.dom_links.proofs.forest.Neighbours.{before_here, distinct-append, is_member-append}
 use Rattle.dom_links.proofs.forest.Places.{cases_Option, siblings_child, siblings_run}
 use Rattle.dom_links.proofs.walks.SiblingWalks.{beside_itself, is_first}
 use Rattle.dom_links.proofs.forest.Places.{Beside, siblings_once}
@@ -25,7 +25,7 @@ use Rattle.dom_index.proofs.PlaceLemmas.{IsBehind, all_counted, number_after, be
 use Rattle.dom_index.specs.Preorder.{preorder, preorder_to, starts_run, walk_from}
 
 module _ (forest : Forest) (good : IsForest forest) (lines : AreLines forest) (laws : AreTrees forest) where
-  pub from_is : (n : ℕ) → n < length forest.content → walk_from forest n ≡ n ∷ (walk_below forest n ++ walk (trees forest (later forest false n)))
+  pub from_is : (n : ℕ) → n < length forest.content → walk_from forest n ≡ n ∷ (descendants_in_order forest n ++ walk (trees forest (later forest false n)))
   from_is n known = ap walk (lines.row_trees n known)
 
   -- x, what is below it, and what is at and below its later siblings, in one piece
@@ -46,51 +46,51 @@ module _ (forest : Forest) (good : IsForest forest) (lines : AreLines forest) (l
   abbrev pub row : Option ℕ → List ℕ
   row o = walk (trees forest (row_on forest false o))
 
-  in_none : (x : ℕ) → stands_in x (row None) ≡ true → ⊥
-  in_none x s = true≢false (sym s ∙ ap (λ t. stands_in x (walk t)) laws.no_trees)
+  in_none : (x : ℕ) → is_member x (row None) ≡ true → ⊥
+  in_none x s = true≢false (sym s ∙ ap (λ t. is_member x (walk t)) laws.no_trees)
 
-  children_row : (n : ℕ) → walk_below forest n ≡ row (first (children_of forest n))
+  children_row : (n : ℕ) → descendants_in_order forest n ≡ row (first (children_of forest n))
   children_row n = ap (λ ns. walk (trees forest ns)) (lines.below false n)
 
   later_row : (n : ℕ) → walk (trees forest (later forest false n)) ≡ row (after (siblings forest n) n)
   later_row n = ap (λ ns. walk (trees forest ns)) (lines.beside false n)
 
-  pub cut_in : (most : ℕ) (o : Option ℕ) (x : ℕ) → length (row o) ≤ most → IsWithin forest o → stands_in x (row o) ≡ true → Cut x (row o)
+  pub cut_in : (most : ℕ) (o : Option ℕ) (x : ℕ) → length (row o) ≤ most → IsWithin forest o → is_member x (row o) ≡ true → Cut x (row o)
   cut_in most None x few known s = absurd (in_none x s)
   cut_in zero (Some n) x few known s = let long = ap length (from_is n known) in absurd (omega arith)
   cut_in (suc most) (Some n) x few known s =
       let is = from_is n known in
       let rest = walk (trees forest (later forest false n)) in
-      let long = ap length is ∙ ap suc (length-append (walk_below forest n) rest) in
-      elim (or_cases (n == x) (stands_in x (walk_below forest n ++ rest)) (sym (ap (stands_in x) is) ∙ s)) [
+      let long = ap length is ∙ ap suc (length-append (descendants_in_order forest n) rest) in
+      elim (or_cases (n == x) (is_member x (descendants_in_order forest n ++ rest)) (sym (ap (is_member x) is) ∙ s)) [
         | inl here ↦ (let e = eqb-true n x here in record { front = []; back = []; is = ap (walk_from forest) e ∙ sym (append-nil (walk_from forest x)) })
-        | inr there ↦ elim (or_cases (stands_in x (walk_below forest n)) (stands_in x rest) (sym (stands_in-append (walk_below forest n) rest x) ∙ there)) [
+        | inr there ↦ elim (or_cases (is_member x (descendants_in_order forest n)) (is_member x rest) (sym (is_member-append (descendants_in_order forest n) rest x) ∙ there)) [
           | inl below ↦ (let children = children_row n in
               let same = ap length children in
-              let c = cut_in most (first (children_of forest n)) x (omega arith) (lines.below_known false n) (sym (ap (stands_in x) children) ∙ below) in
-              subst (Cut x) (sym is) (lifted x (n ∷ []) rest (walk_below forest n) (subst (Cut x) (sym children) c)))
+              let c = cut_in most (first (children_of forest n)) x (omega arith) (lines.below_known false n) (sym (ap (is_member x) children) ∙ below) in
+              subst (Cut x) (sym is) (lifted x (n ∷ []) rest (descendants_in_order forest n) (subst (Cut x) (sym children) c)))
           | inr beside ↦ (let next = later_row n in
               let same = ap length next in
-              let c = cut_in most (after (siblings forest n) n) x (omega arith) (lines.beside_known false n) (sym (ap (stands_in x) next) ∙ beside) in
-              let lift = lifted x (n ∷ walk_below forest n) [] rest (subst (Cut x) (sym next) c) in
-              subst (Cut x) (ap (λ ms. n ∷ (walk_below forest n ++ ms)) (append-nil rest) ∙ sym is) lift)
+              let c = cut_in most (after (siblings forest n) n) x (omega arith) (lines.beside_known false n) (sym (ap (is_member x) next) ∙ beside) in
+              let lift = lifted x (n ∷ descendants_in_order forest n) [] rest (subst (Cut x) (sym next) c) in
+              subst (Cut x) (ap (λ ms. n ∷ (descendants_in_order forest n ++ ms)) (append-nil rest) ∙ sym is) lift)
         ]
       ]
 
-  roots_in : (ns : List ℕ) (x : ℕ) → ((m : ℕ) → stands_in m ns ≡ true → m < length forest.content) → stands_in x ns ≡ true → stands_in x (walk (trees forest ns)) ≡ true
+  roots_in : (ns : List ℕ) (x : ℕ) → ((m : ℕ) → is_member m ns ≡ true → m < length forest.content) → is_member x ns ≡ true → is_member x (walk (trees forest ns)) ≡ true
   roots_in [] x known s = absurd (true≢false (sym s))
   roots_in (n ∷ ns) x known s =
-      let is : walk (trees forest (n ∷ ns)) ≡ n ∷ (walk_below forest n ++ walk (trees forest ns)) = ap walk (laws.a_tree n ns known) in
-      ap (stands_in x) is ∙ (elim (or_cases (n == x) (stands_in x ns) s) [
-        | inl here ↦ ap (λ b. b || stands_in x (walk_below forest n ++ walk (trees forest ns))) here
-        | inr there ↦ or_right (n == x) _ (stands_in-append (walk_below forest n) (walk (trees forest ns)) x
-            ∙ or_right (stands_in x (walk_below forest n)) _ (roots_in ns x (λ m t. known m (or_right (n == m) (stands_in m ns) t)) there))
+      let is : walk (trees forest (n ∷ ns)) ≡ n ∷ (descendants_in_order forest n ++ walk (trees forest ns)) = ap walk (laws.a_tree n ns known) in
+      ap (is_member x) is ∙ (elim (or_cases (n == x) (is_member x ns) s) [
+        | inl here ↦ ap (λ b. b || is_member x (descendants_in_order forest n ++ walk (trees forest ns))) here
+        | inr there ↦ or_right (n == x) _ (is_member-append (descendants_in_order forest n) (walk (trees forest ns)) x
+            ∙ or_right (is_member x (descendants_in_order forest n)) _ (roots_in ns x (λ m t. known m (or_right (n == m) (is_member m ns) t)) there))
       ])
 
   -- a child is below its parent
-  child_below : (x p : ℕ) → x < length forest.content → parent forest x ≡ Some p → stands_in x (walk_below forest p) ≡ true
+  child_below : (x p : ℕ) → x < length forest.content → parent forest x ≡ Some p → is_member x (descendants_in_order forest p) ≡ true
   child_below x p known up =
-      roots_in (children_of forest p) x (λ m s. (good.once.in_children p m s).0) (sym (ap (stands_in x) (siblings_child forest x p up)) ∙ good.once.placed x known)
+      roots_in (children_of forest p) x (λ m s. (good.once.in_children p m s).0) (sym (ap (is_member x) (siblings_child forest x p up)) ∙ good.once.placed x known)
 
   -- the first node of a run has the run's walk
   pub record Starts (n : ℕ) : Type 0 where
@@ -122,16 +122,16 @@ module _ (forest : Forest) (good : IsForest forest) (lines : AreLines forest) (l
   run_walk : (n : ℕ) → Starts n → walk_from forest n ≡ walk (trees forest (run_of forest n))
   run_walk n st = ap (λ ns. walk (trees forest ns)) st.run
 
-  tops : (n m : ℕ) → stands_in m (run_of forest n) ≡ true → parent forest m ≡ None
+  tops : (n m : ℕ) → is_member m (run_of forest n) ≡ true → parent forest m ≡ None
   tops n m s = (good.once.in_run n m s).1
 
   run_once : (n : ℕ) → Starts n → IsDistinct (walk_from forest n)
   unfolding trees
   run_once n st = subst IsDistinct (sym (run_walk n st)) (walk_apart forest (length forest.content) (run_of forest n) None good (good.once.run_once n) (tops n))
 
-  run_under : (n x : ℕ) → Starts n → stands_in x (walk_from forest n) ≡ true → (a : ℕ) × (stands_in a (run_of forest n) ≡ true) × Under forest a x
+  run_under : (n x : ℕ) → Starts n → is_member x (walk_from forest n) ≡ true → (a : ℕ) × (is_member a (run_of forest n) ≡ true) × Under forest a x
   unfolding trees
-  run_under n x st s = walk_under forest (length forest.content) (run_of forest n) x good (sym (ap (stands_in x) (run_walk n st)) ∙ s)
+  run_under n x st s = walk_under forest (length forest.content) (run_of forest n) x good (sym (ap (is_member x) (run_walk n st)) ∙ s)
 
   top_same : (a b : ℕ) → Under forest a b → parent forest b ≡ None → a ≡ b
   top_same a b way top = elim (parted forest a b way) [
@@ -140,7 +140,7 @@ module _ (forest : Forest) (good : IsForest forest) (lines : AreLines forest) (l
   ]
 
   -- the walks of two runs have no node in common
-  runs_apart : (n m x : ℕ) → Starts n → Starts m → stands_in x (walk_from forest n) ≡ true → stands_in x (walk_from forest m) ≡ true → n ≡ m
+  runs_apart : (n m x : ℕ) → Starts n → Starts m → is_member x (walk_from forest n) ≡ true → is_member x (walk_from forest m) ≡ true → n ≡ m
   runs_apart n m x one other s t =
       let a = run_under n x one s in
       let b = run_under m x other t in
@@ -157,7 +157,7 @@ module _ (forest : Forest) (good : IsForest forest) (lines : AreLines forest) (l
     from : ℕ
     known : from < length forest.content
     starts_it : starts_run forest from ≡ true
-    stands : stands_in x (walk_from forest from) ≡ true
+    stands : is_member x (walk_from forest from) ≡ true
 
   first_starts : (r : ℕ) (ms : List ℕ) → parent forest r ≡ None → run_of forest r ≡ r ∷ ms → starts_run forest r ≡ true
   first_starts r ms top run =
@@ -170,29 +170,29 @@ module _ (forest : Forest) (good : IsForest forest) (lines : AreLines forest) (l
   top_in_run x known top = go (run_of forest x) refl
     where
       go : (ns : List ℕ) → run_of forest x ≡ ns → InRun x
-      go [] e = absurd (true≢false (sym (sym (ap (stands_in x) (siblings_run forest x top ∙ e)) ∙ good.once.placed x known)))
+      go [] e = absurd (true≢false (sym (sym (ap (is_member x) (siblings_run forest x top ∙ e)) ∙ good.once.placed x known)))
       go (r ∷ ms) e =
-          let first_in : stands_in r (run_of forest x) ≡ true = ap (stands_in r) e ∙ ap (λ b. b || stands_in r ms) (eq-eqb r r refl) in
+          let first_in : is_member r (run_of forest x) ≡ true = ap (is_member r) e ∙ ap (λ b. b || is_member r ms) (eq-eqb r r refl) in
           let facts = good.once.in_run x r first_in in
           let run : run_of forest r ≡ r ∷ ms = facts.2 ∙ e in
           let starts_r = first_starts r ms facts.1 run in
           let same : walk_from forest r ≡ walk (trees forest (run_of forest r)) = run_walk r (starts r facts.0 starts_r) in
-          let there : stands_in x (run_of forest r) ≡ true = ap (stands_in x) (facts.2 ∙ sym (siblings_run forest x top)) ∙ good.once.placed x known in
+          let there : is_member x (run_of forest r) ≡ true = ap (is_member x) (facts.2 ∙ sym (siblings_run forest x top)) ∙ good.once.placed x known in
           record {
             from = r;
             known = facts.0;
             starts_it = starts_r;
-            stands = ap (stands_in x) same ∙ roots_in (run_of forest r) x (λ m s. (good.once.in_run r m s).0) there;
+            stands = ap (is_member x) same ∙ roots_in (run_of forest r) x (λ m s. (good.once.in_run r m s).0) there;
           }
 
-  in_cut : (x y : ℕ) (ns : List ℕ) → Cut x ns → stands_in y (walk_from forest x) ≡ true → stands_in y ns ≡ true
+  in_cut : (x y : ℕ) (ns : List ℕ) → Cut x ns → is_member y (walk_from forest x) ≡ true → is_member y ns ≡ true
   in_cut x y ns c s =
-      ap (stands_in y) c.is ∙ (stands_in-append c.front (walk_from forest x ++ c.back) y ∙ or_right (stands_in y c.front) _
-      (stands_in-append (walk_from forest x) c.back y ∙ ap (λ b. b || stands_in y c.back) s))
+      ap (is_member y) c.is ∙ (is_member-append c.front (walk_from forest x ++ c.back) y ∙ or_right (is_member y c.front) _
+      (is_member-append (walk_from forest x) c.back y ∙ ap (λ b. b || is_member y c.back) s))
 
-  below_from : (x y : ℕ) → x < length forest.content → stands_in y (walk_below forest x) ≡ true → stands_in y (walk_from forest x) ≡ true
+  below_from : (x y : ℕ) → x < length forest.content → is_member y (descendants_in_order forest x) ≡ true → is_member y (walk_from forest x) ≡ true
   below_from x y known s =
-      ap (stands_in y) (from_is x known) ∙ or_right (x == y) _ (stands_in-append (walk_below forest x) (walk (trees forest (later forest false x))) y ∙ ap (λ b. b || stands_in y (walk (trees forest (later forest false x)))) s)
+      ap (is_member y) (from_is x known) ∙ or_right (x == y) _ (is_member-append (descendants_in_order forest x) (walk (trees forest (later forest false x))) y ∙ ap (λ b. b || is_member y (walk (trees forest (later forest false x)))) s)
 
   pub all_in_runs : (most : ℕ) (x : ℕ) → x < length forest.content → length (ancestors forest x) ≤ most → InRun x
   all_in_runs zero x known few = elim (cases_Option (parent forest x)) [
@@ -214,13 +214,13 @@ module _ (forest : Forest) (good : IsForest forest) (lines : AreLines forest) (l
         })
   ]
 
-  in_preorder : (c x : ℕ) → c ≤ length forest.content → stands_in x (preorder_to forest c) ≡ true → (n : ℕ) × (n < c) × (starts_run forest n ≡ true) × (stands_in x (walk_from forest n) ≡ true)
+  in_preorder : (c x : ℕ) → c ≤ length forest.content → is_member x (preorder_to forest c) ≡ true → (n : ℕ) × (n < c) × (starts_run forest n ≡ true) × (is_member x (walk_from forest n) ≡ true)
   in_preorder zero x le s = absurd (true≢false (sym s))
-  in_preorder (suc c) x le s = go (starts_run forest c) refl (or_cases (stands_in x (preorder_to forest c)) _ (sym (stands_in-append (preorder_to forest c) (cond (starts_run forest c) (walk_from forest c) []) x) ∙ s)) (λ t. in_preorder c x (omega arith) t)
+  in_preorder (suc c) x le s = go (starts_run forest c) refl (or_cases (is_member x (preorder_to forest c)) _ (sym (is_member-append (preorder_to forest c) (cond (starts_run forest c) (walk_from forest c) []) x) ∙ s)) (λ t. in_preorder c x (omega arith) t)
     where
-      go : (b : Bool) → starts_run forest c ≡ b → (stands_in x (preorder_to forest c) ≡ true) ⊎ (stands_in x (cond (starts_run forest c) (walk_from forest c) []) ≡ true) →
-          (stands_in x (preorder_to forest c) ≡ true → (n : ℕ) × (n < c) × (starts_run forest n ≡ true) × (stands_in x (walk_from forest n) ≡ true)) →
-          (n : ℕ) × (n < suc c) × (starts_run forest n ≡ true) × (stands_in x (walk_from forest n) ≡ true)
+      go : (b : Bool) → starts_run forest c ≡ b → (is_member x (preorder_to forest c) ≡ true) ⊎ (is_member x (cond (starts_run forest c) (walk_from forest c) []) ≡ true) →
+          (is_member x (preorder_to forest c) ≡ true → (n : ℕ) × (n < c) × (starts_run forest n ≡ true) × (is_member x (walk_from forest n) ≡ true)) →
+          (n : ℕ) × (n < suc c) × (starts_run forest n ≡ true) × (is_member x (walk_from forest n) ≡ true)
       go b e (inl t) next = let h = next t in (h.0, (let less = h.1 in omega arith), h.2, h.3)
       go true e (inr t) next = (c, omega arith, e, rw e at t)
       go false e (inr t) next = let none : false ≡ true = rw e at t in absurd (true≢false (sym none))
@@ -235,14 +235,14 @@ module _ (forest : Forest) (good : IsForest forest) (lines : AreLines forest) (l
       one true e known = run_once c (starts c known e)
       one false e known = tt
 
-      apart : (x : ℕ) → c < length forest.content → (b : Bool) → starts_run forest c ≡ b → (n : ℕ) × (n < c) × (starts_run forest n ≡ true) × (stands_in x (walk_from forest n) ≡ true) → stands_in x (cond b (walk_from forest c) []) ≡ false
+      apart : (x : ℕ) → c < length forest.content → (b : Bool) → starts_run forest c ≡ b → (n : ℕ) × (n < c) × (starts_run forest n ≡ true) × (is_member x (walk_from forest n) ≡ true) → is_member x (cond b (walk_from forest c) []) ≡ false
       apart x known false e h = refl
-      apart x known true e h = elim (cases_Bool (stands_in x (walk_from forest c))) [
+      apart x known true e h = elim (cases_Bool (is_member x (walk_from forest c))) [
         | inr f ↦ f
         | inl t ↦ (let less = h.1 in let same : h.0 ≡ c = runs_apart h.0 c x (starts h.0 (omega arith) h.2) (starts c known e) h.3 t in absurd (omega arith))
       ]
 
-  pub preorder_inside : (c x : ℕ) → c ≤ length forest.content → stands_in x (preorder_to forest c) ≡ true → x < length forest.content
+  pub preorder_inside : (c x : ℕ) → c ≤ length forest.content → is_member x (preorder_to forest c) ≡ true → x < length forest.content
   preorder_inside c x le s =
       let h = in_preorder c x le s in
       let less = h.1 in
@@ -251,54 +251,54 @@ module _ (forest : Forest) (good : IsForest forest) (lines : AreLines forest) (l
       under_inside forest a.0 x good (good.once.in_run h.0 a.0 a.1).0 a.2
 
   -- a node in the walks of earlier runs starts none
-  pub met_starts_none : (n : ℕ) → n < length forest.content → stands_in n (preorder_to forest n) ≡ true → starts_run forest n ≡ false
+  pub met_starts_none : (n : ℕ) → n < length forest.content → is_member n (preorder_to forest n) ≡ true → starts_run forest n ≡ false
   met_starts_none n known s = elim (cases_Bool (starts_run forest n)) [
     | inl t ↦ (let h = in_preorder n n (omega arith) s in
         let less = h.1 in
-        let here : stands_in n (walk_from forest n) ≡ true = ap (stands_in n) (from_is n known) ∙ ap (λ b. b || stands_in n (walk_below forest n ++ walk (trees forest (later forest false n)))) (eq-eqb n n refl) in
+        let here : is_member n (walk_from forest n) ≡ true = ap (is_member n) (from_is n known) ∙ ap (λ b. b || is_member n (descendants_in_order forest n ++ walk (trees forest (later forest false n)))) (eq-eqb n n refl) in
         let same : h.0 ≡ n = runs_apart h.0 n n (starts h.0 (omega arith) h.2) (starts n known t) h.3 here in
         absurd (omega arith))
     | inr f ↦ f
   ]
 
-  run_in_preorder : (c n x : ℕ) → n < c → starts_run forest n ≡ true → stands_in x (walk_from forest n) ≡ true → stands_in x (preorder_to forest c) ≡ true
+  run_in_preorder : (c n x : ℕ) → n < c → starts_run forest n ≡ true → is_member x (walk_from forest n) ≡ true → is_member x (preorder_to forest c) ≡ true
   run_in_preorder zero n x less st s = absurd (omega arith)
-  run_in_preorder (suc c) n x less st s = stands_in-append (preorder_to forest c) (cond (starts_run forest c) (walk_from forest c) []) x ∙ (elim (cases_lt n c) [
-    | inl farther ↦ ap (λ b. b || stands_in x (cond (starts_run forest c) (walk_from forest c) [])) (run_in_preorder c n x farther st s)
+  run_in_preorder (suc c) n x less st s = is_member-append (preorder_to forest c) (cond (starts_run forest c) (walk_from forest c) []) x ∙ (elim (cases_lt n c) [
+    | inl farther ↦ ap (λ b. b || is_member x (cond (starts_run forest c) (walk_from forest c) [])) (run_in_preorder c n x farther st s)
     | inr not_farther ↦ (let same : n ≡ c = omega arith in
-        let there : stands_in x (cond (starts_run forest c) (walk_from forest c) []) ≡ true = rw (ap (starts_run forest) (sym same) ∙ st) (ap (λ m. stands_in x (walk_from forest m)) (sym same) ∙ s) in
-        or_right (stands_in x (preorder_to forest c)) _ there)
+        let there : is_member x (cond (starts_run forest c) (walk_from forest c) []) ≡ true = rw (ap (starts_run forest) (sym same) ∙ st) (ap (λ m. is_member x (walk_from forest m)) (sym same) ∙ s) in
+        or_right (is_member x (preorder_to forest c)) _ there)
   ])
 
-  pub cut_preorder : (c x : ℕ) → c ≤ length forest.content → stands_in x (preorder_to forest c) ≡ true → Cut x (preorder_to forest c)
+  pub cut_preorder : (c x : ℕ) → c ≤ length forest.content → is_member x (preorder_to forest c) ≡ true → Cut x (preorder_to forest c)
   cut_preorder zero x le s = absurd (true≢false (sym s))
-  cut_preorder (suc c) x le s = go (starts_run forest c) refl (or_cases (stands_in x (preorder_to forest c)) _ (sym (stands_in-append (preorder_to forest c) (cond (starts_run forest c) (walk_from forest c) []) x) ∙ s)) (λ t. cut_preorder c x (omega arith) t)
+  cut_preorder (suc c) x le s = go (starts_run forest c) refl (or_cases (is_member x (preorder_to forest c)) _ (sym (is_member-append (preorder_to forest c) (cond (starts_run forest c) (walk_from forest c) []) x) ∙ s)) (λ t. cut_preorder c x (omega arith) t)
     where
-      go : (b : Bool) → starts_run forest c ≡ b → (stands_in x (preorder_to forest c) ≡ true) ⊎ (stands_in x (cond (starts_run forest c) (walk_from forest c) []) ≡ true) →
-          (stands_in x (preorder_to forest c) ≡ true → Cut x (preorder_to forest c)) → Cut x (preorder_to forest (suc c))
+      go : (b : Bool) → starts_run forest c ≡ b → (is_member x (preorder_to forest c) ≡ true) ⊎ (is_member x (cond (starts_run forest c) (walk_from forest c) []) ≡ true) →
+          (is_member x (preorder_to forest c) ≡ true → Cut x (preorder_to forest c)) → Cut x (preorder_to forest (suc c))
       go b e (inl t) next = lifted x [] (cond (starts_run forest c) (walk_from forest c) []) (preorder_to forest c) (next t)
       go true e (inr t) next =
-          let there : stands_in x (walk_from forest c) ≡ true = rw e at t in
+          let there : is_member x (walk_from forest c) ≡ true = rw e at t in
           let cut = cut_in (length (walk_from forest c)) (Some c) x (omega arith) (omega arith) there in
           let more = lifted x (preorder_to forest c) [] (walk_from forest c) cut in
           subst (λ ns. Cut x (preorder_to forest c ++ ns)) (append-nil (walk_from forest c) ∙ sym (ap (λ b. cond b (walk_from forest c) []) e)) more
       go false e (inr t) next = let none : false ≡ true = rw e at t in absurd (true≢false (sym none))
 
-  pub preorder_all : (x : ℕ) → x < length forest.content → stands_in x (preorder forest) ≡ true
+  pub preorder_all : (x : ℕ) → x < length forest.content → is_member x (preorder forest) ≡ true
   preorder_all x known =
       let h = all_in_runs (length (ancestors forest x)) x known (omega arith) in
       run_in_preorder (length forest.content) h.from x h.known h.starts_it h.stands
 
   -- who follows x in its walk stands behind it
-  behind_it : (x y : ℕ) → x < length forest.content → stands_in y (walk_below forest x ++ walk (trees forest (later forest false x))) ≡ true → IsBehind (preorder forest) x y
+  behind_it : (x y : ℕ) → x < length forest.content → is_member y (descendants_in_order forest x ++ walk (trees forest (later forest false x))) ≡ true → IsBehind (preorder forest) x y
   behind_it x y known s =
-      let rest = walk_below forest x ++ walk (trees forest (later forest false x)) in
+      let rest = descendants_in_order forest x ++ walk (trees forest (later forest false x)) in
       let c = cut_preorder (length forest.content) x (omega arith) (preorder_all x known) in
-      behind_in (preorder forest) c.front (rest ++ c.back) x y (c.is ∙ ap (λ ns. c.front ++ (ns ++ c.back)) (from_is x known)) (stands_in-append rest c.back y ∙ ap (λ b. b || stands_in y c.back) s)
+      behind_in (preorder forest) c.front (rest ++ c.back) x y (c.is ∙ ap (λ ns. c.front ++ (ns ++ c.back)) (from_is x known)) (is_member-append rest c.back y ∙ ap (λ b. b || is_member y c.back) s)
 
   child_behind : (n p : ℕ) → n < length forest.content → parent forest n ≡ Some p → IsBehind (preorder forest) p n
   child_behind n p known up =
-      behind_it p n (parent_inside forest n p good up) (stands_in-append (walk_below forest p) (walk (trees forest (later forest false p))) n ∙ ap (λ b. b || stands_in n (walk (trees forest (later forest false p)))) (child_below n p known up))
+      behind_it p n (parent_inside forest n p good up) (is_member-append (descendants_in_order forest p) (walk (trees forest (later forest false p))) n ∙ ap (λ b. b || is_member n (walk (trees forest (later forest false p)))) (child_below n p known up))
 
   sibling_behind : (n m : ℕ) → n < length forest.content → before (siblings forest n) n ≡ Some m → (m < length forest.content) × IsBehind (preorder forest) m n
   sibling_behind n m known link =
@@ -307,8 +307,8 @@ module _ (forest : Forest) (good : IsForest forest) (lines : AreLines forest) (l
       let m_known = Beside.known there in
       let next : after (siblings forest m) m ≡ Some n = ap (λ ns. after ns m) (Beside.same_siblings there) ∙ after_before (siblings forest n) n m (siblings_once forest n good.once) (good.once.placed n known) link in
       let later_is : walk (trees forest (later forest false m)) ≡ walk_from forest n = later_row m ∙ ap row next in
-      let here : stands_in n (walk_from forest n) ≡ true = ap (stands_in n) (from_is n known) ∙ ap (λ b. b || stands_in n (walk_below forest n ++ walk (trees forest (later forest false n)))) (eq-eqb n n refl) in
-      (m_known, behind_it m n m_known (stands_in-append (walk_below forest m) (walk (trees forest (later forest false m))) n ∙ or_right (stands_in n (walk_below forest m)) _ (ap (stands_in n) later_is ∙ here)))
+      let here : is_member n (walk_from forest n) ≡ true = ap (is_member n) (from_is n known) ∙ ap (λ b. b || is_member n (descendants_in_order forest n ++ walk (trees forest (later forest false n)))) (eq-eqb n n refl) in
+      (m_known, behind_it m n m_known (is_member-append (descendants_in_order forest m) (walk (trees forest (later forest false m))) n ∙ or_right (is_member n (descendants_in_order forest m)) _ (ap (is_member n) later_is ∙ here)))
 
   -- the order, with the places that were written
   module _ (places : List ℕ) (placed : (i : ℕ) → i < length forest.content → number_at places (number_at (preorder forest) i) ≡ i) (long : length places ≡ length forest.content) where
@@ -364,35 +364,35 @@ module _ (forest : Forest) (good : IsForest forest) (lines : AreLines forest) (l
     pub record Spanned (x : ℕ) : Type 0 where
       front : List ℕ
       back : List ℕ
-      is : preorder forest ≡ front ++ x ∷ (walk_below forest x ++ back)
+      is : preorder forest ≡ front ++ x ∷ (descendants_in_order forest x ++ back)
       at : number_at places x ≡ length front
 
     spanned : (x : ℕ) → x < length forest.content → Spanned x
     spanned x known =
         let c = cut_preorder forest good lines laws (length forest.content) x (omega arith) (preorder_all forest good lines laws x known) in
         let rest = walk (trees forest (later forest false x)) in
-        let is : preorder forest ≡ c.front ++ x ∷ (walk_below forest x ++ (rest ++ c.back)) =
-        c.is ∙ (ap (λ ns. c.front ++ (ns ++ c.back)) (from_is forest good lines laws x known) ∙ ap (λ ns. c.front ++ x ∷ ns) (append_assoc (walk_below forest x) rest c.back)) in
-        record { front = c.front; back = rest ++ c.back; is = is; at = place_is x c.front (walk_below forest x ++ (rest ++ c.back)) known is }
+        let is : preorder forest ≡ c.front ++ x ∷ (descendants_in_order forest x ++ (rest ++ c.back)) =
+        c.is ∙ (ap (λ ns. c.front ++ (ns ++ c.back)) (from_is forest good lines laws x known) ∙ ap (λ ns. c.front ++ x ∷ ns) (append_assoc (descendants_in_order forest x) rest c.back)) in
+        record { front = c.front; back = rest ++ c.back; is = is; at = place_is x c.front (descendants_in_order forest x ++ (rest ++ c.back)) known is }
 
-    span_fits : (n : ℕ) → n < length forest.content → number_at places n + length (walk_below forest n) < length forest.content
+    span_fits : (n : ℕ) → n < length forest.content → number_at places n + length (descendants_in_order forest n) < length forest.content
     span_fits n known =
         let s = spanned n known in
-        let long = ap length s.is ∙ (length-append s.front (n ∷ (walk_below forest n ++ s.back)) ∙ ap (λ m. length s.front + suc m) (length-append (walk_below forest n) s.back)) in
+        let long = ap length s.is ∙ (length-append s.front (n ∷ (descendants_in_order forest n ++ s.back)) ∙ ap (λ m. length s.front + suc m) (length-append (descendants_in_order forest n) s.back)) in
         let all = order.long in
         let at = s.at in
         omega arith
 
-    span_below : (n last : ℕ) → n < length forest.content → last ≡ number_at places n + length (walk_below forest n) → slice_range (preorder forest) (number_at places n + 1) (last + 1) ≡ walk_below forest n
+    span_below : (n last : ℕ) → n < length forest.content → last ≡ number_at places n + length (descendants_in_order forest n) → slice_range (preorder forest) (number_at places n + 1) (last + 1) ≡ descendants_in_order forest n
     span_below n last known e =
         let s = spanned n known in
         let at = s.at in
-        let wide : (last + 1) - (number_at places n + 1) ≡ length (walk_below forest n) = omega arith in
+        let wide : (last + 1) - (number_at places n + 1) ≡ length (descendants_in_order forest n) = omega arith in
         let from : number_at places n + 1 ≡ suc (length s.front) = omega arith in
-        ap (λ a. take a (drop (number_at places n + 1) (preorder forest))) wide ∙ (ap (λ b. take (length (walk_below forest n)) (drop b (preorder forest))) from
-        ∙ (ap (λ ns. take (length (walk_below forest n)) (drop (suc (length s.front)) ns)) s.is ∙ cut_range s.front (walk_below forest n) s.back n))
+        ap (λ a. take a (drop (number_at places n + 1) (preorder forest))) wide ∙ (ap (λ b. take (length (descendants_in_order forest n)) (drop b (preorder forest))) from
+        ∙ (ap (λ ns. take (length (descendants_in_order forest n)) (drop (suc (length s.front)) ns)) s.is ∙ cut_range s.front (descendants_in_order forest n) s.back n))
 
-    pub are_spans : (subtree_ends : List ℕ) → length subtree_ends ≡ length forest.content → ((n : ℕ) → n < length forest.content → number_at subtree_ends n ≡ number_at places n + length (walk_below forest n)) → AreSpans forest (preorder forest) places subtree_ends
+    pub are_spans : (subtree_ends : List ℕ) → length subtree_ends ≡ length forest.content → ((n : ℕ) → n < length forest.content → number_at subtree_ends n ≡ number_at places n + length (descendants_in_order forest n)) → AreSpans forest (preorder forest) places subtree_ends
     are_spans subtree_ends long answer = record {
       long = long;
       last = answer;
@@ -402,15 +402,15 @@ module _ (forest : Forest) (good : IsForest forest) (lines : AreLines forest) (l
 
 -- who is below a node, by the places
 module _ (forest : Forest) (order places subtree_ends : List ℕ) (good : IsOrder forest order places) (spans : AreSpans forest order places subtree_ends) (x y : ℕ) (x_known : x < length forest.content) where
-  at_span : (i : ℕ) → i < length (walk_below forest x) → number_at (walk_below forest x) i ≡ number_at order (number_at places x + 1 + i)
+  at_span : (i : ℕ) → i < length (descendants_in_order forest x) → number_at (descendants_in_order forest x) i ≡ number_at order (number_at places x + 1 + i)
   at_span i inside =
       let last = spans.last x x_known in
       ap (λ ns. number_at ns i) (sym (spans.below x x_known)) ∙ (get_or-take ((number_at subtree_ends x + 1) - (number_at places x + 1)) (drop (number_at places x + 1) order) i 0 (omega arith)
       ∙ get_or-drop (number_at places x + 1) order i 0)
 
-  pub below_within : stands_in y (walk_below forest x) ≡ true → (y < length forest.content) × (number_at places x < number_at places y) × (number_at places y ≤ number_at subtree_ends x)
+  pub below_within : is_member y (descendants_in_order forest x) ≡ true → (y < length forest.content) × (number_at places x < number_at places y) × (number_at places y ≤ number_at subtree_ends x)
   below_within s =
-      let p = found_at y (walk_below forest x) s in
+      let p = found_at y (descendants_in_order forest x) s in
       let inside = p.1 in
       let last = spans.last x x_known in
       let fits = spans.fits x x_known in
@@ -420,11 +420,11 @@ module _ (forest : Forest) (order places subtree_ends : List ℕ) (good : IsOrde
       let place : number_at places y ≡ at = ap (number_at places) (sym is) ∙ good.placed at known in
       (subst (λ (j : ℕ). j < length forest.content) is (good.known at known), omega arith, omega arith)
 
-  pub within_below : y < length forest.content → number_at places x < number_at places y → number_at places y ≤ number_at subtree_ends x → stands_in y (walk_below forest x) ≡ true
+  pub within_below : y < length forest.content → number_at places x < number_at places y → number_at places y ≤ number_at subtree_ends x → is_member y (descendants_in_order forest x) ≡ true
   within_below y_known after upto =
       let last = spans.last x x_known in
       let i = number_at places y - (number_at places x + 1) in
-      let inside : i < length (walk_below forest x) = omega arith in
+      let inside : i < length (descendants_in_order forest x) = omega arith in
       let back : number_at places x + 1 + i ≡ number_at places y = omega arith in
-      let is : number_at (walk_below forest x) i ≡ y = at_span i inside ∙ (ap (number_at order) back ∙ good.ordered y y_known) in
-      subst (λ j. stands_in j (walk_below forest x) ≡ true) is (in_place (walk_below forest x) i inside)
+      let is : number_at (descendants_in_order forest x) i ≡ y = at_span i inside ∙ (ap (number_at order) back ∙ good.ordered y y_known) in
+      subst (λ j. is_member j (descendants_in_order forest x) ≡ true) is (in_place (descendants_in_order forest x) i inside)

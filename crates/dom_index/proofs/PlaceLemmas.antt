@@ -4,7 +4,7 @@ use Rattle.std.specs.Prelude.{◌==◌, ◌||◌}
 use Rattle.std.proofs.lemmas.Bool.{cases_Bool, cases_lt, eq-eqb, eqb-true, or_cases, or_right}
 use Rattle.std.proofs.lemmas.List.{get_or-set_same, get_or-set_other, get_or_read}
 use Rattle.dom_links.specs.Forest.{Forest}
-use Rattle.dom_links.specs.Lists.{stands_in, IsDistinct}
+use Rattle.dom_links.specs.Lists.{is_member, IsDistinct}
 use Rattle.dom_links.proofs.forest.Chains.{length_below}
 use Rattle.dom_index.specs.Orders.{IsOrder, number_at}
 
@@ -18,14 +18,14 @@ same_or_not m n = elim (cases_lt m n) [
   ]
 ]
 
-pub in_place : (xs : List ℕ) (i : ℕ) → i < length xs → stands_in (number_at xs i) xs ≡ true
+pub in_place : (xs : List ℕ) (i : ℕ) → i < length xs → is_member (number_at xs i) xs ≡ true
 in_place [] i known = absurd (omega arith)
-in_place (x ∷ xs) zero known = ap (λ b. b || stands_in x xs) (eq-eqb x x refl)
-in_place (x ∷ xs) (suc i) known = or_right (x == number_at xs i) (stands_in (number_at xs i) xs) (in_place xs i (omega arith))
+in_place (x ∷ xs) zero known = ap (λ b. b || is_member x xs) (eq-eqb x x refl)
+in_place (x ∷ xs) (suc i) known = or_right (x == number_at xs i) (is_member (number_at xs i) xs) (in_place xs i (omega arith))
 
-pub found_at : (n : ℕ) (xs : List ℕ) → stands_in n xs ≡ true → (i : ℕ) × (i < length xs) × (number_at xs i ≡ n)
+pub found_at : (n : ℕ) (xs : List ℕ) → is_member n xs ≡ true → (i : ℕ) × (i < length xs) × (number_at xs i ≡ n)
 found_at n [] s = absurd (true≢false (sym s))
-found_at n (x ∷ xs) s = elim (or_cases (x == n) (stands_in n xs) s) [
+found_at n (x ∷ xs) s = elim (or_cases (x == n) (is_member n xs) s) [
   | inl here ↦ (zero, omega arith, eqb-true x n here)
   | inr there ↦ (let p = found_at n xs there in (suc p.0, (let less = p.1 in omega arith), p.2))
 ]
@@ -33,14 +33,14 @@ found_at n (x ∷ xs) s = elim (or_cases (x == n) (stands_in n xs) s) [
 pub distinct_places : (xs : List ℕ) (i j : ℕ) → IsDistinct xs → i < length xs → j < length xs → number_at xs i ≡ number_at xs j → i ≡ j
 distinct_places [] i j d a b e = absurd (omega arith)
 distinct_places (x ∷ xs) zero zero d a b e = refl
-distinct_places (x ∷ xs) zero (suc j) d a b e = absurd (true≢false (sym (in_place xs j (omega arith)) ∙ (ap (λ m. stands_in m xs) (sym e) ∙ d.0)))
-distinct_places (x ∷ xs) (suc i) zero d a b e = absurd (true≢false (sym (in_place xs i (omega arith)) ∙ (ap (λ m. stands_in m xs) e ∙ d.0)))
+distinct_places (x ∷ xs) zero (suc j) d a b e = absurd (true≢false (sym (in_place xs j (omega arith)) ∙ (ap (λ m. is_member m xs) (sym e) ∙ d.0)))
+distinct_places (x ∷ xs) (suc i) zero d a b e = absurd (true≢false (sym (in_place xs i (omega arith)) ∙ (ap (λ m. is_member m xs) e ∙ d.0)))
 distinct_places (x ∷ xs) (suc i) (suc j) d a b e = ap suc (distinct_places xs i j d.1 (omega arith) (omega arith) e)
 
 pub distinct_from : (xs : List ℕ) → ((i j : ℕ) → i < length xs → j < length xs → number_at xs i ≡ number_at xs j → i ≡ j) → IsDistinct xs
 distinct_from [] f = tt
 distinct_from (x ∷ xs) f = (
-  elim (cases_Bool (stands_in x xs)) [
+  elim (cases_Bool (is_member x xs)) [
     | inl t ↦ (let p = found_at x xs t in let less = p.1 in let same : zero ≡ suc p.0 = f zero (suc p.0) (omega arith) (omega arith) (sym p.2) in absurd (omega arith))
     | inr f' ↦ f'
   ],
@@ -71,7 +71,7 @@ pub record IsBehind (xs : List ℕ) (n m : ℕ) : Type 0 where
   pub one : number_at xs first ≡ n
   pub other : number_at xs second ≡ m
 
-pub behind_in : (xs front back : List ℕ) (n m : ℕ) → xs ≡ front ++ n ∷ back → stands_in m back ≡ true → IsBehind xs n m
+pub behind_in : (xs front back : List ℕ) (n m : ℕ) → xs ≡ front ++ n ∷ back → is_member m back ≡ true → IsBehind xs n m
 behind_in xs front back n m is s =
     let p = found_at m back s in
     let inside = p.1 in
@@ -103,9 +103,9 @@ module _ (order : List ℕ) (at : ℕ → ℕ) where
   places_long zero = refl
   places_long (suc c) = let e = places_long c in omega arith
 
-  places_decided : (c k : ℕ) → ((n : ℕ) → n < c → (at n < length order) × (number_at order (at n) ≡ n)) → stands_in k (places_to c) ≡ true → (k < length order) × (number_at order k < c)
+  places_decided : (c k : ℕ) → ((n : ℕ) → n < c → (at n < length order) × (number_at order (at n) ≡ n)) → is_member k (places_to c) ≡ true → (k < length order) × (number_at order k < c)
   places_decided zero k answer s = absurd (true≢false (sym s))
-  places_decided (suc c) k answer s = elim (or_cases (at c == k) (stands_in k (places_to c)) s) [
+  places_decided (suc c) k answer s = elim (or_cases (at c == k) (is_member k (places_to c)) s) [
     | inl here ↦ (let e = eqb-true (at c) k here in
         let t = answer c (omega arith) in
         let is : number_at order k ≡ c = ap (number_at order) (sym e) ∙ t.1 in
@@ -116,7 +116,7 @@ module _ (order : List ℕ) (at : ℕ → ℕ) where
   places_once : (c : ℕ) → ((n : ℕ) → n < c → (at n < length order) × (number_at order (at n) ≡ n)) → IsDistinct (places_to c)
   places_once zero answer = tt
   places_once (suc c) answer = (
-    elim (cases_Bool (stands_in (at c) (places_to c))) [
+    elim (cases_Bool (is_member (at c) (places_to c))) [
       | inl t ↦ (let again = places_decided c (at c) (λ n less. answer n (omega arith)) t in let less = again.1 in let is = (answer c (omega arith)).1 in absurd (omega arith))
       | inr f ↦ f
     ],
@@ -129,7 +129,7 @@ module _ (order : List ℕ) (at : ℕ → ℕ) where
       let long = places_long c in omega arith
 
 -- a list in which each number below `count` stands, and each once, has so many
-pub all_counted : (order : List ℕ) (count : ℕ) → IsDistinct order → ((n : ℕ) → stands_in n order ≡ true → n < count) → ((n : ℕ) → n < count → stands_in n order ≡ true) → length order ≡ count
+pub all_counted : (order : List ℕ) (count : ℕ) → IsDistinct order → ((n : ℕ) → is_member n order ≡ true → n < count) → ((n : ℕ) → n < count → is_member n order ≡ true) → length order ≡ count
 all_counted order count once inside all =
     let most : length order ≤ count = length_below order count once inside in
     let least : count ≤ length order = counted_down order at count (λ n known. answer n known) in

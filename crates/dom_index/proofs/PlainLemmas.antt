@@ -15,7 +15,7 @@ use Rattle.dom_selectors.specs.ListsAsTrees.{steps_of}
 use Rattle.dom_selectors.specs.Syntax.{CompoundSelector, Steps}
 use Rattle.dom_selectors.specs.ValuesAsTrees.{read_compound, read_list, read_step}
 use Rattle.dom_selectors.proofs.Layers.{read_selector_is, read_step_is}
-use Rattle.dom_select.specs.Meaning.{Holds, Means, StepsMatch}
+use Rattle.dom_select.specs.Meaning.{Holds, MatchesNode, StepsMatch}
 use Rattle.dom_index.specs.declared.node_tests.NodeTest.{NodeTest}
 use Rattle.dom_index.specs.declared.chains.Chain.{Chain}
 use Rattle.dom_index.specs.declared.streaming.Rows.{Rows}
@@ -53,7 +53,7 @@ tests_more first steps i s tests longer test inside read long is ready of so_far
 
 -- what one selector means
 pub reached_meant : (s : Selector) (first : CompoundSelector) (steps : List (Combinator × CompoundSelector)) → first ≡ read_compound (out-Selector s).first → steps ≡ map read_step (out-Selector s).rest.items → (forest : Forest) (n : ℕ) →
-    StepsReach forest first steps n ↔ Means (read_list (s ∷ [])) forest n
+    StepsReach forest first steps n ↔ MatchesNode (read_list (s ∷ [])) forest n
 reached_meant s first steps begins goes forest n =
     let P : Combinator × CompoundSelector × Steps → Type 0 = λ r. (w : ℕ) × Holds r.1 forest w × StepsMatch r.2 forest n w n in
     let lead = (out-Selector s).lead in (
@@ -86,7 +86,7 @@ along_more way steps i one so_far next j s below at = elim (cases_lt j i) [
 ]
 
 -- what the selectors of a list mean
-pub some_meant : (selectors : List Selector) (chains : List Chain) → AreChainsOf selectors chains → (forest : Forest) (n : ℕ) → SomeReaches chains forest n ↔ Means (read_list selectors) forest n
+pub some_meant : (selectors : List Selector) (chains : List Chain) → AreChainsOf selectors chains → (forest : Forest) (n : ℕ) → SomeReaches chains forest n ↔ MatchesNode (read_list selectors) forest n
 some_meant [] chains are forest n = (λ h. subst (λ (cs : List Chain). SomeReaches cs forest n) are h, λ m. absurd m)
 some_meant (s ∷ ss) [] are forest n = absurd are
 some_meant (s ∷ ss) (chain ∷ chains) are forest n =

@@ -6,8 +6,8 @@ use Rattle.std.proofs.lemmas.Bool.{cases_Bool, cases_lt, eq-eqb, eqb-true, le-le
 use Rattle.std.proofs.lemmas.Option.{slice_get-get_or, slice_get_past}
 use Rattle.std.proofs.Math.Dec.{leb}
 use Rattle.dom_links.specs.Forest.{Forest}
-use Rattle.dom_links.specs.Lists.{stands_in, IsDistinct}
-use Rattle.dom_links.specs.Trees.{walk_below}
+use Rattle.dom_links.specs.Lists.{is_member, IsDistinct}
+use Rattle.dom_links.specs.Trees.{descendants_in_order}
 use Rattle.dom_index.specs.Index.{IsAtOrBelow, IsLastBelow}
 use Rattle.dom_index.specs.Orders.{AreSpans, IsOrder, number_at}
 use Rattle.dom_index.specs.Preorder.{place_in, position, preorder}
@@ -19,16 +19,16 @@ placed_at : (xs : List ℕ) (i n : ℕ) → IsDistinct xs → i < length xs → 
 placed_at [] i n once known is = absurd (omega arith)
 placed_at (x ∷ xs) zero n once known is = rw (eq-eqb x n is) refl
 placed_at (x ∷ xs) (suc i) n once known is = elim (cases_Bool (x == n)) [
-  | inl t ↦ absurd (true≢false (sym (in_place xs i (omega arith)) ∙ (ap (λ m. stands_in m xs) (is ∙ sym (eqb-true x n t)) ∙ once.0)))
+  | inl t ↦ absurd (true≢false (sym (in_place xs i (omega arith)) ∙ (ap (λ m. is_member m xs) (is ∙ sym (eqb-true x n t)) ∙ once.0)))
   | inr f ↦ (let rest = placed_at xs i n once.1 (omega arith) is in let more : i + 1 ≡ suc i = omega arith in
       rw (f, rest) (ap (λ j. Some j) more))
 ]
 
-placed_nowhere : (xs : List ℕ) (n : ℕ) → stands_in n xs ≡ false → place_in xs n ≡ None
+placed_nowhere : (xs : List ℕ) (n : ℕ) → is_member n xs ≡ false → place_in xs n ≡ None
 placed_nowhere [] n none = refl
 placed_nowhere (x ∷ xs) n none = elim (cases_Bool (x == n)) [
-  | inl t ↦ absurd (true≢false (sym (sym none ∙ ap (λ b. b || stands_in n xs) t)))
-  | inr f ↦ (let rest : stands_in n xs ≡ false = sym (ap (λ b. b || stands_in n xs) f) ∙ none in rw (f, placed_nowhere xs n rest) refl)
+  | inl t ↦ absurd (true≢false (sym (sym none ∙ ap (λ b. b || is_member n xs) t)))
+  | inr f ↦ (let rest : is_member n xs ≡ false = sym (ap (λ b. b || is_member n xs) f) ∙ none in rw (f, placed_nowhere xs n rest) refl)
 ]
 
 -- a place is where the number stands
@@ -71,8 +71,8 @@ module _ (forest : Forest) (order places : List ℕ) (good : IsOrder forest orde
     | inr past ↦ slice_get_past places n (let long = good.places_long in omega arith) ∙ (sym (placed_nowhere order n (absent past)) ∙ ap (λ ns. place_in ns n) is)
   ]
     where
-      absent : length forest.content ≤ n → stands_in n order ≡ false
-      absent past = elim (cases_Bool (stands_in n order)) [
+      absent : length forest.content ≤ n → is_member n order ≡ false
+      absent past = elim (cases_Bool (is_member n order)) [
         | inl t ↦ (let p = found_at n order t in let less = p.1 in let long = good.long in
             let inside : n < length forest.content = subst (λ (j : ℕ). j < length forest.content) p.2 (good.known p.0 (omega arith)) in absurd (omega arith))
         | inr f ↦ f
@@ -108,15 +108,15 @@ module _ (forest : Forest) (order places : List ℕ) (good : IsOrder forest orde
     ]
 
     module _ (x y : ℕ) (x_known : x < length forest.content) where
-      pub not_behind : number_at places y ≤ number_at places x → false ≡ stands_in y (walk_below forest x)
-      not_behind le = elim (cases_Bool (stands_in y (walk_below forest x))) [
+      pub not_behind : number_at places y ≤ number_at places x → false ≡ is_member y (descendants_in_order forest x)
+      not_behind le = elim (cases_Bool (is_member y (descendants_in_order forest x))) [
         | inl t ↦ (let h = below_within forest order places subtree_ends good spans x y x_known t in let less = h.1 in absurd (omega arith))
         | inr f ↦ sym f
       ]
 
-      pub behind_decides : y < length forest.content → number_at places x < number_at places y → leb (number_at places y) (number_at subtree_ends x) ≡ stands_in y (walk_below forest x)
+      pub behind_decides : y < length forest.content → number_at places x < number_at places y → leb (number_at places y) (number_at subtree_ends x) ≡ is_member y (descendants_in_order forest x)
       behind_decides y_known less = elim (cases_lt (number_at subtree_ends x) (number_at places y)) [
-        | inl past ↦ (elim (cases_Bool (stands_in y (walk_below forest x))) [
+        | inl past ↦ (elim (cases_Bool (is_member y (descendants_in_order forest x))) [
           | inl t ↦ (let h = below_within forest order places subtree_ends good spans x y x_known t in let upto = h.2 in absurd (omega arith))
           | inr f ↦ lt-leb (number_at places y) (number_at subtree_ends x) past ∙ sym f
         ])

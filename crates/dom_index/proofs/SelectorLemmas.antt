@@ -9,7 +9,7 @@ use Rattle.dom_selectors.specs.Syntax.{CompoundSelector, SelectorList, alternati
 use Rattle.dom_selectors.specs.ValuesAsTrees.{read_compound, read_list, read_step}
 use Rattle.dom_selectors.proofs.Weights.{selectors_weight}
 use Rattle.dom_links.specs.Forest.{Forest}
-use Rattle.dom_select.specs.Meaning.{Holds, HasHolds, RelativeMatches, Means, ChainMatches}
+use Rattle.dom_select.specs.Meaning.{Holds, HasHolds, RelativeMatches, MatchesNode, ChainMatches}
 use Rattle.dom_index.specs.TestCounts.{AddsTests, RelativeTests, HasTests, SelectorTests, SelectorsTests}
 use Rattle.dom_index.specs.CompoundCounts.{compound_count, selectors_count, steps_count}
 use Rattle.dom_index.specs.NodeSets.{IsUnion, in_set}
@@ -70,10 +70,10 @@ module _ (Here : ℕ → Type 0) (count : ℕ) (Truth Asks : SelectorList → �
 -- a list at the nodes of a set
 module _ (forest : Forest) (wanted : List Bool) where
   abbrev pub ListUnfinished : List Selector → ℕ → List Bool → ℕ → ℕ → Type 0
-  ListUnfinished = Unfinished (Wanted wanted) (length forest.content) (λ list. Means list forest) (λ list. SelectorsTests list forest wanted)
+  ListUnfinished = Unfinished (Wanted wanted) (length forest.content) (λ list. MatchesNode list forest) (λ list. SelectorsTests list forest wanted)
 
-  pub list_more : GoesOn (Wanted wanted) (length forest.content) (λ list. Means list forest) (λ list. SelectorsTests list forest wanted) (λ k c ss n. ChainMatches (Holds c forest) ss forest n n) (λ k c ss. SelectorTests c ss forest wanted)
-  list_more = selector_more (Wanted wanted) (length forest.content) (λ list. Means list forest) (λ list. SelectorsTests list forest wanted) _ _ (λ k c ss more table All h. h) (λ k c ss more. asks_selectors k c ss more forest wanted)
+  pub list_more : GoesOn (Wanted wanted) (length forest.content) (λ list. MatchesNode list forest) (λ list. SelectorsTests list forest wanted) (λ k c ss n. ChainMatches (Holds c forest) ss forest n n) (λ k c ss. SelectorTests c ss forest wanted)
+  list_more = selector_more (Wanted wanted) (length forest.content) (λ list. MatchesNode list forest) (λ list. SelectorsTests list forest wanted) _ _ (λ k c ss more table All h. h) (λ k c ss more. asks_selectors k c ss more forest wanted)
 
 -- the list of `:has`
 module _ (forest : Forest) where

@@ -5,8 +5,8 @@ use Rattle.std.proofs.lemmas.Bool.{cases_lt, ltb-false, ltb-true}
 use Rattle.std.proofs.lemmas.List.{get_or_past}
 use Rattle.dom_links.specs.Forest.{Forest}
 use Rattle.dom_links.specs.Laws.{AreLines}
-use Rattle.dom_links.specs.Lists.{stands_in}
-use Rattle.dom_links.specs.Trees.{walk_below}
+use Rattle.dom_links.specs.Lists.{is_member}
+use Rattle.dom_links.specs.Trees.{descendants_in_order}
 use Rattle.dom_selectors.specs.declared.syntax.Combinator.TheVariants.{Descendant}
 use Rattle.dom_selectors.specs.Spelling.{Decides}
 use Rattle.dom_select.specs.Meaning.{CombinatorHolds}
@@ -17,11 +17,11 @@ use Rattle.dom_index.proofs.PlaceLemmas.{same_or_not}
 use Rattle.dom_index.proofs.FillLemmas.{written_elsewhere, written_here}
 
 module _ (forest : Forest) (lines : AreLines forest) (order places subtree_ends : List ℕ) (good : IsOrder forest order places) (spans : AreSpans forest order places subtree_ends) (table : List Bool) where
-  stands_below : (v n : ℕ) → stands_in n (walk_below forest v) ≡ true → CombinatorHolds forest Descendant v n
+  stands_below : (v n : ℕ) → is_member n (descendants_in_order forest v) ≡ true → CombinatorHolds forest Descendant v n
   unfolding CombinatorHolds
   stands_below v n s = sym (lines.below_above v n) ∙ s
 
-  below_stands : (v n : ℕ) → CombinatorHolds forest Descendant v n → stands_in n (walk_below forest v) ≡ true
+  below_stands : (v n : ℕ) → CombinatorHolds forest Descendant v n → is_member n (descendants_in_order forest v) ≡ true
   unfolding CombinatorHolds
   below_stands v n s = lines.below_above v n ∙ s
 

@@ -9,9 +9,9 @@ use Rattle.std.proofs.lemmas.Option.{same_Some, slice_get_within}
 use Rattle.dom_nodes.specs.declared.node_data.NodeData.{NodeData}
 use Rattle.dom_links.specs.Forest.{Forest, children_of, parent, siblings}
 use Rattle.dom_links.specs.Laws.{AreLines, AreTrees}
-use Rattle.dom_links.specs.Lists.{IsDistinct, after, first, stands_in}
+use Rattle.dom_links.specs.Lists.{IsDistinct, after, first, is_member}
 use Rattle.dom_links.specs.Sound.{IsForest}
-use Rattle.dom_links.specs.Trees.{ancestors, trees, upward, walk, walk_below}
+use Rattle.dom_links.specs.Trees.{ancestors, trees, upward, walk, descendants_in_order}
 use Rattle.dom_links.specs.Walk.{IsWithin, later, row_on}
 use Rattle.dom_links.proofs.forest.Depth.{parent_inside}
 use Rattle.dom_index.specs.TypeBytes.{AreTypeBytes, byte_at, is_type_byte}
@@ -28,9 +28,9 @@ path_from forest (Some n) = n ∷ ancestors forest n
 
 module _ (forest : Forest) (good : IsForest forest) (lines : AreLines forest) (laws : AreTrees forest) where
   -- what a run still gives from a node on: the node, what is below it, and what is past it and its ancestors
-  pub run_cut : (n : ℕ) → n < length forest.content → run_on forest (Some n) ≡ n ∷ (walk_below forest n ++ run_past forest (n ∷ ancestors forest n))
+  pub run_cut : (n : ℕ) → n < length forest.content → run_on forest (Some n) ≡ n ∷ (descendants_in_order forest n ++ run_past forest (n ∷ ancestors forest n))
   run_cut n known =
-      ap (λ ns. ns ++ run_past forest (ancestors forest n)) (from_is forest good lines laws n known) ∙ ap (λ ns. n ∷ ns) (append_assoc (walk_below forest n) (walk (trees forest (later forest false n))) (run_past forest (ancestors forest n)))
+      ap (λ ns. ns ++ run_past forest (ancestors forest n)) (from_is forest good lines laws n known) ∙ ap (λ ns. n ∷ ns) (append_assoc (descendants_in_order forest n) (walk (trees forest (later forest false n))) (run_past forest (ancestors forest n)))
 
   -- down to the first child
   pub down : (n : ℕ) (child : Option ℕ) → n < length forest.content → child ≡ first (children_of forest n) → is_some child ≡ true →
@@ -38,9 +38,9 @@ module _ (forest : Forest) (good : IsForest forest) (lines : AreLines forest) (l
   down n None known e some = absurd (true≢false (sym some))
   down n (Some f) known e some =
       let row : children_of forest n ≡ row_on forest false (Some f) = lines.below false n ∙ ap (row_on forest false) (sym e) in
-      let there : stands_in f (children_of forest n) ≡ true = ap (stands_in f) row ∙ ap (λ b. b || stands_in f (later forest false f)) (eq-eqb f f refl) in
+      let there : is_member f (children_of forest n) ≡ true = ap (is_member f) row ∙ ap (λ b. b || is_member f (later forest false f)) (eq-eqb f f refl) in
       let up : ancestors forest f ≡ n ∷ ancestors forest n = lines.up f n (good.once.in_children n f there).1 in
-      let below : walk_below forest n ≡ walk_from forest f = ap (λ ns. walk (trees forest ns)) row in
+      let below : descendants_in_order forest n ≡ walk_from forest f = ap (λ ns. walk (trees forest ns)) row in
       ((good.once.in_children n f there).0, up, run_cut n known ∙ (ap (λ ns. n ∷ (ns ++ run_past forest (n ∷ ancestors forest n))) below ∙ ap (λ ps. n ∷ (walk_from forest f ++ run_past forest ps)) (sym up)))
 
   -- nothing is below a node without a first child
@@ -48,7 +48,7 @@ module _ (forest : Forest) (good : IsForest forest) (lines : AreLines forest) (l
   at_leaf n (Some f) known e none = absurd (true≢false none)
   at_leaf n None known e none =
       let row : children_of forest n ≡ [] = lines.below false n ∙ ap (row_on forest false) (sym e) in
-      let empty : walk_below forest n ≡ [] = ap (λ ns. walk (trees forest ns)) row ∙ ap walk laws.no_trees in
+      let empty : descendants_in_order forest n ≡ [] = ap (λ ns. walk (trees forest ns)) row ∙ ap walk laws.no_trees in
       run_cut n known ∙ ap (λ ns. n ∷ (ns ++ run_past forest (n ∷ ancestors forest n))) empty
 
   -- on to the sibling behind
@@ -83,29 +83,29 @@ module _ (forest : Forest) (good : IsForest forest) (lines : AreLines forest) (l
 -- subtree ends
 module _ (forest : Forest) (once : IsDistinct (preorder forest)) (long : length (preorder forest) ≡ length forest.content) (visited : ℕ) (subtree_ends : List ℕ) (n : ℕ) where
   -- a node is visited
-  pub met_now : (ahead : ℕ) → (wide : run_on forest (Some n) ≡ n ∷ (walk_below forest n ++ run_past forest (n ∷ ancestors forest n))) → number_at (preorder forest) visited ≡ n →
+  pub met_now : (ahead : ℕ) → (wide : run_on forest (Some n) ≡ n ∷ (descendants_in_order forest n ++ run_past forest (n ∷ ancestors forest n))) → number_at (preorder forest) visited ≡ n →
       AreSubtreeEnds forest (ancestors forest n) visited (length (run_on forest (Some n))) subtree_ends → suc ahead ≡ length (run_on forest (Some n)) → AreSubtreeEnds forest (n ∷ ancestors forest n) (visited + 1) ahead subtree_ends
   met_now ahead wide here ended counts = record {
     long = ended.long;
-    begun = λ m s. elim (or_cases (n == m) (stands_in m (ancestors forest n)) s) [
-      | inl same ↦ subst Begun (eqb-true n m same) (visited, omega arith, here, (let w = ap length wide ∙ ap suc (length-append (walk_below forest n) (run_past forest (n ∷ ancestors forest n))) in omega arith))
+    begun = λ m s. elim (or_cases (n == m) (is_member m (ancestors forest n)) s) [
+      | inl same ↦ subst Begun (eqb-true n m same) (visited, omega arith, here, (let w = ap length wide ∙ ap suc (length-append (descendants_in_order forest n) (run_past forest (n ∷ ancestors forest n))) in omega arith))
       | inr above ↦ (let b = ended.begun m above in let less = b.1 in let e = b.3 in (b.0, omega arith, b.2, omega arith))
     ];
     answer = λ i below none. ended.answer i (nearer i below none) (no_other (n == number_at (preorder forest) i) _ none);
   }
     where
       Begun : ℕ → Type 0
-      Begun m = (i : ℕ) × (i < visited + 1) × (number_at (preorder forest) i ≡ m) × (i + 1 + length (walk_below forest m) + length (run_past forest (m ∷ ancestors forest m)) ≡ visited + 1 + ahead)
+      Begun m = (i : ℕ) × (i < visited + 1) × (number_at (preorder forest) i ≡ m) × (i + 1 + length (descendants_in_order forest m) + length (run_past forest (m ∷ ancestors forest m)) ≡ visited + 1 + ahead)
 
       no_other : (a b : Bool) → (a || b) ≡ false → b ≡ false
       no_other true b e = absurd (true≢false e)
       no_other false b e = e
 
-      nearer : (i : ℕ) → i < visited + 1 → stands_in (number_at (preorder forest) i) (n ∷ ancestors forest n) ≡ false → i < visited
+      nearer : (i : ℕ) → i < visited + 1 → is_member (number_at (preorder forest) i) (n ∷ ancestors forest n) ≡ false → i < visited
       nearer i below none = elim (same_or_not i visited) [
         | inr other ↦ omega arith
         | inl same ↦ (let is : n ≡ number_at (preorder forest) i = sym here ∙ ap (number_at (preorder forest)) (sym same) in
-            let so : stands_in (number_at (preorder forest) i) (n ∷ ancestors forest n) ≡ true = ap (λ b. b || stands_in (number_at (preorder forest) i) (ancestors forest n)) (eq-eqb n (number_at (preorder forest) i) is) in
+            let so : is_member (number_at (preorder forest) i) (n ∷ ancestors forest n) ≡ true = ap (λ b. b || is_member (number_at (preorder forest) i) (ancestors forest n)) (eq-eqb n (number_at (preorder forest) i) is) in
             absurd (true≢false (sym so ∙ none)))
       ]
 
@@ -114,14 +114,14 @@ module _ (forest : Forest) (once : IsDistinct (preorder forest)) (long : length 
       AreSubtreeEnds forest (ancestors forest n) visited (length (run_past forest (n ∷ ancestors forest n))) (set subtree_ends n last)
   ended_now last e few known ended = record {
     long = length-set subtree_ends n last ∙ ended.long;
-    begun = λ m s. ended.begun m (or_right (n == m) (stands_in m (ancestors forest n)) s);
+    begun = λ m s. ended.begun m (or_right (n == m) (is_member m (ancestors forest n)) s);
     answer = λ i below none. elim (same_or_not (number_at (preorder forest) i) n) [
-      | inl same ↦ (let b = ended.begun n (ap (λ t. t || stands_in n (ancestors forest n)) (eq-eqb n n refl)) in
+      | inl same ↦ (let b = ended.begun n (ap (λ t. t || is_member n (ancestors forest n)) (eq-eqb n n refl)) in
           let less = b.1 in
           let counts = b.3 in
           let here : i ≡ b.0 = distinct_places (preorder forest) i b.0 once (omega arith) (omega arith) (same ∙ sym b.2) in
-          let is : last ≡ i + length (walk_below forest n) = omega arith in
-          ap (number_at (set subtree_ends n last)) same ∙ (get_or-set_same subtree_ends n last 0 (let l = ended.long in omega arith) ∙ (is ∙ ap (λ m. i + length (walk_below forest m)) (sym same))))
+          let is : last ≡ i + length (descendants_in_order forest n) = omega arith in
+          ap (number_at (set subtree_ends n last)) same ∙ (get_or-set_same subtree_ends n last 0 (let l = ended.long in omega arith) ∙ (is ∙ ap (λ m. i + length (descendants_in_order forest m)) (sym same))))
       | inr other ↦ get_or-set_other subtree_ends n (number_at (preorder forest) i) last 0 other ∙ ended.answer i below (not_it (n == number_at (preorder forest) i) _ (λ t. other (sym (eqb-true n (number_at (preorder forest) i) t))) none)
     ];
   }
@@ -214,11 +214,11 @@ one_started forest n starts =
     ap (preorder_to forest) next ∙ ap (λ b. preorder_to forest n ++ cond b (walk_from forest n) []) starts
 
 -- a node that was visited before stands in the walk of an earlier run
-pub met_before : (forest : Forest) (n i : ℕ) → n < length forest.content → i < length (preorder_to forest n) → number_at (preorder forest) i ≡ n → stands_in n (preorder_to forest n) ≡ true
+pub met_before : (forest : Forest) (n i : ℕ) → n < length forest.content → i < length (preorder_to forest n) → number_at (preorder forest) i ≡ n → is_member n (preorder_to forest n) ≡ true
 met_before forest n i known below is =
     let grown = order_grows forest n (length forest.content - n) (length forest.content) (omega arith) in
     let at : number_at (preorder_to forest n) i ≡ n = sym (ap (λ ns. number_at ns i) grown.1 ∙ front_stays 0 (preorder_to forest n) grown.0 i below) ∙ is in
-    subst (λ m. stands_in m (preorder_to forest n) ≡ true) at (in_place (preorder_to forest n) i below)
+    subst (λ m. is_member m (preorder_to forest n) ≡ true) at (in_place (preorder_to forest n) i below)
 
 no_parent : (o : Option ℕ) (b : Bool) → (is_none o && b) ≡ true → o ≡ None
 no_parent None b e = refl
@@ -274,7 +274,7 @@ module _ (forest : Forest) (traversal : Traversal) (traversed : IsTraversed fore
   pub whole_places : ArePlaces forest (preorder forest) traversal.places.items
   whole_places = (traversed.places_long, λ i known. traversed.placed i (omega arith))
 
-  pub whole_names : ((n : ℕ) → n < length forest.content → stands_in n (preorder forest) ≡ true) → AreTypeBytes forest traversal.type_bytes.items
+  pub whole_names : ((n : ℕ) → n < length forest.content → is_member n (preorder forest) ≡ true) → AreTypeBytes forest traversal.type_bytes.items
   whole_names all = record {
     long = traversed.type_bytes_long;
     each = λ n node is.
@@ -287,4 +287,4 @@ module _ (forest : Forest) (traversal : Traversal) (traversed : IsTraversed fore
   whole_spans good lines laws order ended = are_spans forest good lines laws traversal.places.items order traversal.subtree_ends.items ended.long (λ n known.
       let inside = order.inside n known in
       let answer = ended.answer (number_at traversal.places.items n) (omega arith) refl in
-      subst (λ m. number_at traversal.subtree_ends.items m ≡ number_at traversal.places.items n + length (walk_below forest m)) (order.ordered n known) answer)
+      subst (λ m. number_at traversal.subtree_ends.items m ≡ number_at traversal.places.items n + length (descendants_in_order forest m)) (order.ordered n known) answer)

@@ -1,4 +1,4 @@
--- How many compounds a selector list has, those in the lists of compounds too.
+-- How many compound selectors a selector list has, including those in nested lists.
 use Rattle.std.specs.Prelude.{ℕ, ◌+◌}
 use Rattle.dom_selectors.specs.Syntax.{CompoundSelector, compound, NestedLists, no_lists, nested, NestedList, is_list, not_list, has_list, SelectorList, no_selectors, alternative, Steps, no_steps, step}
 

@@ -1,4 +1,4 @@
--- What a selector that is a value of the program stands for: lists, steps, facts of a node, and numbers of compounds.
+-- What a selector that the program holds means, and how many compound selectors it has.
 use Rattle.std.specs.Prelude.{ℕ, ◌+◌, List}
 use Rattle.dom_links.specs.Forest.{Forest}
 use Rattle.dom_selectors.specs.declared.syntax.Combinator.{Combinator}
@@ -10,24 +10,24 @@ use Rattle.dom_selectors.specs.ValuesAsTrees.{read_compound, read_list, read_lis
 use Rattle.dom_select.specs.Meaning.{ChainMatches, Holds, ListsHold, RelativeMatches}
 use Rattle.dom_index.specs.CompoundCounts.{compound_count, list_count, lists_count, selectors_count, steps_count}
 
--- the compound matches n
+-- the compound selector matches `n`
 abbrev pub CompoundHolds : Compound → Forest → ℕ → Type 0
 CompoundHolds c forest n = Holds (read_compound c) forest n
 
--- each of the nested lists matches n
+-- each of the nested lists matches `n`
 abbrev pub NestedHold : List Nested → Forest → ℕ → Type 0
 NestedHold lists forest n = ListsHold (read_lists lists) forest n
 
--- the selector of these compounds matches n
+-- the complex selector matches `n`
 abbrev pub ChainHolds : Compound → List Step → Forest → ℕ → Type 0
 ChainHolds first steps forest n = ChainMatches (Holds (read_compound first) forest) (read_steps steps) forest n n
 
--- the relative selector of these compounds matches at n
+-- the relative selector matches an element, with `n` as the anchor
 abbrev pub RelativeHolds : Combinator → Compound → List Step → Forest → ℕ → Type 0
 RelativeHolds lead first steps forest n = RelativeMatches lead (read_compound first) (read_steps steps) forest n
 
--- how many compounds there are, those in nested lists too: in a compound, in nested lists, in one of them, in steps, in a
--- selector of these compounds, and in a list of selectors
+-- The number of compound selectors, including those in nested lists: in a compound selector, in nested lists, in one of them, in
+-- steps, in a complex selector, and in a list of selectors.
 abbrev pub compounds_in : Compound → ℕ
 compounds_in c = compound_count (read_compound c)
 

@@ -1,4 +1,4 @@
--- The number of tests of a selection by node sets: one for each compound at each node of its set.
+-- The number of tests of a selection by node sets: one for each compound selector at each node of its set.
 use Rattle.std.specs.Prelude.{ℕ, ◌≡◌, ◌<◌, ◌+◌, ◌^◌, Bool, true, List, Result, IfOk, length, replicate}
 use Rattle.std.specs.List.{count_by}
 use Rattle.dom_links.specs.Forest.{Forest}
@@ -11,30 +11,31 @@ use Rattle.dom_index.specs.NodeSets.{IsPrefiltered, IsSetOf, HasLeftOperand, in_
 abbrev pub cardinality : List Bool → ℕ
 cardinality table = count_by (λ b. b) table
 
--- all nodes
+-- the set of all nodes
 abbrev pub everywhere : Forest → List Bool
 everywhere forest = replicate (length forest.content) true
 
--- the nodes of the set that match a nested list
+-- the nodes of the set that a nested list matches
 abbrev pub IsFilteredByList : NestedList → Forest → List Bool → List Bool → Type 0
 IsFilteredByList list forest wanted left = IsSetOf left (length forest.content) (λ n. (in_set wanted n ≡ true) × ListHolds list forest n)
 
--- the nodes of the set that match a compound
+-- the nodes of the set that a compound selector matches
 abbrev pub IsFilteredByCompound : CompoundSelector → Forest → List Bool → List Bool → Type 0
 IsFilteredByCompound c forest wanted held = IsSetOf held (length forest.content) (λ n. (in_set wanted n ≡ true) × Holds c forest n)
 
--- a compound before these steps is tested wherever its combinator reaches, but the subject only at nodes of the set
+-- The last compound selector is tested only at nodes of the set, and every other one wherever the combinators lead.
 abbrev pub IsNeeded : Steps → List Bool → ℕ → Type 0
 IsNeeded no_steps wanted n = in_set wanted n ≡ true
 IsNeeded (step k c more) wanted n = Unit {0}
 
 abbrev mutual
-  -- the compound is tested once at each node of the set, and its lists at some of these, at least at those that match it
+  -- A compound selector is tested once at each node of the set. Its nested lists are tested at some of these, at least at those
+  -- that it matches.
   pub CompoundTests : CompoundSelector → Forest → List Bool → ℕ → Type 0
   CompoundTests (compound parts lists) forest wanted tests =
       (left : List Bool) × (more : ℕ) × IsPrefiltered forest (compound parts lists) left wanted × ListsTests lists forest left more × (tests ≡ cardinality wanted + more)
 
-  -- each list is tested at the nodes that match those before it
+  -- each nested list is tested at the nodes that the lists before it match
   pub ListsTests : NestedLists → Forest → List Bool → ℕ → Type 0
   ListsTests no_lists forest wanted tests = tests ≡ 0
   ListsTests (nested list more) forest wanted tests =
@@ -45,21 +46,21 @@ abbrev mutual
   ListTests (not_list list) forest wanted tests = SelectorsTests list forest wanted tests
   ListTests (has_list list) forest wanted tests = HasTests list forest tests
 
-  -- each selector is tested from its first compound on
+  -- each selector is tested from its first compound selector on
   pub SelectorsTests : SelectorList → Forest → List Bool → ℕ → Type 0
   SelectorsTests no_selectors forest wanted tests = tests ≡ 0
   SelectorsTests (alternative lead first rest more) forest wanted tests =
       (here : List Bool) × (held : List Bool) × (one : ℕ) × (behind : ℕ) × (others : ℕ) × IsSetOf here (length forest.content) (IsNeeded rest wanted)
       × CompoundTests first forest here one × IsFilteredByCompound first forest here held × StepsTests rest forest held wanted behind × SelectorsTests more forest wanted others × (tests ≡ (one + behind) + others)
 
-  -- each later compound at the nodes that its combinator reaches from those that match the one before
+  -- each later compound selector is tested at the nodes that its combinator relates to matches of the one before
   pub StepsTests : Steps → Forest → List Bool → List Bool → ℕ → Type 0
   StepsTests no_steps forest before wanted tests = tests ≡ 0
   StepsTests (step k c more) forest before wanted tests =
       (here : List Bool) × (held : List Bool) × (one : ℕ) × (behind : ℕ) × IsSetOf here (length forest.content) (λ n. HasLeftOperand forest k before n × IsNeeded more wanted n)
       × CompoundTests c forest here one × IsFilteredByCompound c forest here held × StepsTests more forest held wanted behind × (tests ≡ one + behind)
 
-  -- in `:has` each compound at the nodes from which the later ones can be matched
+  -- in `:has`, each compound selector is tested at the nodes from which the later ones can be matched
   pub HasTests : SelectorList → Forest → ℕ → Type 0
   HasTests no_selectors forest tests = tests ≡ 0
   HasTests (alternative lead first rest more) forest tests =
@@ -71,7 +72,7 @@ abbrev mutual
   RestTests (step k c more) forest tests =
       (here : List Bool) × (one : ℕ) × (behind : ℕ) × IsSetOf here (length forest.content) (RestMatches more forest) × CompoundTests c forest here one × RestTests more forest behind × (tests ≡ behind + one)
 
--- one selector of a list, and one relative selector of `:has`
+-- the tests of one selector of a list, and those of one relative selector of `:has`
 abbrev pub SelectorTests : CompoundSelector → Steps → Forest → List Bool → ℕ → Type 0
 SelectorTests first rest forest wanted tests =
     (here : List Bool) × (held : List Bool) × (one : ℕ) × (behind : ℕ) × IsSetOf here (length forest.content) (IsNeeded rest wanted)
@@ -81,15 +82,15 @@ abbrev pub RelativeTests : CompoundSelector → Steps → Forest → ℕ → Typ
 RelativeTests first rest forest tests =
     (here : List Bool) × (one : ℕ) × (behind : ℕ) × IsSetOf here (length forest.content) (RestMatches rest forest) × CompoundTests first forest here one × RestTests rest forest behind × (tests ≡ behind + one)
 
--- so many tests were added to `old`, as far as they can be counted
+-- this many tests were added to `old`, unless the counter overflows
 abbrev pub AddsTests : ℕ → ℕ → (ℕ → Type 0) → Type 0
 AddsTests old new Asks = (asked : ℕ) × Asks asked × (old + asked < 2 ^ 128 → new ≡ old + asked)
 
--- so many, if there is a result
+-- this many tests were added, if the call succeeds
 abbrev pub Counts : {T E : Type 0} → Result T E → ℕ → ℕ → (ℕ → Type 0) → Type 0
 Counts result old new Asks = IfOk result (λ _. AddsTests old new Asks)
 
--- a test for each node of the set
+-- one test for each node of the set
 abbrev pub IsCardinality : List Bool → ℕ → Type 0
 IsCardinality table tests = tests ≡ cardinality table
 

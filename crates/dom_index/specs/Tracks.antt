@@ -1,4 +1,4 @@
--- Selectors in a traversal.
+-- Selection in one traversal, with a row of flags for each node.
 use Rattle.std.specs.Prelude.{ℕ, ◌≡◌, ◌≤◌, ◌⊎◌, ◌+◌, ◌*◌, ◌++◌, Bool, true, false, List, [], ◌∷◌, Option, None, Some, length, map, slice_get, slice_index_or, take}
 use Rattle.dom_links.specs.Forest.{Forest}
 use Rattle.dom_links.specs.ListMoves.{element_at}
@@ -18,14 +18,14 @@ use Rattle.dom_index.specs.FlagRows.{AreAlong, AreFlags, PropagatesFrom, StepsRe
 use Rattle.dom_index.specs.NodeSets.{in_set}
 use Rattle.dom_index.specs.NodeTests.{IsReady}
 
--- the steps of a chain, and its first compound
+-- the steps of a chain, and its first compound selector
 abbrev pub steps_in : Chain → List (Combinator × CompoundSelector)
 steps_in chain = map read_step chain.steps.now
 
 abbrev pub first_in : Chain → CompoundSelector
 first_in chain = read_compound chain.first.now
 
--- how many compounds a chain has, those in nested lists too, and how many several chains have
+-- how many compound selectors a chain has, including those in nested lists, and how many several chains have
 abbrev pub compounds_of_chain : Chain → ℕ
 compounds_of_chain chain = compound_count (first_in chain) + steps_count (steps_of (steps_in chain))
 
@@ -33,7 +33,8 @@ abbrev pub compounds_of_all : List Chain → ℕ
 compounds_of_all [] = 0
 compounds_of_all (chain ∷ chains) = compounds_of_chain chain + compounds_of_all chains
 
--- a test for each of its compounds; its combinators go one way, and it counts no compound twice
+-- A prepared chain has a test for each compound selector, its combinators all go the same way, and it counts no compound selector
+-- twice.
 pub record IsPrepared (chain : Chain) : Type 0 where
   pub count : length chain.tests.items ≡ length chain.steps.now + 1
   pub tests : (i : ℕ) (test : NodeTest) → slice_get chain.tests.items i ≡ Some test → IsReady test × (compound_at (first_in chain) (steps_in chain) i ≡ Some (read_compound test.compound.now))
@@ -43,42 +44,43 @@ pub record IsPrepared (chain : Chain) : Type 0 where
 abbrev pub ArePrepared : List Chain → Type 0
 ArePrepared chains = (i : ℕ) (chain : Chain) → slice_get chains i ≡ Some chain → IsPrepared chain
 
--- the next node to the left of n, on the way of the chain, and all nodes on it
+-- the next node to the left of `n` in the direction of the chain, and all nodes in that direction
 abbrev pub left_in : Chain → Forest → ℕ → Option ℕ
 left_in chain forest n = left_of forest chain.way n
 
 abbrev pub line_in : Chain → Forest → ℕ → List ℕ
 line_in chain forest n = line forest chain.way n
 
--- the flags at the nodes to the right of a node, or without one at a node that has none to its left
+-- the flags at the nodes whose next node to the left is `left`; with `None`, at a node that has none
 abbrev pub FlagsRight : Chain → Forest → Option ℕ → List Bool → Type 0
 FlagsRight chain forest left flags = AreFlags forest (first_in chain) (steps_in chain) left flags
 
--- the flag of the step of that number at the nodes to the right of n
+-- the flag of the step at this index, at the nodes to the right of `n`
 abbrev pub IsStepFlag : Chain → Forest → ℕ → ℕ → Bool → Type 0
 IsStepFlag chain forest n i flag =
     (s : Combinator × CompoundSelector) → slice_get (steps_in chain) i ≡ Some s → Decides flag (PropagatesFrom forest s.0 (StepsReach forest (first_in chain) (take i (steps_in chain))) (Some n))
 
--- the same of the flag that stands in the row of n
+-- the row of `n` stores that flag at this index
 abbrev pub IsStepFlagAt : Chain → Forest → ℕ → List Bool → ℕ → Type 0
 IsStepFlagAt chain forest n flags i = IsStepFlag chain forest n i (slice_index_or flags (n * length chain.steps.now + i) false)
 
--- the flags are those at a node of the forest, which the caches are of
+-- the flags are those at a node of the forest, and the caches belong to the forest
 pub record AreFlagsAt (chain : Chain) (forest : Forest) (n : ℕ) (flags : List Bool) (caches : Forest) : Type 0 where
   pub prepared : IsPrepared chain
   pub flags_are : FlagsRight chain forest (left_in chain forest n) flags
   pub caches_are : caches ≡ forest
 
--- the flags from n times as many as there are steps on are the row of n: those at the nodes to its right
+-- The row of `n` is as long as there are steps, and starts at `n` times that length. It has the flags at the nodes to the right
+-- of `n`.
 abbrev pub IsRow : Chain → Forest → ℕ → List Bool → Type 0
 IsRow chain forest n flags = (j : ℕ) → IsStepFlagAt chain forest n flags j
 
--- the row of n is filled
+-- the row of the node is filled, if there is a node
 abbrev pub IsFilledAt : List Bool → Option ℕ → Type 0
 IsFilledAt filled None = Unit {0}
 IsFilledAt filled (Some n) = in_set filled n ≡ true
 
--- the rows that are filled are those of their nodes, and one is that at a node with none to its left
+-- Each filled row has the flags of its node, and `none` is the row at a node with no node to its left.
 pub record IsTracked (chain : Chain) (forest : Forest) (rows : Rows) : Type 0 where
   pub none : FlagsRight chain forest None rows.none.items
   pub long : length rows.flags.items ≡ length forest.content * length chain.steps.now
@@ -89,17 +91,17 @@ pub record IsTracked (chain : Chain) (forest : Forest) (rows : Rows) : Type 0 wh
 abbrev pub Reaches : Chain → Forest → ℕ → Type 0
 Reaches chain forest n = StepsReach forest (first_in chain) (steps_in chain) n
 
--- the nodes to the left of n: the missing ones, and then one whose row is filled, if one is left
+-- The nodes to the left of `n` are the missing ones, and then one whose row is filled, if any is left.
 abbrev pub IsOnWay : Chain → Forest → ℕ → List Bool → List ℕ → Type 0
 IsOnWay chain forest n filled missing = (rest : List ℕ) × (line_in chain forest n ≡ missing ++ rest) × IsFilledAt filled (first rest)
 
--- the rows of a prepared selector are those of the forest, and so are the caches
+-- the chain is prepared, its rows are those of the forest, and the caches belong to the forest
 pub record IsFollowing (chain : Chain) (rows : Rows) (forest caches : Forest) : Type 0 where
   pub prepared : IsPrepared chain
   pub tracked : IsTracked chain forest rows
   pub caches_are : caches ≡ forest
 
--- the same for several selectors, with rows for each
+-- several chains: each is tracked by the rows at its index, and in `AreFollowing` all are prepared, too
 abbrev pub AreTracked : List Chain → Forest → List Rows → Type 0
 AreTracked chains forest all = (i : ℕ) (chain : Chain) (rows : Rows) → slice_get chains i ≡ Some chain → slice_get all i ≡ Some rows → IsTracked chain forest rows
 
@@ -114,11 +116,11 @@ abbrev pub SomeReaches : List Chain → Forest → ℕ → Type 0
 SomeReaches [] forest n = ⊥
 SomeReaches (chain ∷ chains) forest n = Reaches chain forest n ⊎ SomeReaches chains forest n
 
--- and the node is an element
+-- the node is an element, and one of the selectors matches it
 abbrev pub IsReached : List Chain → Forest → ℕ → Type 0
 IsReached chains forest n = (element_at forest n ≡ true) × SomeReaches chains forest n
 
--- the chain of a selector, and those of several
+-- the chain of a selector, and the chains of several
 pub record IsChainOf (s : Selector) (chain : Chain) : Type 0 where
   pub prepared : IsPrepared chain
   pub first : first_in chain ≡ read_compound (out-Selector s).first

@@ -1,4 +1,4 @@
-//! Selectors that are prepared for a traversal: a test for each compound.
+//! Selectors that are prepared for one traversal, with a test for each compound selector.
 
 ghost use Rattle.std.specs.Prelude.{◌≡◌, ◌∷◌, ◌++◌, [], IfOk, OnOk};
 ghost use Rattle.dom_index.specs.NodeTests.{ArePlain, IsPlain, way_of};
@@ -6,29 +6,30 @@ ghost use Rattle.dom_index.specs.Tracks.{AreChainsOf, IsPrepared};
 
 use crate::counting::count_compound;
 use crate::node_tests::NodeTest;
-use crate::ways::has_has_before;
+use crate::strategies::has_has_before;
 use dom_nodes::fault::OutOfMemory;
 use dom_selectors::syntax::{Combinator, Compound, Selector, Step};
 use dom_trees::tree::Tree;
 
-/// A selector whose combinators all lead to ancestors or all to earlier siblings, with a test for
-/// each of its compounds.
+/// A selector whose combinators all lead to ancestors or all to previous siblings, with a test for
+/// each of its compound selectors.
 #[derive(Drop)]
 pub(crate) struct Chain<'s> {
     pub(crate) first: &'s Compound,
     pub(crate) steps: &'s [Step],
     pub(crate) tests: Vec<NodeTest<'s>>,
-    /// The combinator of the first step: the next node to the left is the same for all steps.
+    /// The combinator of the first step. The next node to the left is the same for all steps.
     pub(crate) way: Combinator,
-    /// How many tests are counted for all nodes, those of the last compound among them, and how
-    /// many for each row that is filled.
+    /// How many tests are counted for every node, including those of the last compound selector,
+    /// and how many for each row that is filled.
     pub(crate) all_tests: u64,
     pub(crate) row_tests: u64,
 }
 
 impl<'s> Chain<'s> {
-    /// Prepares a selector for the nodes of a tree. To fill few rows `:has` may look at many nodes,
-    /// so all compounds are counted for all nodes where one of them but the last has it.
+    /// Prepares a selector for the nodes of a tree. To fill even a few rows, `:has` may visit many
+    /// nodes. So if a compound selector other than the last has `:has`, all compound selectors are
+    /// counted for every node.
     fn new(first: &'s Compound, steps: &'s [Step], tree: &Tree) -> Result<Chain<'s>, OutOfMemory>
         requires { IsPlain steps.now }
         ensures prepared { IfOk result IsPrepared }
@@ -59,7 +60,7 @@ impl<'s> Chain<'s> {
     }
 }
 
-/// The combinator of the first step; without steps any will do.
+/// Returns the combinator of the first step; without steps, any combinator will do.
 pub(crate) fn way_of(steps: &[Step]) -> Combinator
     ensures { result ≡ way_of steps.now }
 {
@@ -69,7 +70,7 @@ pub(crate) fn way_of(steps: &[Step]) -> Combinator
     }
 }
 
-/// Adds a test.
+/// Appends a test. Fails only when memory runs out.
 fn push_test<'s>(tests: &mut Vec<NodeTest<'s>>, test: NodeTest<'s>) -> Result<(), OutOfMemory>
     ensures { OnOk result (tests.new.items ≡ tests.old.items ++ test.entry ∷ []) }
 {
@@ -79,7 +80,7 @@ fn push_test<'s>(tests: &mut Vec<NodeTest<'s>>, test: NodeTest<'s>) -> Result<()
     }
 }
 
-/// Prepares plain selectors for the nodes of a tree.
+/// Prepares selectors for the nodes of a tree. The combinators of each all have to go the same way.
 pub(crate) fn prepare_all<'s>(
     selectors: &'s [Selector],
     tree: &Tree,
@@ -95,7 +96,7 @@ pub(crate) fn prepare_all<'s>(
     Ok(chains)
 }
 
-/// Adds a chain.
+/// Appends a chain. Fails only when memory runs out.
 fn push_chain<'s>(chains: &mut Vec<Chain<'s>>, chain: Chain<'s>) -> Result<(), OutOfMemory>
     ensures { OnOk result (chains.new.items ≡ chains.old.items ++ chain.entry ∷ []) }
 {

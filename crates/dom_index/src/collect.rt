@@ -1,9 +1,9 @@
-//! The elements of a set below some nodes, in the order of the traversals.
+//! Collecting the elements of a set below some nodes, root by root in document order.
 
 ghost use Rattle.std.specs.Prelude.{◌≡◌, ◌<◌, ◌++◌, ◌&&◌, ℕ, length, true, IfOk, OnOk};
 ghost use Rattle.dom_links.specs.ListMoves.{element_at};
-ghost use Rattle.dom_links.specs.Lists.{stands_in};
-ghost use Rattle.dom_links.specs.Trees.{walk_below};
+ghost use Rattle.dom_links.specs.Lists.{is_member};
+ghost use Rattle.dom_links.specs.Trees.{descendants_in_order};
 ghost use Rattle.dom_index.specs.NodeSets.{in_set};
 ghost use Rattle.dom_index.specs.PreorderSets.{collected_at, collected_below, left_at};
 
@@ -14,7 +14,8 @@ use dom_nodes::fault::OutOfMemory;
 use dom_nodes::node_id::NodeId;
 use dom_trees::tree::Tree;
 
-/// The elements below the roots that are in the set, each once, in the order of the traversals.
+/// Returns the elements below the roots that are in the set, each once, root by root in document
+/// order. Fails only when memory runs out.
 pub(crate) fn collect_matches(
     preorder: &Preorder<'_>,
     roots: &[NodeId],
@@ -32,7 +33,7 @@ pub(crate) fn collect_matches(
     Ok(found)
 }
 
-/// Moves the elements below a node from the set to those found.
+/// Moves the elements below a node from the set to `found`.
 fn collect_below(
     preorder: &Preorder<'_>,
     root: NodeId,
@@ -58,7 +59,7 @@ fn collect_below(
     Ok(())
 }
 
-/// Whether the node is an element of the set.
+/// Returns whether the node is an element of the set.
 fn is_element_in(preorder: &Preorder<'_>, table: &[bool], id: NodeId) -> bool
     requires known { id < length preorder.now.tree.now.content }
     requires table_long { length table.now ≡ length preorder.now.tree.now.content }
@@ -71,9 +72,10 @@ fn is_element_in(preorder: &Preorder<'_>, table: &[bool], id: NodeId) -> bool
     is_element_at(preorder, n)
 }
 
-/// States that a traversal visits nodes of the tree. It does nothing.
+/// States that a traversal visits nodes of the tree. It does nothing and is called for its
+/// contract.
 pub(crate) fn walk_laws(tree: &Tree)
-    ensures { (n m : ℕ) → stands_in m (walk_below tree.now n) ≡ true
+    ensures { (n m : ℕ) → is_member m (descendants_in_order tree.now n) ≡ true
         → m < length tree.now.content }
 {
     let _nodes = tree.nodes();

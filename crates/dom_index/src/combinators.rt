@@ -1,5 +1,5 @@
-//! The sets of nodes that are the right operands of a combinator whose left operands are in a set,
-//! and the other way round.
+//! Sets of nodes across a combinator: the right operands for a set of left operands, and the other
+//! way round.
 
 ghost use Rattle.std.specs.Prelude.{◌≡◌, ◌<◌, ◌+◌, length, IfOk, IfSome};
 ghost use Rattle.dom_selectors.specs.declared.syntax.Combinator.TheVariants.{Descendant};
@@ -18,8 +18,8 @@ use dom_nodes::node_id::NodeId;
 use dom_selectors::syntax::Combinator;
 use dom_trees::tree::Tree;
 
-/// The next node to the left of a node by a combinator: the parent, which is given, or the previous
-/// sibling.
+/// Returns the next node to the left by a combinator: the parent, which is passed in, or the
+/// previous sibling.
 fn left_of(tree: &Tree, combinator: Combinator, id: NodeId, above: Link) -> Option<NodeId>
     requires { above ≡ parent tree.now id }
     ensures { result ≡ left_of tree.now combinator id }
@@ -30,7 +30,7 @@ fn left_of(tree: &Tree, combinator: Combinator, id: NodeId, above: Link) -> Opti
     }
 }
 
-/// Whether the node is a left operand in the set, or propagates the flag of such a node.
+/// Returns whether the node is a left operand in the set, or passes on the flag of such a node.
 fn propagates(
     preorder: &Preorder<'_>,
     combinator: Combinator,
@@ -61,7 +61,7 @@ fn propagates(
     }
 }
 
-/// Whether a node has a left operand in the set, by the next node to its left.
+/// Returns whether a node has a left operand in the set, from the next node to its left.
 fn is_reached(
     preorder: &Preorder<'_>,
     combinator: Combinator,
@@ -80,7 +80,7 @@ fn is_reached(
     }
 }
 
-/// The nodes that have a left operand in the set.
+/// Returns the nodes that have a left operand in the set.
 pub(crate) fn step_forward(
     preorder: &Preorder<'_>,
     combinator: Combinator,
@@ -95,8 +95,8 @@ pub(crate) fn step_forward(
     }
 }
 
-/// The nodes that have an ancestor in the set: those up to the subtree end of a node are its
-/// descendants.
+/// Returns the nodes that have an ancestor in the set. The descendants of a node are those up to
+/// its subtree end.
 fn descendants_of(preorder: &Preorder<'_>, table: &[bool]) -> Result<Vec<bool>, OutOfMemory>
     requires { length table.now ≡ length preorder.now.tree.now.content }
     ensures { IfOk result (HaveLeftOperand preorder.now Descendant table.now) }
@@ -113,7 +113,7 @@ fn descendants_of(preorder: &Preorder<'_>, table: &[bool]) -> Result<Vec<bool>, 
     Ok(flags)
 }
 
-/// The furthest end of the subtrees of nodes in the set, with one more node in preorder.
+/// Returns the furthest end of the subtrees of nodes in the set, after one more node in preorder.
 #[inline(always)]
 fn extend_end(preorder: &Preorder<'_>, table: &[bool], n: usize, end: usize) -> usize
     requires known { n < length preorder.now.tree.now.content }
@@ -131,7 +131,8 @@ fn extend_end(preorder: &Preorder<'_>, table: &[bool], n: usize, end: usize) -> 
     past
 }
 
-/// The nodes that have a left operand in the set, in preorder: each by the next node to its left.
+/// Returns the nodes that have a left operand in the set. They are visited in preorder, and each is
+/// computed from the next node to its left.
 fn propagate_forward(
     preorder: &Preorder<'_>,
     combinator: Combinator,
@@ -153,8 +154,8 @@ fn propagate_forward(
     Ok(flags)
 }
 
-/// The nodes that have a right operand in the set, in reverse preorder: each by the nodes of which
-/// it is the next to the left.
+/// Returns the nodes that have a right operand in the set. They are visited in reverse preorder,
+/// and each is computed from the nodes to its right.
 pub(crate) fn step_backward(
     preorder: &Preorder<'_>,
     combinator: Combinator,

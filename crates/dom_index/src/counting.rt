@@ -1,4 +1,4 @@
-//! How many compounds selectors have, with those of nested lists.
+//! Counting compound selectors. The counts include nested lists, but not lists nested in these.
 
 ghost use Rattle.std.specs.Prelude.{◌≡◌, ◌≤◌};
 ghost use Rattle.dom_index.specs.SelectorValues.{compounds_among, compounds_in, compounds_listed};
@@ -6,7 +6,8 @@ ghost use Rattle.dom_index.specs.SelectorValues.{compounds_nested, compounds_of}
 
 use dom_selectors::syntax::{Compound, Nested, Selector, Step};
 
-/// How many compounds the selectors have: those of nested lists too, but not of lists in these.
+/// Returns how many compound selectors the selectors have, including those of nested lists but not
+/// of lists nested in these.
 pub(crate) fn count_compounds(selectors: &[Selector]) -> u64
     ensures { result ≤ compounds_among selectors.now }
 {
@@ -17,7 +18,7 @@ pub(crate) fn count_compounds(selectors: &[Selector]) -> u64
     count
 }
 
-/// The same of the selector of these compounds.
+/// Returns that number for one complex selector.
 fn count_chain(first: &Compound, steps: &[Step]) -> u64
     ensures { result ≤ compounds_of first.now steps.now }
 {
@@ -28,14 +29,14 @@ fn count_chain(first: &Compound, steps: &[Step]) -> u64
     count
 }
 
-/// One for the compound, and those of its nested lists.
+/// Returns that number for a compound selector: one, and those of its nested lists.
 pub(crate) fn count_compound(compound: &Compound) -> u64
     ensures { result ≤ compounds_in compound.now }
 {
     count_nested(&compound.nested).saturating_add(1)
 }
 
-/// How many compounds nested lists have, but for those of lists in these.
+/// Returns how many compound selectors nested lists have, without those of lists nested in these.
 fn count_nested(lists: &[Nested]) -> u64
     ensures { result ≤ compounds_nested lists.now }
 {
@@ -46,7 +47,7 @@ fn count_nested(lists: &[Nested]) -> u64
     count
 }
 
-/// How many compounds a nested list has, but for those of lists in these.
+/// Returns how many compound selectors a nested list has, without those of lists nested in it.
 fn count_listed(list: &Nested) -> u64
     ensures { result ≤ compounds_listed list.now }
 {
@@ -57,7 +58,7 @@ fn count_listed(list: &Nested) -> u64
     }
 }
 
-/// How many compounds the selectors have, but for those of nested lists.
+/// Returns how many compound selectors the selectors have, without those of nested lists.
 pub(crate) fn count_outer(selectors: &[Selector]) -> u64
     ensures { result ≤ compounds_among selectors.now }
 {

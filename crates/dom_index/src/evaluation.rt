@@ -1,8 +1,9 @@
-//! The set of the nodes that match a selector, compound by compound.
+//! Selection by node sets: the set of the nodes that a selector matches, computed one compound
+//! selector at a time.
 
 ghost use Rattle.std.specs.Prelude.{◌≡◌, ◌≤◌, ◌+◌, ◌*◌, length, IfOk};
 ghost use Rattle.dom_selectors.specs.ValuesAsTrees.{read_list, read_nested, read_steps};
-ghost use Rattle.dom_select.specs.Meaning.{HasHolds, ListHolds, Means};
+ghost use Rattle.dom_select.specs.Meaning.{HasHolds, ListHolds, MatchesNode};
 ghost use Rattle.dom_index.specs.PreorderSets.{ChainAsks, CompoundAsks, HasAsks, HasWanted};
 ghost use Rattle.dom_index.specs.PreorderSets.{IsFiltered, IsSetWhere, ListAsks, ListsAsk};
 ghost use Rattle.dom_index.specs.PreorderSets.{RelativeAsks, RestAsks, SelectorsAsk, node_count};
@@ -22,8 +23,8 @@ use crate::preorder::{Preorder, forest_laws};
 use dom_nodes::fault::OutOfMemory;
 use dom_selectors::syntax::{Combinator, Compound, Nested, Selector, Step};
 
-/// The nodes of the set that match the compound. Each node of the set counts as a test, also one
-/// that its type or a nested list excludes.
+/// Returns the nodes of the set that the compound selector matches. Each node of the set counts as
+/// a test, even if its type or a nested list excludes it.
 #[cycle(evaluation)]
 fn compound_set(
     preorder: &Preorder<'_>,
@@ -50,7 +51,7 @@ fn compound_set(
     filter_by_compound(preorder, compound, narrowed, tests)
 }
 
-/// The nodes of the set that match each of a compound's nested lists.
+/// Returns the nodes of the set that each nested list of a compound selector matches.
 #[cycle(evaluation)]
 fn lists_set(
     preorder: &Preorder<'_>,
@@ -73,7 +74,8 @@ fn lists_set(
     Ok(table)
 }
 
-/// The nodes that match a nested list, as far as they are in the set.
+/// Returns the nodes that a nested list matches. Only the flags of nodes in `wanted` are
+/// meaningful.
 #[cycle(evaluation)]
 fn nested_set(
     preorder: &Preorder<'_>,
@@ -99,7 +101,8 @@ fn nested_set(
     }
 }
 
-/// The nodes that match one of the selectors, as far as they are in the set.
+/// Returns the nodes that one of the selectors matches. Only the flags of nodes in `wanted` are
+/// meaningful.
 #[cycle(evaluation)]
 pub(crate) fn list_set(
     preorder: &Preorder<'_>,
@@ -109,7 +112,7 @@ pub(crate) fn list_set(
 ) -> Result<Vec<bool>, OutOfMemory>
     requires { length wanted.now ≡ length preorder.now.tree.now.content }
     ensures table { IfOk result
-        (HasWanted preorder.now wanted.now (Means (read_list selectors.now))) }
+        (HasWanted preorder.now wanted.now (MatchesNode (read_list selectors.now))) }
     ensures counted { Counts result tests.old tests.new
         (SelectorsAsk selectors.now preorder.now wanted.now) }
     ensures tests { tests.new
@@ -123,8 +126,9 @@ pub(crate) fn list_set(
     Ok(table)
 }
 
-/// The nodes that match the compounds, as far as they are in the set. The subject is tested only at
-/// nodes of the set, each other compound at all nodes that its combinator reaches.
+/// Returns the nodes that a complex selector matches. Only the flags of nodes in `wanted` are
+/// meaningful. The last compound selector is tested only at nodes of `wanted`, and every other one
+/// at all nodes that its combinator reaches.
 #[cycle(evaluation)]
 fn selector_set(
     preorder: &Preorder<'_>,
@@ -155,7 +159,7 @@ fn selector_set(
     compound_set(preorder, compound, here, tests)
 }
 
-/// The anchors at which one of the relative selectors matches.
+/// Returns the anchors for which one of the relative selectors matches.
 #[cycle(evaluation)]
 fn has_set(
     preorder: &Preorder<'_>,
@@ -181,7 +185,8 @@ fn has_set(
     Ok(table)
 }
 
-/// The anchors at which a relative selector matches, from its last compound to its first.
+/// Returns the anchors for which a relative selector matches, computed from its last compound
+/// selector to its first.
 #[cycle(evaluation)]
 fn relative_set(
     preorder: &Preorder<'_>,
@@ -202,7 +207,7 @@ fn relative_set(
     step_backward(preorder, lead, &held)
 }
 
-/// The nodes from which the steps can be matched to their end, at an element.
+/// Returns the nodes from which the steps can be matched to their end, at an element.
 #[cycle(evaluation)]
 fn rest_set(
     preorder: &Preorder<'_>,

@@ -1,9 +1,9 @@
-//! An index of a tree's nodes.
+//! `TreeIndex`: an index of a tree's nodes, for repeated selections and for questions about order.
 
 ghost use Rattle.std.specs.Prelude.{◌≡◌, ◌≤◌, ◌*◌, length, slice_get, IfOk};
 ghost use Rattle.std.specs.Iterator.{YieldsFirst, item_count};
-ghost use Rattle.dom_links.specs.Lists.{stands_in};
-ghost use Rattle.dom_links.specs.Trees.{walk_below};
+ghost use Rattle.dom_links.specs.Lists.{is_member};
+ghost use Rattle.dom_links.specs.Trees.{descendants_in_order};
 ghost use Rattle.dom_select.specs.Selected.{Selected};
 ghost use Rattle.dom_index.specs.TestCounts.{Counts, SelectionTests};
 ghost use Rattle.dom_index.specs.CompoundCounts.{selectors_count};
@@ -23,9 +23,10 @@ use dom_trees::node_ref::NodeRef;
 use dom_trees::tree::Tree;
 use std::marker::Model;
 
-/// The nodes of a tree in preorder, the runs by the numbers of their first nodes, and their indexes
-/// among siblings. It borrows the tree, so that no edit comes between two calls. A contract sees
-/// the tree, and the number of tests of the last selection.
+/// An index of a tree: its nodes in preorder, and their indexes among siblings. Detached lists of
+/// siblings come in the order of the ids of their first nodes. The index borrows the tree, so no
+/// edit can come between two calls. A contract sees the tree, and the number of tests of the last
+/// selection.
 #[derive(Drop)]
 pub struct TreeIndex<'a> {
     preorder: Preorder<'a>,
@@ -45,7 +46,8 @@ impl<'a> Model for TreeIndex<'a> {
 }
 
 impl<'a> TreeIndex<'a> {
-    /// The index of a tree.
+    /// Returns the index of a tree. It takes time linear in the number of nodes. Fails only when
+    /// memory runs out.
     pub fn new(tree: &'a Tree) -> Result<TreeIndex<'a>, OutOfMemory>
         ensures { IfOk result (λ index. index ≡ record { tree = tree.entry; tests = 0 }) }
     {
@@ -56,17 +58,18 @@ impl<'a> TreeIndex<'a> {
         })
     }
 
-    /// The number of tests of the last `select` or `select_by_tables`: of one compound at one node
-    /// each; 0 before one.
+    /// Returns how many tests the last `select` or `select_by_tables` made, where a test is of one
+    /// compound selector at one node; 0 before the first selection.
     pub fn tests(&self) -> u128
         ensures { result ≡ self.now.tests }
     {
         self.tests
     }
 
-    /// The elements below the roots that match one of the matcher's selectors, each once, in the
-    /// order of the traversals: by tables where the list needs them, as `select_counted` chooses.
-    /// After a refusal the index is as it was, but for the number of tests.
+    /// Returns the elements below the roots that one of the matcher's selectors matches, each once,
+    /// root by root in document order. It uses node sets if the selectors need them, by the choice
+    /// of `select_counted`. Fails only when memory runs out; then only the number of tests has
+    /// changed.
     pub fn select(
         &mut self,
         matcher: &Matcher,
@@ -83,9 +86,10 @@ impl<'a> TreeIndex<'a> {
         nodes_of(tree, &ids)
     }
 
-    /// The same by tables, whatever the list: each compound is tested at each node once at most, at
-    /// those that its combinator reaches, and within a nested list where the compound can still
-    /// match. After a refusal the index is as it was, but for the number of tests.
+    /// Returns what `select` does, always by node sets. Each compound selector is tested at most
+    /// once at each node: at the nodes that its combinator reaches, and in a nested list only where
+    /// the compound selector around it can still match. Fails only when memory runs out; then only
+    /// the number of tests has changed.
     pub fn select_by_tables(
         &mut self,
         matcher: &Matcher,
@@ -99,7 +103,7 @@ impl<'a> TreeIndex<'a> {
         nodes_of(self.preorder.tree, &ids)
     }
 
-    /// The numbers of what `select_by_tables` returns.
+    /// Returns the ids of the nodes that `select_by_tables` returns.
     pub(crate) fn ids_by_tables(
         &mut self,
         matcher: &Matcher,
@@ -120,30 +124,31 @@ impl<'a> TreeIndex<'a> {
         collect_matches(&self.preorder, roots, table)
     }
 
-    /// The position of a node in preorder, counted from 0; None for an unknown number.
+    /// Returns the position of a node in preorder, counted from 0, or `None` if the tree has no
+    /// such node.
     pub fn position(&self, id: &NodeId) -> Option<usize>
         ensures { result ≡ position self.now.tree.now id.now }
     {
         position_at(&self.preorder, id.value())
     }
 
-    /// The greatest position at or below a node; None for an unknown number.
+    /// Returns the greatest position at or below a node, or `None` if the tree has no such node.
     pub fn last_below(&self, id: &NodeId) -> Option<usize>
         ensures { GivesLastBelow self.now.tree.now id.now result }
     {
         subtree_end_at(&self.preorder, id.value())
     }
 
-    /// Whether y is a descendant of x.
+    /// Returns whether `y` is a descendant of `x`.
     pub fn is_below(&self, x: &NodeId, y: &NodeId) -> bool
-        ensures { result ≡ stands_in y.now (walk_below self.now.tree.now x.now) }
+        ensures { result ≡ is_member y.now (descendants_in_order self.now.tree.now x.now) }
     {
         is_within(&self.preorder, x.value(), y.value())
     }
 
-    /// The index of a node among its siblings, from 1; None for an unknown number. The first call
-    /// of a kind makes a table of that kind, if memory isn't refused, and each call writes there
-    /// what it counts.
+    /// Returns the index of a node among its siblings, counted from 1, or `None` if the tree has no
+    /// such node. The first call for a kind makes a cache for that kind, if there is memory, and
+    /// each call stores in it what it counts.
     pub fn index_at(&mut self, id: &NodeId, kind: IndexKind) -> Option<u64>
         ensures is { GivesIndex kind self.old.tree.now id.now result }
         ensures kept { self.new ≡ self.old }
@@ -154,9 +159,10 @@ impl<'a> TreeIndex<'a> {
         Some(self.siblings.index_at(id, kind))
     }
 
-    /// The descendants of a node, in preorder. It takes no memory.
+    /// Returns an iterator over the descendants of a node, in document order. It allocates no
+    /// memory.
     pub fn descendants(&self, id: &NodeId) -> IndexedNodes<'_>
-        ensures { result ≡ walk_below self.now.tree.now id.now }
+        ensures { result ≡ descendants_in_order self.now.tree.now id.now }
     {
         IndexedNodes {
             ids: below(&self.preorder, *id),
@@ -164,21 +170,21 @@ impl<'a> TreeIndex<'a> {
     }
 }
 
-/// The position of the node of that number.
+/// Returns the position of the node with this id.
 fn position_at(preorder: &Preorder<'_>, n: usize) -> Option<usize>
     ensures { result ≡ position preorder.now.tree.now n }
 {
     written(&preorder.places, n)
 }
 
-/// The subtree end of the node of that number.
+/// Returns the subtree end of the node with this id.
 fn subtree_end_at(preorder: &Preorder<'_>, n: usize) -> Option<usize>
     ensures { GivesLastBelow preorder.now.tree.now n result }
 {
     written(&preorder.subtree_ends, n)
 }
 
-/// The entry of the node of that number.
+/// Returns the entry at index `n`.
 fn written(places: &[u32], n: usize) -> Option<usize>
     ensures { result ≡ slice_get places.now n }
 {
@@ -186,9 +192,9 @@ fn written(places: &[u32], n: usize) -> Option<usize>
     Some(*place as usize)
 }
 
-/// Whether y is a descendant of x, by their positions.
+/// Returns whether `y` is a descendant of `x`, by their positions.
 fn is_within(preorder: &Preorder<'_>, x: usize, y: usize) -> bool
-    ensures { result ≡ stands_in y (walk_below preorder.now.tree.now x) }
+    ensures { result ≡ is_member y (descendants_in_order preorder.now.tree.now x) }
 {
     forest_laws(preorder.tree);
     let count = preorder.order.len();
@@ -202,7 +208,7 @@ fn is_within(preorder: &Preorder<'_>, x: usize, y: usize) -> bool
     place <= preorder.subtree_ends[x]
 }
 
-/// The numbers of consecutive nodes in the preorder of an index.
+/// An iterator over the ids of consecutive nodes in the preorder of an index.
 #[derive(Drop)]
 pub struct IndexedNodes<'i> {
     ids: &'i [NodeId],

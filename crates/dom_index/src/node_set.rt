@@ -1,4 +1,4 @@
-//! Sets of nodes as one flag for each node, and their operations.
+//! Sets of nodes, stored as one flag for each node, and their operations.
 
 ghost use Rattle.std.specs.Prelude.{◌≡◌, ◌<◌, ◌≤◌, ◌+◌, ◌^◌, true, length, IfOk};
 ghost use Rattle.dom_selectors.specs.declared.syntax.Combinator.TheVariants.{Sibling};
@@ -23,7 +23,8 @@ use dom_select::matcher::compounds::test_compound;
 use dom_selectors::syntax::{Combinator, Compound};
 use dom_trees::node_ref::NodeRef;
 
-/// The nodes of the set that match the compound, whose nested lists match at each of them.
+/// Returns the nodes of the set that the compound selector matches. Its nested lists have to match
+/// each node of the set.
 pub(crate) fn filter_by_compound(
     preorder: &Preorder<'_>,
     compound: &Compound,
@@ -55,7 +56,7 @@ pub(crate) fn filter_by_compound(
     Ok(table)
 }
 
-/// A compound, its type filter, if it has one, and the answers of its nested lists.
+/// A compound selector, its type filter if it has one, and the answers of its nested lists.
 #[derive(Drop)]
 struct PreparedCompound<'c> {
     compound: &'c Compound,
@@ -63,7 +64,8 @@ struct PreparedCompound<'c> {
     answers: Vec<bool>,
 }
 
-/// Whether the node matches the compound; its type alone may decide that. It adds one to `asked`.
+/// Returns whether the compound selector matches the node, which its type alone may decide. It adds
+/// one to `asked`.
 fn compound_holds(
     preorder: &Preorder<'_>,
     prepared: &PreparedCompound<'_>,
@@ -86,7 +88,7 @@ fn compound_holds(
     test_compound(prepared.compound, &node, &prepared.answers, caches, asked)
 }
 
-/// The elements.
+/// Returns the set of elements. Fails only when memory runs out.
 pub(crate) fn elements(preorder: &Preorder<'_>) -> Result<Vec<bool>, OutOfMemory>
     ensures { IfOk result (IsSetWhere preorder.now (λ forest n. element_at forest n ≡ true)) }
 {
@@ -95,7 +97,7 @@ pub(crate) fn elements(preorder: &Preorder<'_>) -> Result<Vec<bool>, OutOfMemory
     Ok(table)
 }
 
-/// Marks the nodes whose bytes are those of elements.
+/// Sets the flags of the nodes whose type bytes are those of elements.
 fn mark_elements(bytes: &[u8], table: &mut Vec<bool>)
     requires { length bytes.now ≡ length table.old.items }
     ensures { AreElements bytes.now table.new.items }
@@ -106,7 +108,7 @@ fn mark_elements(bytes: &[u8], table: &mut Vec<bool>)
     }
 }
 
-/// The intersection with another set.
+/// Intersects the set with another one.
 pub(crate) fn intersect(table: &mut Vec<bool>, other: &[bool])
     requires { length other.now ≡ length table.old.items }
     ensures { IsIntersection table.new.items table.old.items other.now }
@@ -117,8 +119,9 @@ pub(crate) fn intersect(table: &mut Vec<bool>, other: &[bool])
     }
 }
 
-/// Keeps the nodes that may have the type of the compound. Whether all that are kept match it: it
-/// is a type selector alone, and the type byte of each names it.
+/// Removes the nodes that can't have the type of the compound selector. Returns `true` only if all
+/// remaining nodes match it: it is a type selector alone, and the names of these nodes have
+/// numbers.
 pub(crate) fn filter_by_type(
     preorder: &Preorder<'_>,
     compound: &Compound,
@@ -135,7 +138,7 @@ pub(crate) fn filter_by_type(
     wanted.is_all && have_known_types(table, &preorder.type_bytes)
 }
 
-/// The number of nodes in the set.
+/// Returns the number of nodes in the set.
 pub(crate) fn member_count(table: &[bool]) -> usize
     ensures { result ≡ cardinality table.now }
 {
@@ -148,7 +151,7 @@ pub(crate) fn member_count(table: &[bool]) -> usize
     count
 }
 
-/// The union with another set.
+/// Adds the nodes of another set.
 pub(crate) fn unite(table: &mut Vec<bool>, other: &[bool])
     requires { length other.now ≡ length table.old.items }
     ensures { IsUnion table.new.items table.old.items other.now }
@@ -159,7 +162,7 @@ pub(crate) fn unite(table: &mut Vec<bool>, other: &[bool])
     }
 }
 
-/// The complement.
+/// Replaces the set by its complement.
 pub(crate) fn complement(table: &mut Vec<bool>)
     ensures { IsComplement table.new.items table.old.items }
 {
@@ -169,7 +172,7 @@ pub(crate) fn complement(table: &mut Vec<bool>)
     }
 }
 
-/// Keeps the nodes that may be operands of the combinator.
+/// Removes the nodes that may not be operands of the combinator.
 pub(crate) fn intersect_operands(
     preorder: &Preorder<'_>,
     combinator: Combinator,
@@ -184,7 +187,7 @@ pub(crate) fn intersect_operands(
     }
 }
 
-/// Keeps the elements.
+/// Removes the nodes that are no elements.
 fn intersect_elements(preorder: &Preorder<'_>, table: &mut Vec<bool>)
     requires { length table.old.items ≡ length preorder.now.tree.now.content }
     ensures { AreOperands preorder.now.tree.now Sibling table.new.items table.old.items }

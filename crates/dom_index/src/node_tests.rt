@@ -1,4 +1,4 @@
-//! Tests of a compound at one node.
+//! Tests of a compound selector at one node.
 
 ghost use Rattle.std.specs.Prelude.{◌≡◌, ◌<◌, length, slice_get, true, IfSome};
 ghost use Rattle.std.specs.Prelude.{Some};
@@ -19,7 +19,7 @@ use dom_selectors::syntax::Compound;
 use dom_trees::node_ref::NodeRef;
 use dom_trees::tree::Tree;
 
-/// A node of a tree with its type byte.
+/// A node of a tree, with its type byte.
 #[derive(Drop)]
 pub(crate) struct Visited<'t> {
     pub(crate) tree: &'t Tree,
@@ -31,7 +31,7 @@ pub(crate) struct Visited<'t> {
 }
 
 impl<'t> Visited<'t> {
-    /// The node of that number.
+    /// Returns the node with this id.
     #[inline(always)]
     pub(crate) fn new(tree: &'t Tree, id: NodeId) -> Visited<'t>
         requires { id < length tree.now.content }
@@ -42,7 +42,7 @@ impl<'t> Visited<'t> {
         Visited { tree, id, byte }
     }
 
-    /// Whether the node is an element.
+    /// Returns whether the node is an element.
     #[inline(always)]
     pub(crate) fn is_element(&self) -> bool
         ensures { result ≡ element_at self.now.tree.now self.now.id }
@@ -51,7 +51,7 @@ impl<'t> Visited<'t> {
     }
 }
 
-/// A compound and its type filter, if it has one.
+/// A compound selector, and its type filter if it has one.
 #[derive(Drop)]
 pub(crate) struct NodeTest<'c> {
     pub(crate) compound: &'c Compound,
@@ -59,7 +59,7 @@ pub(crate) struct NodeTest<'c> {
 }
 
 impl<'c> NodeTest<'c> {
-    /// The test of a compound.
+    /// Returns the test of a compound selector.
     pub(crate) fn new(compound: &'c Compound) -> NodeTest<'c>
         ensures ready { IsReady result }
         ensures compound { result.compound ≡ compound.entry }
@@ -70,7 +70,8 @@ impl<'c> NodeTest<'c> {
         }
     }
 
-    /// Whether the compound matches the node. The caches are the tree's.
+    /// Returns whether the compound selector matches the node. The caches have to be those of the
+    /// node's tree.
     #[inline(always)]
     pub(crate) fn matches(&self, visited: &Visited<'_>, caches: &mut SelectorCaches<'_>) -> bool
         requires ready { IsReady self.now }
@@ -87,7 +88,8 @@ impl<'c> NodeTest<'c> {
     }
 }
 
-/// Whether a compound with this type filter matches the node, where the type byte decides that.
+/// Returns whether a compound selector with this type filter matches the node, if the type byte
+/// decides that.
 #[inline(always)]
 fn decided_at(visited: &Visited<'_>, wanted: Option<TypeFilter>) -> Option<bool>
     ensures { IfSome result (IsDecidedByType visited.now.tree.now visited.now.id wanted) }

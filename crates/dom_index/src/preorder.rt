@@ -1,12 +1,12 @@
-//! The preorder of a tree's nodes.
+//! The preorder of a tree's nodes, and the traversal that computes it.
 
 ghost use Rattle.std.specs.Prelude.{◌≡◌, ◌<◌, ◌≤◌, ◌+◌, ◌∷◌, ℕ, [], length, map, true};
 ghost use Rattle.std.specs.Prelude.{IfOk, Some};
 ghost use Rattle.dom_links.specs.Forest.{children_of, parent};
 ghost use Rattle.dom_links.specs.Laws.{AreLines, AreTrees};
-ghost use Rattle.dom_links.specs.Lists.{IsDistinct, first, stands_in};
+ghost use Rattle.dom_links.specs.Lists.{IsDistinct, first, is_member};
 ghost use Rattle.dom_links.specs.Sound.{IsForest};
-ghost use Rattle.dom_links.specs.Trees.{ancestors, walk_below};
+ghost use Rattle.dom_links.specs.Trees.{ancestors, descendants_in_order};
 ghost use Rattle.dom_index.specs.TypeBytes.{AreTypeBytes};
 ghost use Rattle.dom_index.specs.Orders.{AreEndsBefore, AreEndsBehind, AreSpans, HasVisitedTo};
 ghost use Rattle.dom_index.specs.Orders.{IsAt, IsOrder, IsTraversed, PlacesMakeOrder};
@@ -21,8 +21,9 @@ use dom_nodes::link::Link;
 use dom_nodes::node_id::NodeId;
 use dom_trees::tree::Tree;
 
-/// A tree, its nodes in preorder with the parent of each, and by number the position of each node,
-/// its subtree end (the last position at or below it) and its type byte.
+/// A tree and its preorder. `order` has the nodes and `above` their parents, by position. The other
+/// lists are indexed by node id: the position of the node, its subtree end (the last position at or
+/// below it), and its type byte.
 #[derive(Drop)]
 pub(crate) struct Preorder<'a> {
     pub(crate) tree: &'a Tree,
@@ -38,7 +39,8 @@ pub(crate) struct Preorder<'a> {
     ghost named: { AreTypeBytes tree.now type_bytes.items },
 }
 
-/// States that a tree is a forest, of no more nodes than can be numbered. It does nothing.
+/// States that a tree is a well-formed forest with no more nodes than there are ids. It does
+/// nothing and is called for its contract.
 pub(crate) fn forest_laws(tree: &Tree)
     ensures forest { IsForest tree.now }
     ensures lines { AreLines tree.now }
@@ -50,7 +52,7 @@ pub(crate) fn forest_laws(tree: &Tree)
     trees_of_a_forest();
 }
 
-/// Whether the node is the first of a run: it has no parent and no previous sibling.
+/// Returns whether the node has no parent and no previous sibling.
 fn starts_run(tree: &Tree, id: NodeId) -> bool
     ensures { result ≡ starts_run tree.now id }
 {
@@ -58,7 +60,7 @@ fn starts_run(tree: &Tree, id: NodeId) -> bool
     parent_id(nodes, &id).is_none() && prev_sibling_id(nodes, &id).is_none()
 }
 
-/// What a traversal has written: by position each visited node and its parent, and by number its
+/// What a traversal has stored: by position each visited node and its parent, and by node id its
 /// position, its subtree end and its type byte.
 #[derive(Drop)]
 struct Traversal {
@@ -74,7 +76,7 @@ struct Traversal {
 const NOT_VISITED: u8 = 253;
 
 impl Traversal {
-    /// A traversal that has visited no node of the tree.
+    /// Returns a traversal that has visited no node of the tree. Fails only when memory runs out.
     fn new(tree: &Tree) -> Result<Traversal, OutOfMemory>
         ensures { IfOk result (HasVisitedTo tree.now 0) }
     {
@@ -90,7 +92,7 @@ impl Traversal {
         })
     }
 
-    /// Visits the node that is next in preorder. Its first child.
+    /// Visits the node that is next in preorder, and returns its first child.
     #[inline(always)]
     fn visit(&mut self, tree: &Tree, id: NodeId) -> Option<NodeId>
         requires { IsAt tree.now id self.old }
@@ -112,8 +114,9 @@ impl Traversal {
     }
 }
 
-/// Writes the position `last`, the last one visited, as the subtree end of a leaf and of each
-/// ancestor whose subtree ends with it. The next node of the run.
+/// Stores `last`, the last position visited, as the subtree end of a leaf and of each ancestor
+/// whose subtree ends with it. Returns the next node, or `None` after the last sibling without a
+/// parent.
 #[inline(always)]
 fn end_subtrees(tree: &Tree, id: NodeId, last: u32, subtree_ends: &mut Vec<u32>) -> Option<NodeId>
     requires known { id < length tree.now.content }
@@ -137,8 +140,8 @@ fn end_subtrees(tree: &Tree, id: NodeId, last: u32, subtree_ends: &mut Vec<u32>)
     None
 }
 
-/// The traversal of all nodes in preorder. A visited node starts no run, so each is looked at once,
-/// but for those of a run that come before its first node by number.
+/// Visits all nodes in preorder. Every node without parent and previous sibling starts a traversal.
+/// A node that was visited is skipped, so each is looked at once or twice.
 fn visit_tree(tree: &Tree) -> Result<Traversal, OutOfMemory>
     ensures { IfOk result (HasVisitedTo tree.now (length tree.now.content)) }
 {
@@ -160,14 +163,15 @@ fn visit_tree(tree: &Tree) -> Result<Traversal, OutOfMemory>
     Ok(traversal)
 }
 
-/// States that a node of an earlier run starts none. It does nothing.
+/// States that a node that was visited with an earlier list of siblings is not the first of one
+/// itself. It does nothing and is called for its contract.
 fn started_laws(tree: &Tree)
     ensures { VisitedStartNoRun tree.now }
 {
     forest_laws(tree);
 }
 
-/// The number as a node's.
+/// Returns the node id for a number.
 pub(crate) fn numbered(tree: &Tree, n: usize) -> NodeId
     requires { n < length tree.now.content }
     ensures { result ≡ n }
@@ -179,7 +183,7 @@ pub(crate) fn numbered(tree: &Tree, n: usize) -> NodeId
     }
 }
 
-/// Visits a node, and writes the subtree ends that are known with it. The next node of the run.
+/// Visits a node, stores the subtree ends that are then known, and returns the next node.
 #[inline(always)]
 fn visit_next(tree: &Tree, id: NodeId, traversal: &mut Traversal) -> Option<NodeId>
     requires { IsAt tree.now id traversal.old }
@@ -199,7 +203,7 @@ fn visit_next(tree: &Tree, id: NodeId, traversal: &mut Traversal) -> Option<Node
     end_subtrees(tree, id, last, &mut traversal.subtree_ends)
 }
 
-/// Visits the nodes of a run, from its first one on.
+/// Visits a list of siblings without a parent and all their descendants, from the first sibling on.
 fn visit_run(tree: &Tree, first: NodeId, traversal: &mut Traversal)
     requires known { first < length tree.now.content }
     requires starts { starts_run tree.now first ≡ true }
@@ -216,7 +220,7 @@ fn visit_run(tree: &Tree, first: NodeId, traversal: &mut Traversal)
 }
 
 impl<'a> Preorder<'a> {
-    /// The preorder of a tree.
+    /// Returns the preorder of a tree. Fails only when memory runs out.
     pub(crate) fn new(tree: &'a Tree) -> Result<Preorder<'a>, OutOfMemory>
         ensures { IfOk result (λ preorder. preorder.tree ≡ tree.entry) }
     {
@@ -242,22 +246,23 @@ impl<'a> Preorder<'a> {
     }
 }
 
-/// States that the preorder has each node once. It does nothing.
+/// States that the preorder contains each node once. It does nothing and is called for its
+/// contract.
 fn order_laws(tree: &Tree)
     ensures long { length (preorder tree.now) ≡ length tree.now.content }
     ensures once { IsDistinct (preorder tree.now) }
-    ensures inside { (n : ℕ) → stands_in n (preorder tree.now) ≡ true
+    ensures inside { (n : ℕ) → is_member n (preorder tree.now) ≡ true
         → n < length tree.now.content }
     ensures all { (n : ℕ) → n < length tree.now.content
-        → stands_in n (preorder tree.now) ≡ true }
+        → is_member n (preorder tree.now) ≡ true }
     ensures order { PlacesMakeOrder tree.now }
 {
     forest_laws(tree);
 }
 
-/// The descendants of a node, in preorder.
+/// Returns the descendants of a node, in document order.
 pub(crate) fn below<'i>(preorder: &'i Preorder<'_>, id: NodeId) -> &'i [NodeId]
-    ensures { result.now ≡ walk_below preorder.now.tree.now id }
+    ensures { result.now ≡ descendants_in_order preorder.now.tree.now id }
 {
     none_below_law(preorder.tree, id);
     let n = id.value();
@@ -269,9 +274,10 @@ pub(crate) fn below<'i>(preorder: &'i Preorder<'_>, id: NodeId) -> &'i [NodeId]
     &preorder.order[first..end]
 }
 
-/// States that an unknown number has no descendants. It does nothing.
+/// States that a node that the tree doesn't have has no descendants. It does nothing and is called
+/// for its contract.
 fn none_below_law(tree: &Tree, id: NodeId)
-    ensures { length tree.now.content ≤ id → walk_below tree.now id ≡ [] }
+    ensures { length tree.now.content ≤ id → descendants_in_order tree.now id ≡ [] }
 {
     forest_laws(tree);
 }

@@ -1,5 +1,5 @@
-//! What a selector selects below some nodes: node by node, in one traversal, or by an index of the
-//! tree, as its structure asks.
+//! Selection below some nodes, by the strategy that suits the selectors: node by node, in one
+//! traversal, or with an index of the tree.
 
 ghost use Rattle.std.specs.Prelude.{◌≡◌, ◌≤◌, ◌∷◌, ◌++◌, ◌+◌, ◌*◌, [], length, IfOk, OnOk};
 ghost use Rattle.dom_select.specs.Selected.{Selected};
@@ -9,8 +9,8 @@ ghost use Rattle.dom_trees.specs.Views.{refs_to};
 
 use crate::counting::count_compounds;
 use crate::index::TreeIndex;
+use crate::strategies::{are_traversed, matches_node_by_node};
 use crate::streaming::select_plain;
-use crate::ways::{are_asked_each, are_traversed};
 use dom_nodes::fault::OutOfMemory;
 use dom_nodes::node_id::NodeId;
 use dom_select::matcher::Matcher;
@@ -18,13 +18,17 @@ use dom_select::matcher::several::select_below_all;
 use dom_trees::node_ref::NodeRef;
 use dom_trees::tree::Tree;
 
-/// The numbers of the elements below the roots that match one of the matcher's selectors, each
-/// once, in the order of the traversals. How they are found depends on the structure of the list,
-/// and on how much is below the roots. Each candidate is asked where it has one node for each
-/// compound at most, or where few nodes in all are above the candidates and, for `~`, beside them
-/// and these. Else flags of the next node to the left, in one traversal, state which compounds are
-/// reached, where the combinators of each selector are whitespace and `>`, or are `+` and `~`. For
-/// other lists an index is made.
+/// Returns the ids of the elements below the roots that one of the matcher's selectors matches,
+/// each once, root by root in document order. Fails only when memory runs out.
+///
+/// The strategy depends on the structure of the selectors and on the size of the tree below the
+/// roots:
+///
+/// - Each node below the roots is matched by itself, if all combinators are `>` and `+`, or if
+///   these nodes have few ancestors in total and, for `~`, few siblings at each level.
+/// - Otherwise one traversal with flags is made, if the combinators of each selector are whitespace
+///   and `>`, or are `+` and `~`, and the list has at most 32 compound selectors.
+/// - For all other selectors, and for nested lists that would repeat tests, an index is made.
 pub fn select_ids(
     tree: &Tree,
     roots: &[NodeId],
@@ -36,9 +40,9 @@ pub fn select_ids(
     select_counted(tree, roots, matcher, &mut tests)
 }
 
-/// The same. It adds to `tests` how many tests of one compound at one node were made, after a
-/// refusal too. What is tested at each candidate is counted for all nodes at once, and a row of
-/// flags as a whole, also where fewer tests do.
+/// Returns what `select_ids` does, and adds to `tests` how many tests of one compound selector at
+/// one node were made, even if the call fails. The tests of candidates are counted for all nodes at
+/// once, and those of a row of flags as a whole, even if fewer were needed.
 pub fn select_counted(
     tree: &Tree,
     roots: &[NodeId],
@@ -58,7 +62,8 @@ pub fn select_counted(
     found
 }
 
-/// The same, or None where the list needs tables; nothing is counted then.
+/// Returns what `select_counted` does, or `None` if the selectors need an index; then no tests are
+/// counted.
 pub(crate) fn select_by_walk(
     tree: &Tree,
     roots: &[NodeId],
@@ -70,7 +75,7 @@ pub(crate) fn select_by_walk(
         ≤ tests.old + selectors_count matcher.now * length tree.now.content }
 {
     let selectors = matcher.selectors();
-    if are_asked_each(tree, roots, selectors) {
+    if matches_node_by_node(tree, roots, selectors) {
         *tests = tests.saturating_add(tests_of_each(tree, matcher));
         return Ok(Some(select_below_all(tree, roots, matcher)?));
     }
@@ -80,7 +85,7 @@ pub(crate) fn select_by_walk(
     Ok(Some(select_plain(tree, roots, selectors, tests)?))
 }
 
-/// One test of each compound at each node.
+/// Returns one test for each compound selector at each node.
 fn tests_of_each(tree: &Tree, matcher: &Matcher) -> u128
     ensures { result ≤ selectors_count matcher.now * length tree.now.content }
 {
@@ -88,7 +93,7 @@ fn tests_of_each(tree: &Tree, matcher: &Matcher) -> u128
     u128::from(compounds).saturating_mul(tree.len() as u128)
 }
 
-/// The nodes of the numbers that `select_ids` returns.
+/// Returns references to the nodes whose ids `select_ids` returns. Fails only when memory runs out.
 pub fn select_nodes<'a>(
     tree: &'a Tree,
     roots: &[NodeId],
@@ -101,7 +106,7 @@ pub fn select_nodes<'a>(
     nodes_of(tree, &ids)
 }
 
-/// The nodes of these numbers.
+/// Returns references to the nodes with these ids.
 pub(crate) fn nodes_of<'a>(tree: &'a Tree, ids: &[NodeId]) -> Result<Vec<NodeRef<'a>>, OutOfMemory>
     ensures { IfOk result (λ nodes. nodes.items ≡ refs_to tree.entry ids.now) }
 {
@@ -113,7 +118,7 @@ pub(crate) fn nodes_of<'a>(tree: &'a Tree, ids: &[NodeId]) -> Result<Vec<NodeRef
     Ok(nodes)
 }
 
-/// Adds a node.
+/// Appends a node reference. Fails only when memory runs out.
 fn push_node<'a>(nodes: &mut Vec<NodeRef<'a>>, node: &NodeRef<'a>) -> Result<(), OutOfMemory>
     ensures { OnOk result (nodes.new.items ≡ nodes.old.items ++ node.now ∷ []) }
 {

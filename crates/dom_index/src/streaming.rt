@@ -1,5 +1,6 @@
-//! Selection below some nodes in one traversal. A node that the last compound of a selector matches
-//! asks for a row of flags, that of the next node to its left: its parent or its previous sibling.
+//! Selection below some nodes in one traversal. Where the last compound selector of a selector
+//! matches a node, a row of flags is needed: that of the next node to its left, which is its parent
+//! or its previous sibling.
 
 ghost use Rattle.std.specs.Prelude.{◌≡◌, ◌<◌, ◌≤◌, ◌+◌, ◌*◌, ◌∷◌, ◌++◌, [], length, true, IfOk};
 ghost use Rattle.std.specs.Prelude.{OnOk, not};
@@ -30,9 +31,9 @@ use dom_select::matcher::several::nodes_below;
 use dom_selectors::syntax::{Combinator, Selector};
 use dom_trees::tree::Tree;
 
-/// Rows of flags, one for each node by its number: the flags of a selector's steps at the nodes
-/// that it is the next one to the left of, which are its children or its next sibling. Those that
-/// `filled` has are filled. `none` is the row at a node that has no node to its left.
+/// Rows of flags, one for each node by its id. The row of a node has the flags of a selector's
+/// steps at the nodes to its right: its children or its next sibling. `filled` says which rows are
+/// filled, and `none` is the row at a node that has no node to its left.
 #[derive(Drop)]
 struct Rows {
     none: Vec<bool>,
@@ -40,16 +41,16 @@ struct Rows {
     filled: Vec<bool>,
 }
 
-/// What the selectors of a traversal share: sibling indexes, and room for nodes whose rows are
-/// still to be filled.
+/// What the selectors of a traversal share: sibling indexes, and room for nodes whose rows still
+/// have to be filled.
 #[derive(Drop)]
 struct Shared<'t> {
     caches: SelectorCaches<'t>,
     missing: Vec<NodeId>,
 }
 
-/// Whether the compound of that number is reached at a node with these flags: the first one is
-/// everywhere.
+/// Returns whether the compound selector at index `i` is reached at a node with these flags; the
+/// first one always is.
 #[inline(always)]
 fn reached_at(flags: &[bool], i: usize) -> bool
     requires { i < length flags.now + 1 }
@@ -61,7 +62,7 @@ fn reached_at(flags: &[bool], i: usize) -> bool
     flags[i - 1]
 }
 
-/// The next node to the left of a node by a combinator: its parent or its previous sibling.
+/// Returns the next node to the left by a combinator: the parent or the previous sibling.
 #[inline(always)]
 fn next_left(tree: &Tree, way: Combinator, id: NodeId) -> Option<NodeId>
     ensures { result ≡ left_of tree.now way id }
@@ -73,7 +74,7 @@ fn next_left(tree: &Tree, way: Combinator, id: NodeId) -> Option<NodeId>
     }
 }
 
-/// Whether left operands of a node that is to the right of this one may be farther to the left.
+/// Returns whether left operands of a node to the right of this one can be farther to the left.
 #[inline(always)]
 fn goes_on(combinator: Combinator, visited: &Visited<'_>) -> bool
     ensures { result ≡ not (ends_at visited.now.tree.now combinator visited.now.id) }
@@ -85,7 +86,7 @@ fn goes_on(combinator: Combinator, visited: &Visited<'_>) -> bool
     }
 }
 
-/// Whether the node may be a left operand: of `+` and `~` an element alone.
+/// Returns whether the node may be a left operand: beside `+` and `~` it has to be an element.
 #[inline(always)]
 fn may_be_operand(combinator: Combinator, visited: &Visited<'_>) -> bool
     ensures { result ≡ may_be_operand visited.now.tree.now combinator visited.now.id }
@@ -96,7 +97,7 @@ fn may_be_operand(combinator: Combinator, visited: &Visited<'_>) -> bool
     }
 }
 
-/// The flag of a step at the nodes to the right of a node, by the flags at the node.
+/// Returns the flag of a step at the nodes to the right of a node, from the flags at the node.
 #[inline(always)]
 fn step_flag(
     chain: &Chain<'_>,
@@ -125,7 +126,7 @@ fn step_flag(
     chain.tests[i].matches(visited, caches)
 }
 
-/// The row of the next node to the left: the flags at the node.
+/// Returns the row of the next node to the left, which has the flags at the node.
 #[inline(always)]
 fn row_left<'r>(chain: &Chain<'_>, rows: &'r Rows, visited: &Visited<'_>) -> &'r [bool]
     requires tracked { IsTracked chain.now visited.now.tree.now rows.now }
@@ -164,7 +165,7 @@ fn fill(chain: &Chain<'_>, rows: &mut Rows, visited: &Visited<'_>, caches: &mut 
     rows.filled[n] = true;
 }
 
-/// Whether the row of that node is filled.
+/// Returns whether the row of the node is filled.
 #[inline(always)]
 fn is_filled(filled: &[bool], id: NodeId) -> bool
     ensures { result ≡ in_set filled.now id }
@@ -175,8 +176,8 @@ fn is_filled(filled: &[bool], id: NodeId) -> bool
     }
 }
 
-/// Lists the nodes to the left of the node whose rows aren't filled, the nearest first, as far as
-/// one whose row is.
+/// Lists the nodes to the left of the node whose rows aren't filled, the nearest first, up to one
+/// whose row is filled.
 #[inline(always)]
 fn find_missing(
     chain: &Chain<'_>,
@@ -201,7 +202,8 @@ fn find_missing(
     Ok(())
 }
 
-/// Fills the row of the next node to the left, and before it those farther on that it needs.
+/// Fills the row of the next node to the left, and before it the rows farther to the left that it
+/// needs.
 fn follow(
     chain: &Chain<'_>,
     rows: &mut Rows,
@@ -223,7 +225,8 @@ fn follow(
     Ok(())
 }
 
-/// Whether the selector matches the node. Rows are asked for only where the last compound does.
+/// Returns whether the selector matches the node. Rows are filled only if the last compound
+/// selector matches.
 #[inline(always)]
 fn visit(
     chain: &Chain<'_>,
@@ -249,7 +252,7 @@ fn visit(
     Ok(reached_at(flags, last))
 }
 
-/// Whether one of the selectors matches the node.
+/// Returns whether one of the selectors matches the node.
 #[inline(always)]
 fn visit_all(
     chains: &[Chain<'_>],
@@ -271,7 +274,7 @@ fn visit_all(
     Ok(false)
 }
 
-/// Whether the node is an element that one of the selectors matches.
+/// Returns whether the node is an element that one of the selectors matches.
 #[inline(always)]
 fn is_selected(
     chains: &[Chain<'_>],
@@ -294,7 +297,7 @@ fn is_selected(
     visit_all(chains, rows, &visited, shared)
 }
 
-/// Rows of which none is filled.
+/// Returns rows of which none is filled. Fails only when memory runs out.
 fn empty_rows(tree: &Tree, chain: &Chain<'_>) -> Result<Rows, OutOfMemory>
     ensures { IfOk result (IsTracked chain.now tree.now) }
 {
@@ -310,7 +313,7 @@ fn empty_rows(tree: &Tree, chain: &Chain<'_>) -> Result<Rows, OutOfMemory>
     })
 }
 
-/// The same for each of the selectors.
+/// Returns empty rows for each of the selectors.
 fn all_empty(tree: &Tree, chains: &[Chain<'_>]) -> Result<Vec<Rows>, OutOfMemory>
     ensures long { IfOk result (λ all. length all.items ≡ length chains.now) }
     ensures tracked { IfOk result (λ all. AreTracked chains.now tree.now all.items) }
@@ -332,7 +335,7 @@ fn push_rows(all: &mut Vec<Rows>, rows: Rows) -> Result<(), OutOfMemory>
     }
 }
 
-/// The elements among those nodes that one of the selectors matches.
+/// Returns those of the nodes that are elements and that one of the selectors matches.
 #[inline(always)]
 fn select_among<I: Iterator<Item = NodeId> + Drop>(
     tree: &Tree,
@@ -356,7 +359,7 @@ fn select_among<I: Iterator<Item = NodeId> + Drop>(
     Ok(matched)
 }
 
-/// The elements below the roots that one of the selectors matches, each once.
+/// Returns the elements below the roots that one of the selectors matches, each once.
 fn select_along(
     tree: &Tree,
     roots: &[NodeId],
@@ -376,7 +379,7 @@ fn select_along(
     select_among(tree, ids, chains, rows, shared)
 }
 
-/// How many tests a selector took: those that are counted for all nodes, and those of filled rows.
+/// Returns how many tests a selector took: those counted for all nodes, and those of filled rows.
 fn chain_tests(chain: &Chain<'_>, rows: &Rows, tree: &Tree) -> u128
     requires prepared { IsPrepared chain.now }
     requires tracked { IsTracked chain.now tree.now rows.now }
@@ -389,7 +392,7 @@ fn chain_tests(chain: &Chain<'_>, rows: &Rows, tree: &Tree) -> u128
         .saturating_add(subject)
 }
 
-/// The same of all selectors.
+/// Returns how many tests all selectors took.
 fn tests_made(chains: &[Chain<'_>], all: &[Rows], tree: &Tree) -> u128
     requires prepared { ArePrepared chains.now }
     requires long { length all.now ≡ length chains.now }
@@ -403,8 +406,9 @@ fn tests_made(chains: &[Chain<'_>], all: &[Rows], tree: &Tree) -> u128
     count
 }
 
-/// The elements below the roots that one of the plain selectors matches, each once. It adds to
-/// `tests` how many tests were made, those of last compounds for all nodes of the tree at once.
+/// Returns the elements below the roots that one of the selectors matches, each once. The
+/// combinators of each selector all have to go the same way. It adds to `tests` how many tests were
+/// made, where the last compound selectors count for all nodes of the tree at once.
 pub(crate) fn select_plain(
     tree: &Tree,
     roots: &[NodeId],

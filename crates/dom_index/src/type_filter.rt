@@ -1,4 +1,4 @@
-//! One byte for the type of each node, and filters by it.
+//! A byte for the type of each node, and filters by it.
 
 ghost use Rattle.std.specs.Prelude.{◌≡◌, ◌<◌, length, true, IfSome};
 ghost use Rattle.dom_links.specs.ListMoves.{element_at};
@@ -18,7 +18,7 @@ pub(crate) const UNKNOWN: u8 = 254;
 /// The byte of a node that is no element.
 pub(crate) const NO_ELEMENT: u8 = 255;
 
-/// The type byte of a node: the number of its name where it has one.
+/// Returns the type byte of a node: the number of its name, if it has one.
 pub(crate) fn type_byte(node: &NodeData) -> u8
     ensures { is_type_byte node.now result ≡ true }
 {
@@ -31,7 +31,7 @@ pub(crate) fn type_byte(node: &NodeData) -> u8
     }
 }
 
-/// Whether the node of that number is an element.
+/// Returns whether the node with this id is an element.
 pub(crate) fn is_element_at(preorder: &Preorder<'_>, n: usize) -> bool
     requires { n < length preorder.now.tree.now.content }
     ensures { result ≡ element_at preorder.now.tree.now n }
@@ -39,14 +39,16 @@ pub(crate) fn is_element_at(preorder: &Preorder<'_>, n: usize) -> bool
     preorder.type_bytes[n] != NO_ELEMENT
 }
 
-/// The number of a compound's type selector, and whether the compound has no other part.
+/// The number of the name in a compound selector's type selector, and whether the compound selector
+/// has no other part.
 #[derive(Clone, Copy)]
 pub(crate) struct TypeFilter {
     pub(crate) number: u8,
     pub(crate) is_all: bool,
 }
 
-/// The number of the name that elements of every namespace have to match a type selector.
+/// Returns the number of the name that elements of every namespace need to match a type selector
+/// with this name.
 fn type_number(name: &SelectorName) -> Option<u8>
     ensures { IfSome result (IsNumberOf name.now) }
 {
@@ -57,7 +59,8 @@ fn type_number(name: &SelectorName) -> Option<u8>
     folded.number()
 }
 
-/// The filter of the type selector that the compound begins with, if its name has a number.
+/// Returns the filter for the type selector with which the compound selector starts, if its name
+/// has a number.
 pub(crate) fn type_filter_of(compound: &Compound) -> Option<TypeFilter>
     ensures { IfSome result (IsTypeFilterOf (read_compound compound.now)) }
 {
@@ -69,7 +72,7 @@ pub(crate) fn type_filter_of(compound: &Compound) -> Option<TypeFilter>
     Some(TypeFilter { number, is_all })
 }
 
-/// Whether the compound is one part and nothing else.
+/// Returns whether the compound selector is one simple selector and nothing else.
 fn is_one_part(compound: &Compound) -> bool
     ensures { result ≡ true → IsOnePart compound.now }
 {
@@ -79,7 +82,7 @@ fn is_one_part(compound: &Compound) -> bool
     compound.parts.len() == 1
 }
 
-/// Keeps the nodes whose byte is that number, or of a name without one.
+/// Removes the nodes whose byte is neither this number nor that of a name without a number.
 pub(crate) fn intersect_type(table: &mut Vec<bool>, bytes: &[u8], number: u8)
     requires { length bytes.now ≡ length table.old.items }
     ensures { IsFilteredByType bytes.now number table.new.items table.old.items }
@@ -91,7 +94,7 @@ pub(crate) fn intersect_type(table: &mut Vec<bool>, bytes: &[u8], number: u8)
     }
 }
 
-/// Whether the name of each node in the set has a number.
+/// Returns whether the names of all nodes in the set have numbers.
 pub(crate) fn have_known_types(table: &[bool], bytes: &[u8]) -> bool
     requires { length bytes.now ≡ length table.now }
     ensures { result ≡ true → HaveKnownTypes bytes.now table.now (length table.now) }
@@ -103,7 +106,8 @@ pub(crate) fn have_known_types(table: &[bool], bytes: &[u8]) -> bool
     !unknown
 }
 
-/// Whether a compound with this type filter matches a node, where its type byte decides that.
+/// Returns whether a compound selector with this type filter matches a node, if the node's type
+/// byte decides that.
 #[inline(always)]
 pub(crate) fn decided(byte: u8, wanted: Option<TypeFilter>) -> Option<bool>
     ensures { IfSome result (IsDecidedByByte byte wanted) }
@@ -121,7 +125,7 @@ pub(crate) fn decided(byte: u8, wanted: Option<TypeFilter>) -> Option<bool>
     Some(true)
 }
 
-/// The same of the node of that number.
+/// Returns the answer of `decided` for the node with this id.
 pub(crate) fn decided_by_type(
     preorder: &Preorder<'_>,
     n: usize,

@@ -1,4 +1,4 @@
--- Nodes are cut out and put elsewhere.
+-- Nodes are detached and put elsewhere.
 pub mod Attach
 pub mod Cuts
 pub mod Kept

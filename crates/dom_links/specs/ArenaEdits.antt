@@ -1,4 +1,4 @@
--- Edits of an arena that may be refused.
+-- Edits of an arena that may fail.
 use Rattle.std.specs.Prelude.{ℕ, ◌≡◌, ◌+◌, Result, IfErr, IfOk, OnErr, OnOk, vec_len}
 use Rattle.std.specs.Global.{Vec}
 use Rattle.dom_nodes.specs.declared.fault.EditFault.{EditFault}
@@ -8,13 +8,14 @@ use Rattle.dom_links.specs.Forest.{Forest, forest_of}
 use Rattle.dom_links.specs.Growth.{DataCause, HasFreeContents, MayAppend, NodeCause, with_child, with_node}
 use Rattle.dom_links.specs.Sound.{IsSoundArena}
 
--- An edit: the forest that it leaves, when it is allowed, and the cause that a fault states of its refusal
+-- An edit: the forest that it leaves, the condition under which it is allowed, and what must be
+-- true when it fails with a fault.
 pub record TreeEdit : Type 1 where
   pub after : Forest → Forest
   pub Allowed : Forest → Type 0
   pub Cause : Forest → EditFault → Type 0
 
--- a node is made, which stands alone
+-- Making a detached node.
 abbrev pub making : NodeData → TreeEdit
 making content = record {
   after = with_node content;
@@ -22,7 +23,7 @@ making content = record {
   Cause = λ forest fault. NodeCause forest content fault;
 }
 
--- a node is made as the last child of t
+-- Making a node as the last child of t.
 abbrev pub appending : ℕ → NodeData → TreeEdit
 appending t content = record {
   after = with_child t content;
@@ -30,14 +31,16 @@ appending t content = record {
   Cause = λ forest fault. DataCause forest t content fault;
 }
 
--- the arena becomes that of another forest; or this is refused for a cause, and nothing changes
+-- The result of an edit without a value. On success the arena holds the forest `after`; on an error
+-- nothing changes and the fault has its cause.
 pub record Becomes (result : Result Unit EditFault) (old new : Vec TreeNode) (after : Forest → Forest) (Cause : Forest → EditFault → Type 0) : Type 0 where
   pub made : OnOk result (forest_of new.items ≡ after (forest_of old.items))
   pub err : OnErr result (new.items ≡ old.items)
   pub cause : IfErr result (Cause (forest_of old.items))
   pub sound : IsSoundArena new.items
 
--- an edit makes a node, and returns the next number; or it is refused with its cause, and nothing changes
+-- The result of an edit that makes a node. On success the arena holds the edited forest and the
+-- result is the next id; on an error nothing changes and the fault has its cause.
 pub record MakesNode (result : Result ℕ EditFault) (old new : Vec TreeNode) (edit : TreeEdit) : Type 0 where
   pub made : OnOk result (forest_of new.items ≡ edit.after (forest_of old.items))
   pub number : IfOk result (λ id. id ≡ vec_len old)
@@ -46,8 +49,9 @@ pub record MakesNode (result : Result ℕ EditFault) (old new : Vec TreeNode) (e
   pub cause : IfErr result (edit.Cause (forest_of old.items))
   pub sound : IsSoundArena new.items
 
--- So many nodes come to the end of the arena, and the number of the first is returned; or they lack room, and nothing changes.
--- The cause that a fault states of that depends on how many nodes there were
+-- The result of appending `count` nodes to the arena. On success the result is the id of the first
+-- one; on an error nothing changes. The cause of the fault may depend on the number of nodes
+-- before.
 pub record AddsNodes (result : Result ℕ EditFault) (old new : Vec TreeNode) (count : ℕ) (Cause : ℕ → EditFault → Type 0) : Type 0 where
   pub number : IfOk result (λ id. id ≡ vec_len old)
   pub grown : OnOk result (vec_len new ≡ vec_len old + count)

@@ -1,18 +1,20 @@
--- What copies are: the trees of the nodes that were copied, with numbers of their own.
+-- Copies are equal to the trees that were copied, with new ids.
 use Rattle.std.specs.Prelude.{ℕ, ◌≡◌, ◌+◌, List, Some, length, slice_get}
 use Rattle.dom_links.specs.Copies.{Extends, copied, copied_data, copy_numbers, data_at, node_count}
 use Rattle.dom_links.specs.Forest.{Forest}
 use Rattle.dom_links.specs.Sound.{IsForest}
 use Rattle.dom_links.specs.Trees.{NoTrees, Tree, Trees, trees}
 
--- trees with their nodes numbered from k on: a node, its contents, its children, the later trees
+-- The trees with new ids from k on, in this order: a node, its template contents, its children, the
+-- later trees.
 abbrev pub renumbered : ℕ → Trees → Trees
 renumbered k NoTrees = NoTrees
 renumbered k (Tree n contents children later) =
     Tree k (renumbered (k + 1) contents) (renumbered (k + 1 + node_count contents) children)
     (renumbered (k + node_count (Tree n contents children NoTrees)) later)
 
--- the nodes that are so numbered hold what those of the trees hold, but for the numbers of contents
+-- The nodes with these new ids hold the data of the nodes of the trees, apart from the ids of
+-- template contents.
 abbrev pub HoldCopies : Forest → Trees → ℕ → Forest → Type 0
 HoldCopies source NoTrees k forest = Unit {0}
 HoldCopies source (Tree n contents children later) k forest =
@@ -22,7 +24,8 @@ HoldCopies source (Tree n contents children later) k forest =
     × HoldCopies source children (k + 1 + node_count contents) forest
     × HoldCopies source later (k + node_count (Tree n contents children NoTrees)) forest
 
--- nodes of a source were copied: all that stood in the forest stays, and the copies are the same trees, numbered on
+-- Nodes of the forest `source` were copied into `forest`: all old nodes stay as they were, and the
+-- copies are equal to their originals, with consecutive new ids.
 pub record AreCopies (source : Forest) (ns : List ℕ) (forest : Forest) : Type 0 where
   pub fine : IsForest (copied source ns forest)
   pub kept : Extends forest (copied source ns forest)

@@ -1,4 +1,4 @@
--- Copies of nodes, with all that is below them.
+-- Copies of nodes with their subtrees.
 use Rattle.std.specs.Prelude.{ℕ, ◌≡◌, ◌<◌, ◌≤◌, ◌+◌, true, List, [], ◌∷◌, Option, Some, None, Result, IfErr, IfOk, OnErr, OnOk, length, false, slice_get, slice_index_or}
 use Rattle.std.specs.Option.{option_map, option_map_or}
 use Rattle.std.specs.List.{AllByRecursion}
@@ -15,25 +15,27 @@ use Rattle.dom_links.specs.ListMoves.{SomeOf}
 use Rattle.dom_links.specs.Sound.{IsSoundArena}
 use Rattle.dom_links.specs.Trees.{NoTrees, Tree, Trees, trees}
 
--- the same data, but for the fragment that an element names as its contents
+-- The data with the template contents of an element replaced.
 abbrev pub with_contents : Option ℕ → NodeData → NodeData
 with_contents contents (Element element) = Element (record element { template_contents = contents })
 with_contents contents content = content
 
--- the data of a copy with the number k: contents that it names are copied right after it
+-- The data of a copy with the id k. If it has template contents, their copy gets the next id.
 abbrev pub copied_data : ℕ → NodeData → NodeData
 copied_data k content = with_contents (option_map (λ _. k + 1) (contents_named content)) content
 
--- the forest with a new node, as the last child of p, or standing alone
+-- The forest with a new node, as the last child of p or detached.
 abbrev pub with_node_below : Option ℕ → NodeData → Forest → Forest
 with_node_below None content forest = with_node content forest
 with_node_below (Some p) content forest = with_child p content forest
 
+-- The data of node n in the source.
 abbrev pub data_at : Forest → ℕ → NodeData
 data_at source n = slice_index_or source.content n Fragment
 
--- The forest with copies of trees of a source: each root as the last child of p, or standing alone, then the copies of its
--- contents, then those of its children below it, then those of the later trees
+-- The forest with copies of trees of a source. Each root becomes the last child of p, or is
+-- detached. After it come the copies of its template contents, then those of its children, then
+-- those of the later trees.
 abbrev pub with_copies : Forest → Option ℕ → Trees → Forest → Forest
 with_copies source p NoTrees forest = forest
 with_copies source p (Tree n contents children later) forest =
@@ -42,61 +44,66 @@ with_copies source p (Tree n contents children later) forest =
     (with_copies source None contents
     (with_node_below p (copied_data (length forest.content) (data_at source n)) forest)))
 
--- the forest with copies of some nodes of a source, with all that is below them, as the last children of p, or each standing
--- alone
+-- The forest with copies of the nodes `ns` of a source with their subtrees, as the last children of
+-- p or each detached.
 abbrev pub copied_below : Forest → Option ℕ → List ℕ → Forest → Forest
 copied_below source p ns forest = with_copies source p (trees source ns) forest
 
--- the same, each a run of its own
+-- The forest with copies of the nodes `ns` of a source with their subtrees, each detached.
 abbrev pub copied : Forest → List ℕ → Forest → Forest
 copied source ns forest = copied_below source None ns forest
 
--- how many nodes trees have, their contents too
+-- The number of nodes in the trees, template contents included.
 abbrev pub node_count : Trees → ℕ
 node_count NoTrees = 0
 node_count (Tree n contents children later) = 1 + node_count contents + node_count children + node_count later
 
--- the numbers of the roots of trees, where all their nodes are numbered from k on
+-- The ids of the roots if all nodes of the trees are numbered from k on.
 abbrev pub root_numbers : ℕ → Trees → List ℕ
 root_numbers k NoTrees = []
 root_numbers k (Tree n contents children later) = k ∷ root_numbers (k + node_count (Tree n contents children NoTrees)) later
 
--- the numbers of the copies of some nodes
+-- The ids that the copies of the nodes `ns` get.
 abbrev pub copy_numbers : Forest → List ℕ → Forest → List ℕ
 copy_numbers source ns forest = root_numbers (length forest.content) (trees source ns)
 
--- what stood in the old forest stands in the new one as it was; there may be more nodes
+-- The new forest has all nodes of the old one, with the same data, children and runs. It may have
+-- more nodes.
 pub record Extends (old new : Forest) : Type 0 where
   pub longer : length old.content ≤ length new.content
   pub contents : (n : ℕ) → n < length old.content → slice_get new.content n ≡ slice_get old.content n
   pub children : (n : ℕ) → n < length old.content → children_of new n ≡ children_of old n
   pub runs : (n : ℕ) → n < length old.content → run_of new n ≡ run_of old n
 
--- the node is known, and no document or fragment
+-- The node exists and is no document and no fragment.
 pub record MayCopyOne (source : Forest) (n : ℕ) : Type 0 where
   pub known : n < length source.content
   pub no_top : option_map_or is_top (slice_get source.content n) false ≡ false
 
+-- Each of the nodes may be copied.
 abbrev pub MayCopy : Forest → List ℕ → Type 0
 MayCopy source ns = AllByRecursion (MayCopyOne source) ns
 
--- why a node can't be copied
+-- When copying a node may fail: `UnknownNode` for an unknown id, `RootOrFragment` for a document or
+-- a fragment.
 abbrev pub OneCause : Forest → ℕ → EditFault → Type 0
 OneCause source n UnknownNode = length source.content ≤ n
 OneCause source n RootOrFragment = option_map_or is_top (slice_get source.content n) false ≡ true
 OneCause source n _ = ⊥
 
--- why one of some nodes can't be copied
+-- When testing several nodes may fail: one of them has this fault.
 abbrev pub CheckCause : Forest → List ℕ → EditFault → Type 0
 CheckCause source ns fault = SomeOf ns (λ n. OneCause source n fault)
 
--- why nodes of a source aren't copied: one of them can't be, there are no numbers for all copies, or there was no memory
+-- When copying may fail: a node can't be copied, there aren't enough ids for all copies, or memory
+-- is refused.
 abbrev pub CopyCause : Forest → List ℕ → Forest → EditFault → Type 0
 CopyCause source ns forest TooManyNodes = 4294967295 < length (copied source ns forest).content
 CopyCause source ns forest Memory = Unit {0}
 CopyCause source ns forest fault = CheckCause source ns fault
 
--- nodes of a source are copied into an arena, and what is returned names their copies; or nothing changes
+-- The result of copying nodes into an arena. On success, `named` gives the ids of the copies from
+-- the result; on an error the forest is unchanged.
 pub record CopiesNodes {A : Type 0} (named : A → List ℕ) (result : Result A EditFault) (source : Forest) (old new : List TreeNode) (ns : List ℕ) : Type 0 where
   pub made : OnOk result (forest_of new ≡ copied source ns (forest_of old))
   pub numbers : IfOk result (λ made. named made ≡ copy_numbers source ns (forest_of old))
@@ -105,25 +112,27 @@ pub record CopiesNodes {A : Type 0} (named : A → List ℕ) (result : Result A 
   pub cause : IfErr result (CopyCause source ns (forest_of old))
   pub sound : IsSoundArena new
 
--- the copies' numbers are returned
+-- The result of `merge` and `copy_nodes`: the ids of the copies are returned.
 abbrev pub Copied : Result (Vec ℕ) EditFault → Forest → List TreeNode → List TreeNode → List ℕ → Type 0
 Copied result source old new ns = CopiesNodes (λ made. made.items) result source old new ns
 
--- the number of the one copy is returned
+-- The result of `merge_one`: the id of the one copy is returned.
 abbrev pub CopiedOne : Result ℕ EditFault → Forest → List TreeNode → List TreeNode → List ℕ → Type 0
 CopiedOne result source old new ns = CopiesNodes (λ made. made ∷ []) result source old new ns
 
--- a fragment: its root, the element below that, and copies of some nodes of a source below the element
+-- A fragment as the root, with the element `html` as its child, and copies of nodes of a source as
+-- the children of that.
 abbrev pub fragment_of : NodeData → Forest → List ℕ → Forest
 fragment_of html source ns = copied_below source (Some 1) ns (with_child 0 html (lone Fragment))
 
--- why there is none
+-- When making such a fragment may fail: a node can't be copied, there aren't enough ids, or memory
+-- is refused.
 abbrev pub FragmentCause : NodeData → Forest → List ℕ → EditFault → Type 0
 FragmentCause html source ns TooManyNodes = 4294967295 < length (fragment_of html source ns).content
 FragmentCause html source ns Memory = Unit {0}
 FragmentCause html source ns fault = CheckCause source ns fault
 
--- an element that names no contents
+-- An element without template contents.
 pub record IsPlainElement (content : NodeData) : Type 0 where
   pub element : is_element content ≡ true
   pub no_contents : contents_named content ≡ None

@@ -1,4 +1,5 @@
--- Copies that are being made: what is read, and what is still to be copied.
+-- The state of a copy in progress: what is read, and what is still to be copied. These definitions
+-- appear in no contract of a public function.
 use Rattle.std.specs.Prelude.{ℕ, ◌≡◌, ◌≢◌, ◌<◌, ◌≤◌, ◌+◌, ◌⊎◌, false, List, [], ◌∷◌, Option, Some, None, Result, IfErr, IfOk, OnOk, length, vec_len}
 use Rattle.std.specs.Global.{Vec}
 use Rattle.std.specs.List.{AllByRecursion}
@@ -15,22 +16,24 @@ use Rattle.dom_links.specs.Trees.{trees}
 use Rattle.dom_links.specs.Walk.{row_on}
 use Rattle.dom_links.specs.declared.ops.copies.Row.{Row}
 
--- the forest that is copied from, and the one that is copied into, both as they were
+-- The two forests at the beginning: the one that is copied from, and the one that is copied into.
 pub record Copying : Type 0 where
   pub source : Forest
   pub base : Forest
 
--- the nodes that are read: those of another arena, or those among which the copies are made
+-- The nodes that are read: those of another arena, or those of the arena that the copies are added
+-- to.
 abbrev pub read_nodes : Option (Bor (List TreeNode)) → List TreeNode → List TreeNode
 read_nodes None nodes = nodes
 read_nodes (Some other) nodes = other.now
 
--- there the source is read
+-- The nodes that are read are those of the source.
 abbrev pub IsRead : Copying → Option (Bor (List TreeNode)) → Type 0
 IsRead copying None = copying.source ≡ copying.base
 IsRead copying (Some other) = IsArenaOf copying.source other.now
 
--- copies have been made of nodes of the source, and all that stood there before stays
+-- The invariant of the copy: copies have been added, and all nodes of the beginning are as they
+-- were.
 pub record IsUnderWay (copying : Copying) (other : Option (Bor (List TreeNode))) (nodes : List TreeNode) : Type 0 where
   pub good : IsForest copying.source
   pub linked : IsArenaOf (forest_of nodes) nodes
@@ -38,57 +41,59 @@ pub record IsUnderWay (copying : Copying) (other : Option (Bor (List TreeNode)))
   pub kept : Extends copying.base (forest_of nodes)
   pub read : IsRead copying other
 
--- no copy has been made yet, and the nodes may be copied
+-- The condition at the beginning: no copy was made yet, and the nodes may be copied.
 abbrev pub CanBegin : Copying → Option (Bor (List TreeNode)) → List TreeNode → List ℕ → Type 0
 CanBegin copying other nodes ns =
     IsSoundArena nodes × IsUnderWay copying other nodes × (copying.base ≡ forest_of nodes) × MayCopy copying.source ns
 
--- the row begins at a node of the source, and goes below a copy
+-- A row begins at a node of the source, and its copies become children of a copy.
 pub record IsRow (copying : Copying) (count : ℕ) (row : Row) : Type 0 where
   pub known : row.first < length copying.source.content
   pub new : length copying.base.content ≤ row.parent
   pub made : row.parent < count
 
--- there a copy can be put: below another copy, or to stand alone
+-- A copy may be put there: below another copy, or detached.
 abbrev pub IsPlaceFor : Copying → ℕ → Option ℕ → Type 0
 IsPlaceFor copying count None = Unit {0}
 IsPlaceFor copying count (Some p) = (length copying.base.content ≤ p) × (p < count)
 
+-- All entries of the stack are such rows.
 abbrev pub AreRows : Copying → ℕ → List Row → Type 0
 AreRows copying count rows = AllByRecursion (IsRow copying count) rows
 
--- the forest with copies of the nodes of a row
+-- The forest with copies of the nodes of a row.
 abbrev pub with_row : Forest → Row → Forest → Forest
 with_row source row forest = with_copies source (Some row.parent) (trees source (row_on source false (Some row.first))) forest
 
--- the forest with copies of the nodes of some rows, those of the last row first
+-- The forest with copies of the nodes of several rows, those of the last row first.
 abbrev pub with_rows : Forest → List Row → Forest → Forest
 with_rows source [] forest = forest
 with_rows source (row ∷ rows) forest = with_row source row (with_rows source rows forest)
 
--- the row that begins there, if any
+-- The row that begins at this node, if there is one.
 abbrev pub row_from : Option ℕ → ℕ → List Row
 row_from None parent = []
 row_from (Some first) parent = record { first = first; parent = parent } ∷ []
 
--- there are no numbers for the copy of this data at that number and its contents, or there was no memory
+-- When copying a node's data to this id may fail: there are no ids for the copy and its template
+-- contents, or memory is refused.
 abbrev pub LacksRoom : ℕ → NodeData → EditFault → Type 0
 LacksRoom number content TooManyNodes = (4294967295 ≤ number) ⊎ ((4294967295 ≤ number + 1) × (contents_named content ≢ None))
 LacksRoom number content Memory = Unit {0}
 LacksRoom number content _ = ⊥
 
--- the forest has more nodes than there are numbers, or there was no memory
+-- When a copy may fail: the forest would have more nodes than there are ids, or memory is refused.
 abbrev pub IsTooLarge : Forest → EditFault → Type 0
 IsTooLarge forest TooManyNodes = 4294967295 < length forest.content
 IsTooLarge forest Memory = Unit {0}
 IsTooLarge forest _ = ⊥
 
--- a copy of the node can be put there
+-- A copy of the node may be put there.
 pub record CanGoBelow (copying : Copying) (count : ℕ) (n : ℕ) (parent : Option ℕ) : Type 0 where
   pub known : n < length copying.source.content
   pub place : IsPlaceFor copying count parent
 
--- a node is copied alone, below a copy or to stand alone, and its copy's number is returned
+-- The result of copying one node without its subtree.
 pub record CopiesAlone (copying : Copying) (other : Option (Bor (List TreeNode))) (result : Result ℕ EditFault) (old new : Vec TreeNode) (n : ℕ) (parent : Option ℕ) : Type 0 where
   pub under_way : IsUnderWay copying other new.items
   pub made : OnOk result (forest_of new.items ≡ with_node_below parent (copied_data (vec_len old) (data_at copying.source n)) (forest_of old.items))
@@ -96,7 +101,8 @@ pub record CopiesAlone (copying : Copying) (other : Option (Bor (List TreeNode))
   pub grown : OnOk result (vec_len new ≡ vec_len old + 1)
   pub cause : IfErr result (LacksRoom (vec_len old) (data_at copying.source n))
 
--- copies are made, of which some are still to come: those of the nodes of rows that are noted
+-- The result of copying nodes of which some are still on the stack: with the copies of the rows
+-- that were pushed, the forest will be `after`.
 pub record CopiesAndNotes {A : Type 0} (copying : Copying) (other : Option (Bor (List TreeNode))) (result : Result A EditFault) (old new : Vec TreeNode) (rows noted : List Row) (after : Forest → Forest) : Type 0 where
   pub under_way : IsUnderWay copying other new.items
   pub are_rows : OnOk result (AreRows copying (vec_len new) noted)
@@ -104,12 +110,13 @@ pub record CopiesAndNotes {A : Type 0} (copying : Copying) (other : Option (Bor 
   pub grown : OnOk result (vec_len old < vec_len new)
   pub cause : IfErr result (IsTooLarge (after (forest_of old.items)))
 
--- copies are made, and the forest is then this one; or it is too large, or there was no memory
+-- The result of copying everything: the forest is `after`; or it would be too large, or memory is
+-- refused.
 pub record CopiesAll {A : Type 0} (copying : Copying) (other : Option (Bor (List TreeNode))) (result : Result A EditFault) (old new : Vec TreeNode) (after : Forest → Forest) : Type 0 where
   pub under_way : IsUnderWay copying other new.items
   pub made : OnOk result (forest_of new.items ≡ after (forest_of old.items))
   pub cause : IfErr result (IsTooLarge (after (forest_of old.items)))
 
--- each of the nodes is the forest's
+-- Each of the ids is that of a node of the forest.
 abbrev pub AreNodesOf : Forest → List ℕ → Type 0
 AreNodesOf forest ns = AllByRecursion (λ n. n < length forest.content) ns

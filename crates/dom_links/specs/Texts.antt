@@ -1,4 +1,4 @@
--- The texts of nodes.
+-- The text of nodes.
 use Rattle.std.specs.Prelude.{ℕ, ◌≡◌, ◌+◌, ◌-◌, ◌^◌, nat_lt, min, Bool, true, false, List, [], ◌∷◌, slice_get, length, if◌then◌else◌}
 use Rattle.std.specs.Char.{is_whitespace}
 use Rattle.std.specs.List.{flat_map}
@@ -8,26 +8,29 @@ use Rattle.dom_nodes.specs.Ascii.{space}
 use Rattle.dom_nodes.specs.declared.node_data.NodeData.{NodeData}
 use Rattle.dom_nodes.specs.declared.node_data.NodeData.TheVariants.{Text}
 use Rattle.dom_links.specs.Forest.{Forest, children_of}
-use Rattle.dom_links.specs.Trees.{walk_below}
+use Rattle.dom_links.specs.Trees.{descendants_in_order}
 
--- what a text holds; other nodes hold none
+-- The contents of a text node; nothing for other nodes.
 abbrev pub text_in : NodeData → List ℕ
 text_in (Text contents) = contents
 text_in _ = []
 
+-- The contents of node n if it is a text; otherwise nothing.
 abbrev pub text_at : Forest → ℕ → List ℕ
 text_at forest n = option_map_or text_in (slice_get forest.content n) []
 
--- the texts at n and below, in the order of the walk, joined; nothing for an unknown number
+-- The text of n: the contents of all texts in its subtree, in document order, joined; nothing for
+-- an unknown id.
 abbrev pub text_of : Forest → ℕ → List ℕ
-text_of forest n = flat_map (text_at forest) (n ∷ walk_below forest n)
+text_of forest n = flat_map (text_at forest) (n ∷ descendants_in_order forest n)
 
--- the texts among n and its children, joined
+-- The contents of the texts among n and its children, joined.
 abbrev pub immediate_text_of : Forest → ℕ → List ℕ
 immediate_text_of forest n = flat_map (text_at forest) (n ∷ children_of forest n)
 
--- characters after others: each run of whitespace before a further one is one space, one at the end is nothing.
--- `begun` says that a character stands before, `gap` that whitespace stands between
+-- The rest of a collapsed text: white space before a further character becomes one space, and white
+-- space at the end is dropped. `begun` is true after a character, and `gap` after white space
+-- behind a character.
 abbrev pub collapsed_on : (begun gap : Bool) → List ℕ → List ℕ
 collapsed_on begun gap [] = []
 collapsed_on begun gap (c ∷ cs) =
@@ -35,16 +38,16 @@ collapsed_on begun gap (c ∷ cs) =
     else if gap then space ∷ c ∷ collapsed_on true false cs
     else c ∷ collapsed_on true false cs
 
--- the characters of a text, each run of whitespace as one space, and none at the ends
+-- The characters of a text with each sequence of white space as one space, and none at the ends.
 abbrev pub collapsed : List ℕ → List ℕ
 collapsed text = collapsed_on false false (chars text)
 
--- a count of 64 bits: it saturates at the greatest one
+-- A count in 64 bits: larger counts become the largest number.
 abbrev pub saturated : ℕ → ℕ
 saturated count = min count (2 ^ 64 - 1)
 
--- so many characters of a collapsed text were counted, and the bytes that are left make them up to the total: `gap` says that
--- whitespace stands between
+-- The state of a count: `count` characters of a collapsed text were counted, and the bytes `left`
+-- make it up to `total`. `gap` is true after white space.
 pub record IsCounting (count : ℕ) (gap : Bool) (left : List ℕ) (total : ℕ) : Type 0 where
   pub exact : ℕ
   pub is_saturated : count ≡ saturated exact

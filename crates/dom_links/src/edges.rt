@@ -1,4 +1,5 @@
-//! A traversal that comes to each node twice, before and after what is inside it.
+//! A traversal that visits each node twice: before everything inside it and after it. It is an
+//! explicit stack instead of a recursion, so its depth isn't limited by the call stack.
 
 ghost use Rattle.std.specs.Prelude.{◌≡◌, ◌∷◌, ◌++◌, [], IfOk, MatchOption, None, OnOk};
 ghost use Rattle.std.specs.Prelude.{if◌then◌else◌};
@@ -19,16 +20,18 @@ use dom_nodes::node_id::NodeId;
 use std::alloc::Global;
 use std::marker::{Model, PhantomData};
 
-/// Where a traversal comes to a node: before what is inside it, or after that.
+/// One step of a traversal: it enters a node before everything inside the node, and leaves it
+/// afterwards.
 #[derive(Clone, Copy)]
 pub enum Edge {
-    /// The node begins; `marked` is the mark that its parent gives.
+    /// The traversal enters the node. `marked` is what `Descent::mark` says of its parent; it is
+    /// false for a node without a parent.
     Open { id: NodeId, marked: bool },
-    /// The node ends.
+    /// The traversal leaves the node.
     Close { id: NodeId },
 }
 
-/// What a traversal enters of a node. Where nothing is entered the node has no closing edge.
+/// What a traversal visits inside a node. For `Nothing` there is no closing edge either.
 #[derive(Clone, Copy)]
 pub enum Entered {
     Nothing,
@@ -37,37 +40,38 @@ pub enum Entered {
     All,
 }
 
-/// Which nodes a traversal enters, and what it knows of their children.
+/// Decides what a traversal visits inside a node, and which mark it hands to the node's children.
 pub trait Descent {
     ghost use Rattle.dom_links.specs.Edges.{Descending};
 
     ghost descending: { Descending };
 
-    /// What is entered of a node.
+    /// Returns what is visited inside a node with this data.
     fn inside(content: &NodeData) -> Entered
         ensures { result ≡ descending.inside content.now };
 
-    /// The mark that a node gives its children.
+    /// Returns the mark that the children of a node with this data get.
     fn mark(content: &NodeData) -> bool
         ensures { result ≡ descending.mark content.now };
 }
 
-/// What is still to come.
+/// An entry of the stack: a part of the traversal that is still to come.
 #[derive(Clone, Copy)]
 enum Entry {
-    /// The edges of a node, and of its later siblings too unless it is `alone`.
+    /// A node with everything inside it, and also its later siblings unless it is `alone`.
     Row {
         first: NodeId,
         marked: bool,
         alone: bool,
     },
-    /// The closing edge of a node.
+    /// The step that leaves a node.
     End {
         id: NodeId,
     },
 }
 
-/// The edges of nodes, in order. Each node is pushed and popped once.
+/// The steps of a traversal, in order. Each node takes at most two pushes, so the traversal is
+/// linear in the number of nodes. In a contract it is the list of the steps that are left.
 #[derive(Drop)]
 pub struct NodeEdges<'a, D: Descent> {
     nodes: &'a [TreeNode],
@@ -90,7 +94,8 @@ impl<'a, D: Descent> Model for NodeEdges<'a, D> {
 }
 
 impl<'a, D: Descent> NodeEdges<'a, D> {
-    /// The edges of the node; only an opening for an unknown number.
+    /// Returns the traversal of one node with everything inside it. For an unknown id the only step
+    /// is `Open`. It fails with `OutOfMemory` when memory is refused.
     pub fn of_node(alloc: Global, nodes: &'a [TreeNode], id: NodeId) -> Result<Self, OutOfMemory>
         requires { IsSoundArena nodes.now }
         ensures { IfOk result (λ edges. edges ≡ node_edges D.descending (forest_of nodes.now) id) }
@@ -100,7 +105,8 @@ impl<'a, D: Descent> NodeEdges<'a, D> {
         Ok(NodeEdges::new(nodes, ahead))
     }
 
-    /// The edges of the children of the node.
+    /// Returns the traversal of the children of a node, without the node itself. For an unknown id
+    /// there are no steps. It fails with `OutOfMemory` when memory is refused.
     pub fn of_children(
         alloc: Global,
         nodes: &'a [TreeNode],
@@ -129,7 +135,8 @@ impl<'a, D: Descent> NodeEdges<'a, D> {
         }
     }
 
-    /// The next edge.
+    /// Returns the next step, or `None` at the end. It fails with `OutOfMemory` when memory for the
+    /// stack is refused.
     #[inline(always)]
     pub fn next(&mut self) -> Result<Option<Edge>, OutOfMemory>
         ensures { IfOk result (λ edge. MatchOption edge (self.old ≡ []) (λ edge. self.old
@@ -143,7 +150,7 @@ impl<'a, D: Descent> NodeEdges<'a, D> {
     }
 }
 
-/// The first edge of an entry; pushes the others.
+/// Returns the first step of an entry and pushes the rest of the entry.
 #[inline(always)]
 fn begin<D: Descent>(
     nodes: &[TreeNode],
@@ -168,7 +175,7 @@ fn begin<D: Descent>(
     }
 }
 
-/// The mark of a node.
+/// Returns the mark of a node: what `Descent::mark` says of its parent, or false without a parent.
 fn mark_of<D: Descent>(nodes: &[TreeNode], id: NodeId) -> bool
     requires { IsSoundArena nodes.now }
     ensures { result ≡ mark_of D.descending (forest_of nodes.now) id }
@@ -182,7 +189,7 @@ fn mark_of<D: Descent>(nodes: &[TreeNode], id: NodeId) -> bool
     }
 }
 
-/// Pushes what follows the opening of a node.
+/// Pushes what comes after entering a node.
 #[inline(always)]
 fn push_after<D: Descent>(
     nodes: &[TreeNode],
@@ -203,7 +210,7 @@ fn push_after<D: Descent>(
     push_inside::<D>(nodes, id, node, ahead)
 }
 
-/// Who follows the node, unless that is `alone`.
+/// Returns the next sibling of the node, or `None` if the node is `alone`.
 #[inline(always)]
 fn next_of(node: &TreeNode, alone: bool) -> Option<NodeId>
     ensures { result ≡ (if alone then None else node.now.next_sibling) }
@@ -214,7 +221,7 @@ fn next_of(node: &TreeNode, alone: bool) -> Option<NodeId>
     node.next_sibling.get()
 }
 
-/// Pushes what is entered of a node, and its closing edge.
+/// Pushes what is visited inside a node, and the step that leaves it.
 #[inline(always)]
 fn push_inside<D: Descent>(
     nodes: &[TreeNode],
@@ -237,7 +244,7 @@ fn push_inside<D: Descent>(
     }
 }
 
-/// Pushes the children of a node, and its closing edge.
+/// Pushes the children of a node, and the step that leaves it.
 #[inline(always)]
 fn push_children<D: Descent>(
     nodes: &[TreeNode],
@@ -255,7 +262,7 @@ fn push_children<D: Descent>(
     push_row::<D>(nodes, first, D::mark(&node.content), false, ahead)
 }
 
-/// Pushes a node, alone or with its later siblings.
+/// Pushes a node, alone or with its later siblings. Without a node it pushes nothing.
 #[inline(always)]
 fn push_row<D: Descent>(
     nodes: &[TreeNode],

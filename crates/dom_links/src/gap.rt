@@ -1,4 +1,4 @@
-//! What is moved in a forest, and where it can be put.
+//! Which nodes a move takes along, and where they are put.
 
 ghost use Rattle.std.specs.Prelude.{◌≡◌};
 ghost use Rattle.dom_links.specs.Insertions.{gap_at};
@@ -6,55 +6,56 @@ ghost use Rattle.dom_links.specs.Sound.{target};
 
 use dom_nodes::node_id::NodeId;
 
-/// A place for nodes, given by a node: at an end of its children, or right beside it.
+/// A position for nodes in a forest, described by a node: at one end of its children, or beside it.
 #[derive(Clone, Copy)]
-pub enum Gap {
+pub enum InsertionPoint {
     EndOf(NodeId),
     FrontOf(NodeId),
     Before(NodeId),
     After(NodeId),
 }
 
-/// What is moved, given by a node: it alone, it with its later siblings, or the whole list that it
-/// stands in.
+/// Which nodes are moved, described by one of them: the node alone, the node with its later
+/// siblings, or its whole list of siblings.
 #[derive(Clone, Copy)]
-pub enum Moving {
+pub enum MovedNodes {
     Node(NodeId),
     WithLater(NodeId),
     WholeList(NodeId),
 }
 
-/// Where new nodes go, as seen from a node.
+/// Where new nodes are inserted, relative to a node.
 #[derive(Clone, Copy)]
 pub enum Place {
-    /// Behind its children.
+    /// After its last child.
     AtEnd,
-    /// In front of its children.
+    /// Before its first child.
     AtFront,
-    /// Right before it.
+    /// Immediately before it.
     Before,
-    /// Right after it.
+    /// Immediately after it.
     After,
-    /// In the place of its children, which are cut out.
+    /// In place of its children, which are detached.
     InsteadOfChildren,
-    /// In its own place. It is cut out, also where there are no new nodes.
+    /// In place of the node, which is detached, even when there are no new nodes.
     InsteadOfNode,
-    /// The first of them, where that is an element, goes right before the node, and the node to the
-    /// end of its children. The others are a run of their own; all of them, where it is no element.
+    /// Around the node: the first new node is put before it, and the node becomes the last child of
+    /// that one. This needs an element as the first new node; without one, the node stays where it
+    /// is. The new nodes that aren't used stay detached, as a list of siblings of their own.
     Around,
 }
 
 impl Place {
-    /// The gap that new nodes go to.
-    pub fn gap(self, x: NodeId) -> Gap
+    /// Returns the insertion point that new nodes are put at, relative to the node `x`.
+    pub fn gap(self, x: NodeId) -> InsertionPoint
         ensures gap { result ≡ gap_at self x }
         ensures target { target result ≡ x }
     {
         match self {
-            Place::AtEnd | Place::InsteadOfChildren => Gap::EndOf(x),
-            Place::AtFront => Gap::FrontOf(x),
-            Place::Before | Place::InsteadOfNode | Place::Around => Gap::Before(x),
-            Place::After => Gap::After(x),
+            Place::AtEnd | Place::InsteadOfChildren => InsertionPoint::EndOf(x),
+            Place::AtFront => InsertionPoint::FrontOf(x),
+            Place::Before | Place::InsteadOfNode | Place::Around => InsertionPoint::Before(x),
+            Place::After => InsertionPoint::After(x),
         }
     }
 }

@@ -1,4 +1,4 @@
-//! Where a node stands among its siblings.
+//! The index of a node among its siblings, for `:nth-child()` and its relatives.
 
 ghost use Rattle.std.specs.Prelude.{◌≡◌, ◌≤◌, ◌+◌, ◌*◌, ℕ, MatchBool, slice_set, if◌then◌else◌};
 ghost use Rattle.dom_links.specs.Forest.{forest_of};
@@ -12,8 +12,8 @@ pub use dom_nodes::indexes::{IndexKind, Nth, Signed};
 use dom_nodes::node_data::{NodeData, TreeNode};
 use dom_nodes::node_id::NodeId;
 
-/// One more than how many of the siblings on one side of the node count. An unknown number has
-/// index 1.
+/// Returns the index of a node, counted from 1: one more than the number of siblings on one side
+/// that `kind` counts. For an unknown id the result is 1.
 pub fn index_at(nodes: &[TreeNode], id: &NodeId, kind: IndexKind) -> u64
     requires { IsSoundArena nodes.now }
     ensures is { result ≡ index_at kind (forest_of nodes.now) id.now }
@@ -22,8 +22,9 @@ pub fn index_at(nodes: &[TreeNode], id: &NodeId, kind: IndexKind) -> u64
     index_with(nodes, id, kind, &[])
 }
 
-/// The same, where some indexes are known already: the siblings are counted as far as one of them.
-/// 0 stands for an index that isn't known.
+/// Returns what `index_at` returns, and uses the indexes in `known`, which is indexed by node id
+/// and has 0 for indexes that aren't known. Siblings are counted only up to the nearest one with a
+/// known index.
 pub fn index_with(nodes: &[TreeNode], id: &NodeId, kind: IndexKind, known: &[u32]) -> u64
     requires sound { IsSoundArena nodes.now }
     requires known { AreIndexes kind (forest_of nodes.now) known.now }
@@ -49,7 +50,7 @@ pub fn index_with(nodes: &[TreeNode], id: &NodeId, kind: IndexKind, known: &[u32
     index
 }
 
-/// The index that is known at a number, or 0.
+/// Returns the known index of a node, or 0.
 fn known_at(known: &[u32], id: NodeId) -> u64
     ensures is { result ≡ index_known known.now id }
     ensures few { result ≤ 4294967295 }
@@ -60,8 +61,8 @@ fn known_at(known: &[u32], id: NodeId) -> u64
     }
 }
 
-/// Notes the index of a node, and those of the siblings that count for it, as far as one that is
-/// known.
+/// Stores the index of a node in `known`, and those of the siblings that count for it, up to the
+/// first one that is stored already. Nodes beyond the end of `known` are skipped.
 pub fn note_indexes(nodes: &[TreeNode], id: &NodeId, kind: IndexKind, index: u64, known: &mut [u32])
     requires sound { IsSoundArena nodes.now }
     requires known { AreIndexes kind (forest_of nodes.now) known.old }
@@ -98,7 +99,7 @@ fn note(known: &mut [u32], id: NodeId, index: u64)
     }
 }
 
-/// Who stands beside a node on the side where the siblings are counted.
+/// Returns the sibling on the side where siblings are counted.
 fn counted_neighbour(node: &TreeNode, kind: IndexKind) -> Option<NodeId>
     ensures { result ≡ (if is_from_first kind then node.now.prev_sibling
         else node.now.next_sibling) }
@@ -115,7 +116,7 @@ fn is_from_first(kind: IndexKind) -> bool
     }
 }
 
-/// Whether a sibling counts for the index of a node.
+/// Returns whether a sibling is counted for the index of a node.
 fn counts(kind: IndexKind, node: &NodeData, other: &NodeData) -> bool
     ensures { result ≡ counts_sibling kind node.now other.now }
 {
@@ -125,7 +126,7 @@ fn counts(kind: IndexKind, node: &NodeData, other: &NodeData) -> bool
     }
 }
 
-/// Whether both are elements of equal qualified names.
+/// Returns whether both are elements of the same name: prefix, namespace and local name.
 pub fn are_of_one_type(node: &NodeData, other: &NodeData) -> bool
     ensures { result ≡ of_one_type node.now other.now }
 {
@@ -138,7 +139,7 @@ pub fn are_of_one_type(node: &NodeData, other: &NodeData) -> bool
     }
 }
 
-/// Whether the index is one of those.
+/// Returns whether the index is `a * k + b` for some integer k from 0 on.
 pub fn is_nth(nth: Nth, index: u64) -> bool
     requires { index ≤ 4294967296 }
     ensures { MatchBool result (IsNth nth index) (IsNth nth index → ⊥) }
@@ -152,7 +153,7 @@ pub fn is_nth(nth: Nth, index: u64) -> bool
     is_reached(step, up, down)
 }
 
-/// Whether steps of this size lead from one number to the other.
+/// Returns whether some number of steps of this size leads from one number to the other.
 fn is_reached(step: u64, from: u64, to: u64) -> bool
     ensures { MatchBool result ((k : ℕ) × (from + step * k ≡ to))
         ((k : ℕ) → from + step * k ≡ to → ⊥) }

@@ -1,4 +1,8 @@
-//! Edits of an arena of nodes, and the tests of whether an edit is allowed.
+//! Edits of an arena of nodes, and the tests for whether an edit is allowed.
+//!
+//! Start at `moves` (moves of nodes), `create` (new nodes) and `placing` (the tests). The other
+//! modules build on them: `lists`, `insertions`, `copies`, `templates`, `set_text`, `add_text`,
+//! `normalize`, `strip` and `changes`; `siblings`, `texts` and `counts` only read.
 
 pub mod add_text;
 pub mod changes;
@@ -18,7 +22,7 @@ pub mod templates;
 pub mod texts;
 mod writes;
 
-/// The edits of an arena of nodes, what is looked up in it, and the tests of whether an edit
-/// is allowed. The conditions that a call requires are tested by them, and a sound arena by
-/// `validate`.
+/// The edits and queries of an arena of nodes, as associated functions over slices. Most edits
+/// require that the move is possible; `placing` has the tests for that, and `validate` checks that
+/// nodes from elsewhere form a sound arena.
 pub struct TreeNodeOps {}

@@ -1,4 +1,4 @@
-//! Whether raw nodes are a forest's.
+//! Checking that nodes from elsewhere are linked as a forest.
 
 ghost use Rattle.std.specs.Prelude.{◌≡◌, [], Err, IfErr, MatchResult};
 ghost use Rattle.dom_links.specs.Sound.{IsSoundArena};
@@ -15,7 +15,7 @@ use dom_nodes::node_data::TreeNode;
 use each::{NodeCheck, all_pass};
 use std::alloc::{AllocError, Global};
 
-/// Why raw nodes are no forest's. The faults are looked for in this order.
+/// Why nodes aren't linked as a forest. The checks are made in this order, apart from `Memory`.
 #[derive(Clone, Copy, PartialEq, Eq, Debug, Drop, thiserror::Error)]
 pub enum ValidateFault {
     /// There are no nodes.
@@ -24,37 +24,38 @@ pub enum ValidateFault {
     /// The first node has a parent.
     #[error("Root node (NodeId(0)) must have no parent")]
     RootPlaced,
-    /// A node's number isn't its place.
+    /// The id of a node isn't its index.
     #[error("The id of a node is not its place")]
     BadId,
-    /// A link names no node.
+    /// A link leads to an id that no node has.
     #[error("Invalid parent, first_child, last_child, prev_sibling or next_sibling reference")]
     UnknownLink,
-    /// A neighbour of a node doesn't name it as its own.
+    /// The next sibling of a node doesn't have the node as its previous sibling, or the other way
+    /// round.
     #[error("prev_sibling or next_sibling mismatch")]
     BadLink,
-    /// A node is reached from itself by children and template contents.
+    /// A node is inside itself, by children or template contents.
     #[error("Cycle detected")]
     Cycle,
-    /// A node and its parent, or two neighbours and their parents, don't name each other.
+    /// A node and its first or last child, or a node and its siblings, don't agree on the parent.
     #[error("A node is not linked to its parent")]
     NotLinked,
-    /// A node comes after itself.
+    /// A list of siblings is circular.
     #[error("Cycle detected in siblings")]
     SiblingCycle,
-    /// The parent of a node is a text, comment, doctype or instruction.
+    /// A text, a comment, a doctype or a processing instruction has children.
     #[error("The parent of a node may not have children")]
     NoChildrenHere,
     /// The root, a document or a fragment has a parent or siblings.
     #[error("A document or fragment is placed")]
     PlacedFragment,
-    /// Template contents are no fragment, the root, or held by two elements.
+    /// Template contents aren't a fragment, are the root, or belong to two elements.
     #[error("bad template contents")]
     BadContents,
-    /// There are more nodes than can be numbered. Numbers that are places rule this out.
+    /// There are more nodes than ids. When each id is an index, this can't happen.
     #[error("too many nodes")]
     TooManyNodes,
-    /// Memory was refused.
+    /// A request for memory was refused.
     #[error("out of memory")]
     Memory,
 }
@@ -68,9 +69,9 @@ impl From<AllocError> for ValidateFault {
 }
 
 impl TreeNodeOps {
-    /// Checks that raw nodes are a forest's, each at the index that is its number. It takes
-    /// memory for a few numbers a node, and time in proportion to the nodes. The first fault found
-    /// is returned, in the order of `ValidateFault`.
+    /// Checks that the nodes are linked as a forest and that each one's id is its index. The result
+    /// is the first fault in the order of `ValidateFault`, or `Memory` when memory is refused. It
+    /// takes time linear in the number of nodes, and memory for a few integers for each node.
     pub fn validate(alloc: Global, nodes: &[TreeNode]) -> Result<(), ValidateFault>
         ensures sound { MatchResult result (λ _. IsSoundArena nodes.now)
             (λ fault. IsRefused nodes.now fault) }

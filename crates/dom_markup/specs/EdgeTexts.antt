@@ -1,4 +1,4 @@
--- What the edges of a tree are written as.
+-- What a serializer writes when it enters a node and when it leaves it.
 use Rattle.std.specs.Prelude.{ℕ, List, [], slice_get, if◌then◌else◌}
 use Rattle.std.specs.List.{flat_map}
 use Rattle.std.specs.Option.{option_map_or}
@@ -12,14 +12,14 @@ use Rattle.dom_links.specs.declared.edges.Edge.TheVariants.{Open, Close}
 use Rattle.dom_links.specs.declared.edges.Entered.{Entered}
 use Rattle.dom_links.specs.declared.edges.Entered.TheVariants.{Nothing, Children, All}
 
--- what is written of what is inside a node
+-- What is written inside a node: for an element that isn't void, its template contents and children; for a root, its children.
 abbrev pub entered : NodeData → Entered
 entered Document = Children
 entered Fragment = Children
 entered (Element e) = if is_void e then Nothing else All
 entered _ = Nothing
 
--- the texts below a node are marked if they are written as they are
+-- a text is marked if its parent's texts are written without escaping
 abbrev pub written_nodes : Descending
 written_nodes = record { inside = entered; mark = keeps_texts }
 

@@ -1,4 +1,4 @@
--- The text of a tree, by cases on it.
+-- HTML serialization: the text of a node, by cases on its kind.
 use Rattle.std.specs.Prelude.{ℕ, ◌&&◌, Bool, true, false, if◌then◌else◌, List, [], ◌∷◌, ◌++◌, slice_get, codes}
 use Rattle.std.specs.List.{flat_map}
 use Rattle.std.specs.Option.{option_map_or}
@@ -23,15 +23,15 @@ abbrev pub is_html : Namespace → Bool
 is_html Html = true
 is_html _ = false
 
--- an element that is written as its start tag alone
+-- a void element, which is written as a start tag alone
 abbrev pub is_void : Element → Bool
 is_void element = is_html element.name.ns && is_among element.name.local void_names
 
--- an element whose texts are written as they are
+-- an element whose text children are written without escaping, such as `script`
 abbrev pub is_raw : Element → Bool
 is_raw element = is_html element.name.ns && is_among element.name.local raw_names
 
--- what stands before an attribute's local name
+-- the prefix that is written before an attribute's local name, which depends on its namespace
 abbrev pub prefix_text : NameParts → List ℕ
 prefix_text name = prefix_in name.ns name.local
   where
@@ -53,17 +53,17 @@ end_tag name = codes "</" ++ (name ++ codes ">")
 
 -- ---- nodes
 
--- texts right below the node are written as they are
+-- text children of the node are written without escaping
 abbrev pub keeps_texts : NodeData → Bool
 keeps_texts (AnElement element) = is_raw element
 keeps_texts _ = false
 
--- nothing is written below the node
+-- the node is a void element, so nothing is written inside it
 abbrev pub is_void_node : NodeData → Bool
 is_void_node (AnElement element) = is_void element
 is_void_node _ = false
 
--- what a node is written as, before what is below it
+-- What is written first for a node: a start tag, a text, a comment and so on. `raw` says that a text is not escaped.
 abbrev pub opening : NodeData → Bool → List ℕ
 opening Document raw = []
 opening Fragment raw = []
@@ -73,12 +73,12 @@ opening (Comment contents) raw = codes "<!--" ++ (contents ++ codes "-->")
 opening (ProcessingInstruction target contents) raw = codes "<?" ++ (target ++ (codes " " ++ (contents ++ codes ">")))
 opening (AnElement element) raw = start_tag element
 
--- what ends it
+-- the end tag of an element, and nothing for other nodes
 abbrev pub closing : NodeData → List ℕ
 closing (AnElement element) = end_tag element.name.local
 closing _ = []
 
--- what then follows, of the texts of its template contents and of its children; below a void element nothing is written
+-- What is written after that: the template contents, the children, and the end tag. A void element has none of the three.
 abbrev pub following : NodeData → List ℕ → List ℕ → List ℕ
 following Document inner below = below
 following Fragment inner below = below
@@ -88,29 +88,29 @@ following _ inner below = []
 abbrev pub node_text : NodeData → Bool → List ℕ → List ℕ → List ℕ
 node_text content raw inner below = opening content raw ++ following content inner below
 
--- the text of trees, one after another; `raw` says that texts at the top are written as they are
+-- The text of a list of trees. `raw` says that texts at the top level are not escaped.
 abbrev pub trees_text : Forest → Bool → Trees → List ℕ
 trees_text forest raw NoTrees = []
 trees_text forest raw (Tree n contents children later) =
     option_map_or (λ content. node_text content raw (trees_text forest false contents) (trees_text forest (keeps_texts content) children)) (slice_get forest.content n) []
     ++ trees_text forest raw later
 
--- the texts among the children of a node are written as they are
+-- text children of node `n` are written without escaping
 abbrev pub keeps_below : Forest → ℕ → Bool
 keeps_below forest n = option_map_or keeps_texts (slice_get forest.content n) false
 
--- so is a text below such a node, wherever the writing begins
+-- A text with such a parent is not escaped either if writing starts at the text itself.
 abbrev pub is_kept : Forest → ℕ → Bool
 is_kept forest n = option_map_or (keeps_below forest) (parent forest n) false
 
--- the HTML of a node; none for an unknown number
+-- the outer HTML of a node; empty if the forest has no such node
 unfoldable pub html_of : Forest → ℕ → List ℕ
 html_of forest n = trees_text forest (is_kept forest n) (trees forest (n ∷ []))
 
--- whether nothing is written below the node
+-- whether the node is a void element, so nothing is written inside it
 abbrev pub is_bare : Forest → ℕ → Bool
 is_bare forest n = option_map_or is_void_node (slice_get forest.content n) false
 
--- the HTML of the children of a node
+-- the inner HTML of a node: the HTML of its children
 unfoldable pub inner_html_of : Forest → ℕ → List ℕ
 inner_html_of forest n = if is_bare forest n then [] else trees_text forest (keeps_below forest n) (trees forest (children_of forest n))

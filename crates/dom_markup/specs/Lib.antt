@@ -8,11 +8,11 @@ pub mod Escaping
 pub mod FaultKinds
 pub mod Fragments
 pub mod Frames
-pub mod Front
-pub mod Growing
+pub mod Lexeme
+pub mod TreeUnderConstruction
 pub mod Html
 pub mod IdLists
-pub mod LateTexts
+pub mod DeferredTexts
 pub mod Joining
 pub mod Limits
 pub mod Markup

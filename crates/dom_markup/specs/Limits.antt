@@ -1,4 +1,4 @@
--- Nodes that can be made but for a limit, and the limits.
+-- Nodes that can always be made, unless there are too many or memory runs out; and these two limits as faults.
 use Rattle.std.specs.Prelude.{ℕ, ◌≡◌, ◌≤◌, false, None}
 use Rattle.dom_nodes.specs.Kinds.{contents_named, is_top}
 use Rattle.dom_nodes.specs.declared.fault.EditFault.{EditFault}
@@ -7,23 +7,23 @@ use Rattle.dom_nodes.specs.declared.fault.MarkupFaultKind.{MarkupFaultKind}
 use Rattle.dom_nodes.specs.declared.fault.MarkupFaultKind.TheVariants.{TooManyNodes, Memory}
 use Rattle.dom_nodes.specs.declared.node_data.NodeData.{NodeData}
 
--- neither a document or fragment, nor a template with contents
+-- the node is neither a document nor a fragment, and not a template with contents
 pub record IsPlainData (content : NodeData) : Type 0 where
   pub no_top : is_top content ≡ false
   pub no_contents : contents_named content ≡ None
 
--- an edit met a limit
+-- the edit failed because of a limit
 abbrev pub IsLimit : EditFault → Type 0
 IsLimit edit_faults.TooManyNodes = Unit {0}
 IsLimit edit_faults.Memory = Unit {0}
 IsLimit _ = ⊥
 
--- what the limit is called in markup
+-- the fault of a parser for this limit
 abbrev pub limit_kind : EditFault → MarkupFaultKind
 limit_kind edit_faults.TooManyNodes = TooManyNodes
 limit_kind _ = Memory
 
--- with so many nodes there is no number left, or there was no memory
+-- Why a node could not be added to `count` nodes: all node ids are used, or memory ran out.
 abbrev pub LacksNumbers : ℕ → MarkupFaultKind → Type 0
 LacksNumbers count TooManyNodes = 4294967295 ≤ count
 LacksNumbers count Memory = Unit {0}

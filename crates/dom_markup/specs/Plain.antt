@@ -1,4 +1,4 @@
--- Documents whose HTML spells them.
+-- Plain documents: those whose HTML the grammar reads as the same document again.
 use Rattle.std.specs.Prelude.{◌≡◌, ◌≢◌, ℕ, List, [], ◌∷◌, ◌++◌, map, Bool, true, false, if◌then◌else◌, Option, None, MatchBool, MatchOption, Some, slice_get, codes}
 use Rattle.std.specs.List.{flat_map, list_all}
 use Rattle.std.specs.Str.{IsUtf8}
@@ -22,7 +22,7 @@ use Rattle.dom_markup.specs.ValueTrees.ValueTrees.{no_trees, text_node, comment_
 abbrev pub start_text : List ℕ → List Attribute → List ℕ
 start_text name attributes = codes "<" ++ (name ++ (flat_map attr_text (map read_attr attributes) ++ codes ">"))
 
--- the HTML of trees, one after another; `raw` says that texts at the top are written as they are
+-- The HTML of a list of trees. `raw` says that texts at the top level are not escaped.
 abbrev pub text_of_trees : Bool → ValueTrees → List ℕ
 text_of_trees raw no_trees = []
 text_of_trees raw (text_node contents later) = (if raw then contents else escaped_text contents) ++ text_of_trees raw later
@@ -33,15 +33,15 @@ text_of_trees raw (element_node name attributes children later) =
 
 -- ---- plain trees
 
--- no end of a comment stands in the text
+-- the text does not contain `-->`
 abbrev pub HoldsNoClose : List ℕ → Type 0
 HoldsNoClose text = (before later : List ℕ) → text ≡ before ++ (codes "-->" ++ later) → ⊥
 
--- a name as the grammar spells it, in lower case
+-- a name that the grammar allows, in lower case
 abbrev pub IsPlainName : List ℕ → Type 0
 IsPlainName name = (name ≢ []) × (list_all is_name_byte name ≡ true) × (folded name ≡ name)
 
--- attributes of plain names, none of which comes twice
+-- attributes whose names the grammar allows, each name at most once
 abbrev pub ArePlain : List Attribute → Type 0
 ArePlain [] = Unit {0}
 ArePlain (attribute ∷ later) = IsPlainName attribute.name × IsUtf8 attribute.value × (has_name attribute.name later ≡ false) × ArePlain later
@@ -50,7 +50,7 @@ abbrev pub begins_with_text : ValueTrees → Bool
 begins_with_text (text_node contents later) = true
 begins_with_text _ = false
 
--- what is read in a mode of its own is one text at most, and a raw one does not hold its end tag
+-- The content of an element that holds text alone is at most one text, and a raw text does not contain the element's end tag.
 abbrev pub IsPlainIn : Mode → ValueTrees → Type 0
 IsPlainIn markup children = Unit {0}
 IsPlainIn (text_of name) no_trees = Unit {0}
@@ -60,9 +60,9 @@ IsPlainIn (raw_text_of name) no_trees = Unit {0}
 IsPlainIn (raw_text_of name) (text_node contents no_trees) = LacksEnd name contents
 IsPlainIn (raw_text_of name) _ = ⊥
 
--- Trees that their HTML spells: no text is empty or next to a text, names are as the grammar spells them, void elements
--- have no children, comments do not hold their end, and doctypes stand only at the top and have no identifiers. Every text of
--- a program is UTF-8
+-- Plain trees. No text is empty or next to another text, names are as the grammar allows them, void elements have no children,
+-- comments do not contain `-->`, and doctypes occur only at the top level and have no identifiers. Every text of a program is
+-- UTF-8.
 abbrev pub IsPlainTrees : Bool → ValueTrees → Type 0
 IsPlainTrees top no_trees = Unit {0}
 IsPlainTrees top (text_node contents later) = (contents ≢ []) × IsUtf8 contents × (begins_with_text later ≡ false) × IsPlainTrees top later
@@ -73,9 +73,9 @@ IsPlainTrees top (element_node name attributes children later) =
     × (is_among name void_names ≡ true → children ≡ no_trees) × IsPlainIn (mode_in name) children
     × IsPlainTrees false children × IsPlainTrees top later
 
--- ---- trees that are plain where a text spells them
+-- ---- trees of a text that are plain
 
--- no doctype has an identifier
+-- no doctype has a public or system identifier
 abbrev pub HaveNoIdentifiers : ValueTrees → Type 0
 HaveNoIdentifiers no_trees = Unit {0}
 HaveNoIdentifiers (text_node contents later) = HaveNoIdentifiers later
@@ -83,16 +83,16 @@ HaveNoIdentifiers (comment_node contents later) = HaveNoIdentifiers later
 HaveNoIdentifiers (doctype_node name public system later) = (public ≡ []) × (system ≡ []) × HaveNoIdentifiers later
 HaveNoIdentifiers (element_node name attributes children later) = HaveNoIdentifiers children × HaveNoIdentifiers later
 
--- ---- nodes that stand for trees
+-- ---- nodes of a forest, compared with value trees
 
--- attributes without a namespace, of these names and with these values; a prefix is not written
+-- The attributes have no namespace, and these names and values. Their prefixes do not matter, since they are not written.
 abbrev pub StandForAttributes : List Attr → List Attribute → Type 0
 StandForAttributes [] [] = Unit {0}
 StandForAttributes (attr ∷ attrs) (attribute ∷ attributes) =
     (attr.name.ns ≡ NoNamespace) × (attr.name.local ≡ attribute.name) × (attr.value ≡ attribute.value) × StandForAttributes attrs attributes
 StandForAttributes _ _ = ⊥
 
--- an element of HTML without a prefix
+-- an element in the HTML namespace, without a prefix
 abbrev pub html_element : List ℕ → List Attr → Option ℕ → Bool → NodeData
 html_element name attrs contents flag = Element (record {
   name = record { prefix = None; ns = Html; local = name };
@@ -101,7 +101,8 @@ html_element name attrs contents flag = Element (record {
   mathml_annotation_xml_integration_point = flag;
 })
 
--- the node is an element of this name and with these attributes, and these numbers are its children, or those of its contents where it is a template
+-- The node is an element with this name and these attributes, and `below` are the ids of its children; for a template, those of
+-- the children of its contents.
 pub record IsElement (forest : Forest) (n : ℕ) (name : List ℕ) (attributes : List Attribute) (below : List ℕ) : Type 0 where
   pub attrs : List Attr
   pub contents : Option ℕ
@@ -112,7 +113,7 @@ pub record IsElement (forest : Forest) (n : ℕ) (name : List ℕ) (attributes :
       (MatchOption contents ⊥ (λ inner. (children_of forest n ≡ []) × (below ≡ children_of forest inner)))
       ((contents ≡ None) × (below ≡ children_of forest n))
 
--- these nodes, one after another, stand for these trees
+-- the nodes of this list are these trees, in order
 abbrev pub Represents : Forest → List ℕ → ValueTrees → Type 0
 Represents forest ns no_trees = ns ≡ []
 Represents forest ns (text_node contents later) =
@@ -125,7 +126,7 @@ Represents forest ns (element_node name attributes children later) =
     (n : ℕ) × (others below : List ℕ) × (ns ≡ n ∷ others) × IsElement forest n name attributes below
     × Represents forest below children × Represents forest others later
 
--- a document is plain where the nodes below its root stand for plain trees
+-- a document is plain if the nodes below its root are plain trees
 pub record IsPlain (forest : Forest) : Type 0 where
   pub trees : ValueTrees
   pub root : slice_get forest.content 0 ≡ Some Document

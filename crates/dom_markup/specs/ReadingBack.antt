@@ -1,4 +1,4 @@
--- Reading back what was written of a document.
+-- Parsing the HTML of a document gives the document back.
 use Rattle.std.specs.Prelude.{◌≡◌, ℕ, Bool, false, List, [], Some, String, slice_get, string_bytes}
 use Rattle.dom_nodes.specs.declared.node_data.NodeData.TheVariants.{Doctype, Document}
 use Rattle.dom_links.specs.Forest.{Forest, children_of}
@@ -10,37 +10,37 @@ use Rattle.dom_markup.specs.Numbered.{document_of}
 use Rattle.dom_markup.specs.Plain.{IsPlain, Represents, text_of_trees}
 use Rattle.dom_markup.specs.ValueTrees.{ValueTrees}
 
--- the text spells trees whose document is the same tree as this one
+-- the text is markup for trees whose document is the same tree as this one
 pub record SpellsDocument (text : List ℕ) (forest : Forest) : Type 0 where
   pub trees : ValueTrees
   pub spelled : Spells text trees
   pub same : SameTree forest 0 (document_of trees) 0
 
--- no doctype has an identifier
+-- no doctype has a public or system identifier
 abbrev pub LacksIdentifiers : Forest → Type 0
 LacksIdentifiers forest = (n : ℕ) (name public system : List ℕ) → slice_get forest.content n ≡ Some (Doctype name public system) → (public ≡ []) × (system ≡ [])
 
--- where the node is the root of a plain document, the string spells the document
+-- if the node is the root of a plain document, the string is markup for the same tree
 abbrev pub SpellsPlainRoot : {A : Type 0} → Forest → ℕ → String A → Type 0
 SpellsPlainRoot forest n text = n ≡ 0 → IsPlain forest → SpellsDocument (string_bytes text) forest
 
--- ---- forests and the trees that their nodes stand for
+-- ---- forests, and the value trees that their nodes are
 
--- the HTML of nodes is that of the trees that they stand for
+-- the HTML of nodes is the HTML of the value trees that they are
 abbrev pub NodesAreWrittenAsTrees : Forest → Type 0
 NodesAreWrittenAsTrees forest =
     (raw : Bool) (ns : List ℕ) (values : ValueTrees) → Represents forest ns values → trees_text forest raw (trees_of forest ns) ≡ text_of_trees raw values
 
--- the HTML of a document is that of the trees that the nodes below its root stand for
+-- the HTML of a document is the HTML of the value trees below its root
 abbrev pub DocumentIsWrittenAsTrees : Forest → Type 0
 DocumentIsWrittenAsTrees forest =
     slice_get forest.content 0 ≡ Some Document → (values : ValueTrees) → Represents forest (children_of forest 0) values → html_of forest 0 ≡ text_of_trees false values
 
--- the nodes below the root stand for trees, which the HTML of the root spells
+-- the nodes below the root are value trees, and the HTML of the root is markup for them
 abbrev pub SpellsItsTrees : Forest → Type 0
 SpellsItsTrees forest = (trees : ValueTrees) × Represents forest (children_of forest 0) trees × Spells (html_of forest 0) trees
 
--- documents that stand for the same trees are the same tree
+-- documents with the same value trees below their roots are the same tree
 abbrev pub AreSameByTrees : Forest → Forest → Type 0
 AreSameByTrees one other =
     slice_get one.content 0 ≡ Some Document → slice_get other.content 0 ≡ Some Document → (values : ValueTrees)

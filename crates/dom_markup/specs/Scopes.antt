@@ -1,4 +1,4 @@
--- What is written of a node in each scope.
+-- What each `TraversalScope` writes of a node.
 use Rattle.std.specs.Prelude.{ℕ, List}
 use Rattle.dom_links.specs.Forest.{Forest}
 use Rattle.dom_markup.specs.declared.serializing.TraversalScope.{TraversalScope}

@@ -1,4 +1,4 @@
--- Markup that is read and put into a tree.
+-- Markup that is parsed and inserted into a tree.
 use Rattle.std.specs.Prelude.{ℕ, ◌≡◌, ◌≤◌, ◌<◌, ◌⊎◌, true, List, [], ◌∷◌, Result, IfErr, OnErr, OnOk, length}
 use Rattle.dom_nodes.specs.declared.fault.EditFault.{EditFault}
 use Rattle.dom_nodes.specs.declared.fault.EditFault.TheVariants.{TooManyNodes, Memory, Markup}
@@ -21,19 +21,19 @@ use Rattle.dom_markup.specs.Fragments.{top_nodes}
 use Rattle.dom_markup.specs.Markup.{SpellsNothing}
 use Rattle.dom_markup.specs.Refusals.{BeginsTooManyNodes, IsFaultAt}
 
--- ---- what was read goes to a place
+-- ---- inserting what was parsed
 
--- x is known, and nodes may be put at the place
+-- the forest has the node `x`, and nodes may be inserted at this place
 abbrev pub IsOpenAt : Place → ℕ → Forest → Type 0
 IsOpenAt place x forest = IsKnown x forest × (is_open (gap_at place x) forest ≡ true)
 
--- why what was read isn't put there
+-- why the parsed nodes can't be inserted there
 abbrev pub PutCause : Place → ℕ → Forest → Forest → EditFault → Type 0
 PutCause place x read forest TooManyNodes = 4294967295 < length (copied read (top_nodes read) forest).content
 PutCause place x read forest Memory = Unit {0}
 PutCause place x read forest fault = PlaceCause place x forest fault
 
--- the nodes at the top of what was read, but for doctypes, are copied to a place at x
+-- the children of the parsed root, without doctypes, are copied to a place at the node `x`
 abbrev pub putting : Place → ℕ → Forest → TreeEdit
 putting place x read = record {
   after = inserted read (top_nodes read) place x;
@@ -41,59 +41,59 @@ putting place x read = record {
   Cause = PutCause place x read;
 }
 
--- nodes take the place of a node, but none don't
+-- The place of the new nodes when they replace a node. If there are none, the old node stays.
 abbrev pub replacing : List ℕ → Place
 replacing [] = Before
 replacing (n ∷ ns) = InsteadOfNode
 
--- what was read takes the place of x, if it is anything
+-- the parsed nodes replace the node `x`, if there are any
 abbrev pub replacing_by : ℕ → Forest → TreeEdit
 replacing_by x read = putting (replacing (top_nodes read)) x read
 
--- ---- what a call promises that reads markup first
+-- ---- contracts of calls that parse markup first
 
--- the text is no markup, by a fault at this byte that is no limit
+-- the text is not markup: it has a fault at this byte, and the fault is not a limit
 pub record IsNoMarkup (text : List ℕ) (fault : MarkupFault) : Type 0 where
   pub spells_nothing : SpellsNothing text
   pub within : fault.at ≤ length text
   pub cause : IsFaultAt text fault.at fault.kind
   pub no_limit : IsLimitFault fault.kind → ⊥
 
--- the edit by what the text spells
+-- the tree is edited with what the text is parsed as
 pub record IsEditedBy (text : List ℕ) (edit : Forest → TreeEdit) (old new : Forest) : Type 0 where
   pub read : Forest
   pub spelled : IsSpelled text read
   pub made : new ≡ (edit read).after old
   pub allowed : (edit read).Allowed old
 
--- the text spells what the edit can't be made by
+-- the text is markup, and the edit with what it is parsed as fails
 abbrev pub IsRefusedBy : List ℕ → (Forest → TreeEdit) → Forest → EditFault → Type 0
 IsRefusedBy text edit forest fault = (read : Forest) × IsSpelled text read × (edit read).Cause forest fault
 
--- why a text isn't read: it is no markup, or a limit was met
+-- why a text can't be parsed: it is not markup, or a limit was met
 abbrev pub ReadCause : List ℕ → EditFault → Type 0
 ReadCause text (Markup fault) = IsNoMarkup text fault
 ReadCause text TooManyNodes = BeginsTooManyNodes text
 ReadCause text Memory = Unit {0}
 ReadCause text _ = ⊥
 
--- why nothing is edited: the text isn't read, or the edit by what it spells is refused
+-- why nothing is edited: the text can't be parsed, or the edit fails
 abbrev pub HtmlCause : List ℕ → (Forest → TreeEdit) → Forest → EditFault → Type 0
 HtmlCause text edit forest fault = ReadCause text fault ⊎ IsRefusedBy text edit forest fault
 
--- The text is read, and the lent tree edited by what it spells; or the call is refused with its cause, and nothing changes.
--- Node and loan stay
+-- The text is parsed, and the borrowed tree is edited with the result; or the call fails with its cause, and nothing changes. The
+-- handle refers to the same node and tree as before.
 pub record EditsByHtml (result : Result Unit EditFault) (old new : NodeMut) (text : List ℕ) (edit : Forest → TreeEdit) : Type 0 where
   pub ok : OnOk result (IsEditedBy text edit old.tree.now new.tree.now)
   pub err : OnErr result (new.tree.now ≡ old.tree.now)
   pub cause : IfErr result (HtmlCause text edit old.tree.now)
   pub loan : IsSameLoan old new
 
--- what the text spells is put to a place at the node
+-- what the text is parsed as is inserted at a place at the node
 abbrev pub PutsHtml : Place → List ℕ → NodeMut → NodeMut → Result Unit EditFault → Type 0
 PutsHtml place text old new result = EditsByHtml result old new text (putting place old.id)
 
--- what a fault of reading is called where a tree was to be edited
+-- the error of an edit for this fault of the parser
 abbrev pub named_edit : MarkupFaultKind → MarkupFault → EditFault
 named_edit kinds.TooManyNodes fault = TooManyNodes
 named_edit kinds.Memory fault = Memory

@@ -1,4 +1,4 @@
--- What a call of `Tokens::next` gives.
+-- What a call of `Tokens::next` returns.
 use Rattle.std.specs.Prelude.{◌≡◌, ◌≢◌, [], ℕ, List, Option, MatchOption, Result, MatchResult}
 use Rattle.dom_nodes.specs.declared.fault.MarkupFault.{MarkupFault}
 use Rattle.dom_nodes.specs.declared.fault.MarkupFaultKind.{MarkupFaultKind}
@@ -10,15 +10,15 @@ use Rattle.dom_markup.specs.Token.{BeginsKind, IsNext, Unread, mode_of}
 use Rattle.dom_markup.specs.declared.document.tokens.Found.{Found}
 use Rattle.dom_markup.specs.declared.document.tokens.Token.{Token}
 
--- the item at the front of the text, what follows it, and how that is read
+-- the token at the start of the text, what follows it, and the mode in which that is read
 abbrev pub IsFound : Mode → List ℕ → Found → Type 0
 IsFound mode text found = BeginsKind mode text found.kind found.rest.now (mode_of found.within)
 
--- the item at the front of the text, or why none begins there
+-- the token at the start of the text, or the reason that no token starts there
 abbrev pub TakesItem : Mode → List ℕ → Result Found MarkupFaultKind → Type 0
 TakesItem mode text result = MatchResult result (IsFound mode text) (λ kind. BeginsNothing mode text × Cause mode text kind)
 
--- nothing begins there, so nothing more is read
+-- no token starts here: the iterator returns the fault and is at its end
 pub record IsStopped (old new : Unread) (fault : MarkupFault) : Type 0 where
   pub some : old.text ≢ []
   pub nothing : BeginsNothing old.mode old.text
@@ -27,12 +27,12 @@ pub record IsStopped (old new : Unread) (fault : MarkupFault) : Type 0 where
   pub place : fault.at ≡ old.at
   pub ended : new.text ≡ []
 
--- nothing is left, and stays so
+-- no text is left, and the iterator stays at its end
 pub record IsOver (old new : Unread) : Type 0 where
   pub none : old.text ≡ []
   pub same : new ≡ old
 
--- the next token, a fault where none begins, or the end where nothing is left
+-- the next token, a fault if no token starts here, or the end if no text is left
 abbrev pub next_token : Unread → Option (Result Token MarkupFault) → Unread → Type 0
 next_token old result new = MatchOption result (IsOver old new) (λ found.
     MatchResult found

@@ -1,18 +1,18 @@
--- What a document holds, as plain values: names, attributes and texts, without numbers.
+-- The content of a document as plain values, without node ids: names, attributes and texts.
 use Rattle.std.specs.Prelude.{ℕ, List}
 
 pub record Attribute : Type 0 where
   pub name : List ℕ
   pub value : List ℕ
 
--- a list of trees: none, or what the first tree is, and the trees after it
+-- a list of trees: empty, or a first tree and the trees after it
 pub data ValueTrees : Type 0 where
   no_trees : ValueTrees
-  -- a text of these contents
+  -- a text with these contents
   text_node : List ℕ → ValueTrees → ValueTrees
-  -- a comment of these contents
+  -- a comment with these contents
   comment_node : List ℕ → ValueTrees → ValueTrees
-  -- a doctype of this name with a public and a system identifier
+  -- a doctype with this name, public identifier and system identifier
   doctype_node : List ℕ → List ℕ → List ℕ → ValueTrees → ValueTrees
-  -- an element of this name with these attributes and these children; what a `template` has are its contents
+  -- an element with this name, these attributes and these children; for a `template`, the children of its contents
   element_node : List ℕ → List Attribute → ValueTrees → ValueTrees → ValueTrees

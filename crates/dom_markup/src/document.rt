@@ -1,4 +1,5 @@
-//! Documents, and reading them from explicit markup.
+//! Documents, and the parser of explicit markup. Start at `Document::parse`; `fragments` parses
+//! fragments, `tokens` lists the tokens of a text, and `sink` lets another parser fill a document.
 
 ghost use Rattle.std.specs.Prelude.{◌≡◌, IfErr, IfOk, map, string_bytes};
 ghost use Rattle.dom_links.specs.Growth.{lone};
@@ -30,7 +31,7 @@ mod within;
 use crate::document::reader::Reader;
 use crate::document::scan::estimate_nodes;
 pub use crate::document::tokens::{Token, TokenKind, Tokens};
-use crate::document::within::Within;
+use crate::document::within::ContentModel;
 use crate::laws::faults::kinds_of_faults;
 use crate::laws::plain::{documents_without_identifiers_are_plain, spelled_documents_are_the_same};
 use crate::serializing::NodeMarkup;
@@ -42,7 +43,8 @@ pub use dom_trees::quirks::QuirksMode;
 use dom_trees::tree::Tree;
 use std::alloc::Global;
 
-/// A tree, and what was noted while it was read.
+/// A document: its tree, and what a parser reported about its source. `errors` holds the messages
+/// of a parser that fills the document through `TreeSink`; `Document::parse` leaves it empty.
 #[derive(Drop)]
 pub struct Document {
     pub tree: Tree,
@@ -51,7 +53,8 @@ pub struct Document {
 }
 
 impl Document {
-    /// A document with nothing in it; `Err` where memory was refused.
+    /// Returns an empty document: a root without children, no errors, and no-quirks mode. Fails
+    /// only when memory runs out.
     pub fn new(alloc: Global) -> Result<Document, OutOfMemory>
         ensures empty { IfOk result (λ document. document.tree ≡ lone NodeData.Document) }
         ensures notes { IfOk result NotesNothing }
@@ -59,16 +62,26 @@ impl Document {
         lone(alloc, NodeData::Document)
     }
 
-    /// The document that the text spells, with its nodes numbered in order of start.
+    /// Parses explicit markup, in which every element has its end tag unless it is void, and
+    /// returns the document. Node ids follow the order in which the nodes start in the text; the
+    /// contents of a template come right after the template.
     ///
-    /// At the fault's byte a tag isn't spelled (`BadTag`), a slash ends a start tag whose element
-    /// isn't void (`SlashOnOpen`), a comment doesn't end (`BadComment`), another declaration than a
-    /// doctype stands (`BadDeclaration`), an instruction (`Instruction`), a doctype in an element
-    /// (`MisplacedDoctype`), or an end tag that doesn't end the innermost open element
-    /// (`MismatchedEnd`) or where none is open (`StrayEnd`). `Unclosed`: the text ends there in an
-    /// open element, or the text of an element begins there that no end tag ends. `TooManyNodes`
-    /// and `Memory` report a limit, met at what begins there; `Memory` may also be met at the end
-    /// of the text.
+    /// The text is read as a grammar says, not as a browser would repair it, so a text that is not
+    /// markup is an error. `fault.at` is the byte offset of the error, and `fault.kind` says what
+    /// is wrong there:
+    ///
+    /// - `BadTag`: a tag is malformed;
+    /// - `SlashOnOpen`: a start tag ends in `/>`, and its element is not void;
+    /// - `BadComment`: a comment has no `-->`;
+    /// - `BadDeclaration`: a `<!` starts neither a comment nor a doctype;
+    /// - `Instruction`: a `<?` starts a processing instruction;
+    /// - `MisplacedDoctype`: a doctype is inside an element;
+    /// - `MismatchedEnd`: an end tag does not match the innermost open element;
+    /// - `StrayEnd`: an end tag comes when no element is open;
+    /// - `Unclosed`: the text ends while an element is open, or the text of an element such as
+    ///   `script` starts here and has no end tag;
+    /// - `TooManyNodes` and `Memory`: the token that starts here needs a node id or memory that is
+    ///   not available. `Memory` can also be reported at the end of the text.
     pub fn parse(alloc: Global, source: &str) -> Result<Document, MarkupFault>
         ensures ok { IfOk result (IsDocumentOf source.now) }
         ensures fault { IfErr result (IsFaultOf source.now Refused IsFaultAt) }
@@ -77,6 +90,8 @@ impl Document {
             LacksIdentifiers document.tree → IsPlain document.tree) }
         ensures same { ReadsSpelled source.now result }
     {
+        // Calls of laws: they do nothing, and their contracts prove the clauses `kind`, `plain` and
+        // `same`.
         kinds_of_faults();
         documents_without_identifiers_are_plain();
         spelled_documents_are_the_same();
@@ -84,7 +99,7 @@ impl Document {
         Ok(document)
     }
 
-    /// What `parse` reads.
+    /// Parses the text; `parse` adds the clauses that follow from the laws.
     fn read(alloc: Global, source: &str) -> Result<Document, MarkupFault>
         ensures ok { IfOk result (IsDocumentOf source.now) }
         ensures fault { IfErr result (IsFaultOf source.now Refused IsFaultAt) }
@@ -97,7 +112,7 @@ impl Document {
         };
         reader.tree.reserve(estimate_nodes(source));
         let mut left = source;
-        let mut within = Within::Markup;
+        let mut within = ContentModel::Markup;
         while !left.is_empty() {
             match reader.read(alloc, left, within) {
                 Ok(behind) => {
@@ -121,7 +136,8 @@ impl Document {
         }
     }
 
-    /// The same document: its tree with every node at its number, its errors and its mode.
+    /// Returns a copy of the document: the same tree with the same node ids, the same errors and
+    /// the same quirks mode. Fails only when memory runs out.
     pub fn try_clone(&self) -> Result<Document, OutOfMemory>
         ensures tree { IfOk result (λ copy. copy.tree ≡ self.now.tree) }
         ensures errors { IfOk result (λ copy. errors_of copy ≡ errors_of self.now) }
@@ -136,7 +152,8 @@ impl Document {
         })
     }
 
-    /// Joins each row of texts below the root, as `Tree::normalize_of`. Refused as `Memory`.
+    /// Joins adjacent texts below the root into one text each, as `Tree::normalize_of` does. Fails
+    /// only with `Memory`.
     pub fn normalize(&mut self) -> Result<(), EditFault>
         ensures tree { Edits result self.old.tree self.new.tree (normalizing 0) }
         ensures errors { self.new.errors ≡ self.old.errors }
@@ -146,7 +163,7 @@ impl Document {
     }
 }
 
-/// What stands in a document.
+/// Access to the parts of a document.
 impl Document {
     ghost use Rattle.std.specs.Option.{option_copied};
     ghost use Rattle.std.specs.Prelude.{codes, find, IfSome};
@@ -156,7 +173,7 @@ impl Document {
     ghost use Rattle.dom_trees.specs.Views.{base_uri, page_part};
     ghost use Rattle.dom_markup.specs.Html.{html_of, inner_html_of};
 
-    /// The node that all others stand below.
+    /// Returns the root of the tree, whose node id is 0.
     pub fn root(&self) -> NodeRef<'_>
         ensures number { result.id ≡ 0 }
         ensures tree { result.tree.now ≡ self.now.tree }
@@ -164,7 +181,7 @@ impl Document {
         NodeRef::new(NodeId::root(), &self.tree)
     }
 
-    /// The first child of the root that is an element.
+    /// Returns the first child of the root that is an element, or `None` if there is none.
     pub fn html_root(&self) -> Option<NodeRef<'_>>
         ensures { let tree = self.now.tree in
             IsNodeAt tree (find (element_at tree) (children_of tree 0)) result }
@@ -172,56 +189,61 @@ impl Document {
         self.tree.html_root()
     }
 
-    /// The first child `head` of the root's first child `html`.
+    /// Returns the first `head` child of the root's first `html` child, or `None` if there is none.
     pub fn head(&self) -> Option<NodeRef<'_>>
         ensures { IsNodeAt self.now.tree (page_part self.now.tree (codes "head")) result }
     {
         self.tree.head()
     }
 
-    /// The first child `body` of the root's first child `html`.
+    /// Returns the first `body` child of the root's first `html` child, or `None` if there is none.
     pub fn body(&self) -> Option<NodeRef<'_>>
         ensures { IsNodeAt self.now.tree (page_part self.now.tree (codes "body")) result }
     {
         self.tree.body()
     }
 
-    /// The value of the first `href` of the head's first child `base`.
+    /// Returns the `href` of the head's first `base` child, or `None` if there is none.
     pub fn base_uri(&self) -> Option<&str>
         ensures { option_copied result ≡ base_uri self.now.tree }
     {
         self.tree.base_uri()
     }
 
-    /// The document's HTML. That of a plain document spells it, so `parse` reads it back.
+    /// Returns the document as HTML. If the document is plain, `parse` reads the HTML as the same
+    /// tree. A document is plain if, among other things, no text is empty or next to another text,
+    /// names are in lower case, and no doctype has an identifier (`IsPlain` has the whole list).
+    /// Fails only when memory runs out.
     pub fn html(&self) -> Result<String, OutOfMemory>
         ensures { IfOk result (IsHtml self.now.tree (html_of self.now.tree 0)) }
     {
         self.root().html()
     }
 
-    /// The HTML of the root's children, which is the document's.
+    /// Returns the HTML of the root's children, which is also that of the document. Fails only when
+    /// memory runs out.
     pub fn inner_html(&self) -> Result<String, OutOfMemory>
         ensures { IfOk result (IsHtml self.now.tree (inner_html_of self.now.tree 0)) }
     {
         self.root().inner_html()
     }
 
-    /// The same as `html`, but None where memory was refused.
+    /// Returns the document as HTML, like `html`, or `None` if memory runs out.
     pub fn try_html(&self) -> Option<String>
         ensures { IfSome result (IsHtml self.now.tree (html_of self.now.tree 0)) }
     {
         self.root().try_html()
     }
 
-    /// The same as `inner_html`, but None where memory was refused.
+    /// Returns the HTML of the root's children, like `inner_html`, or `None` if memory runs out.
     pub fn try_inner_html(&self) -> Option<String>
         ensures { IfSome result (IsHtml self.now.tree (inner_html_of self.now.tree 0)) }
     {
         self.root().try_inner_html()
     }
 
-    /// The contents of all texts, in walk order, joined. Template contents are not entered.
+    /// Returns the contents of all texts, concatenated in document order. The contents of templates
+    /// are left out. Fails only when memory runs out.
     pub fn text(&self) -> Result<String, OutOfMemory>
         ensures { IfOk result (λ text. string_bytes text ≡ text_of self.now.tree 0) }
     {
@@ -229,7 +251,7 @@ impl Document {
     }
 }
 
-/// A document of one node, with nothing to note; `Err` where memory was refused.
+/// Returns a document whose tree is one node. Fails only when memory runs out.
 fn lone(alloc: Global, content: NodeData) -> Result<Document, OutOfMemory>
     ensures node { IfOk result (λ document. document.tree ≡ lone content) }
     ensures notes { IfOk result NotesNothing }
@@ -240,7 +262,7 @@ fn lone(alloc: Global, content: NodeData) -> Result<Document, OutOfMemory>
     }
 }
 
-/// The document of a tree that was read with nothing to note.
+/// Returns a document with this tree, no errors and no-quirks mode.
 fn whole(alloc: Global, tree: Tree) -> Document
     ensures tree { result.tree ≡ tree }
     ensures notes { NotesNothing result }
@@ -252,7 +274,7 @@ fn whole(alloc: Global, tree: Tree) -> Document
     }
 }
 
-/// The same texts.
+/// Returns a copy of the list. Fails only when memory runs out.
 fn cloned(texts: &Vec<String>) -> Result<Vec<String>, OutOfMemory>
     ensures { IfOk result (λ made. map string_bytes made.items ≡ map string_bytes texts.now.items) }
 {

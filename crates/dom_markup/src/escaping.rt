@@ -1,4 +1,4 @@
-//! Texts in which the characters that markup would read are written by their names.
+//! Escaping: characters that markup would interpret are written as named character references.
 
 ghost use Rattle.std.specs.Prelude.{◌≡◌, ◌<◌, ◌∷◌, [], ℕ, List, length, slice_index, true};
 ghost use Rattle.memchr.specs.Find.{is_byte2, is_byte3};
@@ -13,8 +13,7 @@ pub use dom_nodes::escaping::html_escape;
 use memchr::memmem::Finder;
 use memchr::{memchr2, memchr3};
 
-/// Writes escaped texts. It holds the search for a no-break space, which is made once for all
-/// texts.
+/// Writes escaped texts. It holds the searcher for a no-break space, which is built once.
 #[derive(Drop)]
 pub(crate) struct Escaper {
     space: Finder<'static>,
@@ -28,15 +27,15 @@ impl Escaper {
         }
     }
 
-    /// Puts a text, escaped as a text node's.
+    /// Writes a text, escaped as the content of a text node: `&`, `<`, `>` and no-break spaces.
     pub(crate) fn put_text<P: PutText<W>, W>(&self, w: &mut W, text: &str) -> Result<(), P::Fault>
         ensures { Writes (P.written w.old) (P.written w.new) result (escaped_text text.now) }
     {
         self.put_named::<InText, P, W>(w, text)
     }
 
-    /// Puts a text, escaped as an attribute's value. Most values hold nothing to be named, not even
-    /// the first byte of a no-break space, and are searched once.
+    /// Writes a text, escaped as an attribute value: `&`, `"` and no-break spaces. Most values
+    /// contain none of these, nor the first byte of a no-break space, and are searched once.
     pub(crate) fn put_value<P: PutText<W>, W>(&self, w: &mut W, text: &str) -> Result<(), P::Fault>
         ensures { Writes (P.written w.old) (P.written w.new) result (escaped_value text.now) }
     {
@@ -46,7 +45,7 @@ impl Escaper {
         }
     }
 
-    /// Puts a text, each character by its name that has one there.
+    /// Writes a text in which each character of `C` and each no-break space is escaped.
     fn put_named<C: Cut, P: PutText<W>, W>(&self, w: &mut W, text: &str) -> Result<(), P::Fault>
         ensures { Writes (P.written w.old) (P.written w.new) result (C.escaped text.now) }
     {
@@ -59,7 +58,7 @@ impl Escaper {
         self.put_spaced::<P, W>(w, rest)
     }
 
-    /// Puts a text, each no-break space by its name.
+    /// Writes a text in which each no-break space is escaped.
     fn put_spaced<P: PutText<W>, W>(&self, w: &mut W, text: &str) -> Result<(), P::Fault>
         ensures { Writes (P.written w.old) (P.written w.new) result (spaced text.now) }
     {
@@ -72,8 +71,8 @@ impl Escaper {
         P::put(w, rest)
     }
 
-    /// The first no-break space of a text. Few texts have its first byte, so that is looked for
-    /// first.
+    /// Splits the text at its first no-break space. Few texts contain the first byte of one, so
+    /// that is searched first.
     fn cut_spaced<'a>(&self, text: &'a str) -> Option<Named<'a>>
         ensures { Cuts spaced (λ plain. plain) text.now result }
     {
@@ -88,7 +87,8 @@ impl Escaper {
     }
 }
 
-/// A character that is written by a name: the text before it, its name, and the text after it.
+/// A text that is split at a character to escape: the text before it, what is written for it, and
+/// the text after it.
 #[derive(Clone, Copy)]
 struct Named<'a> {
     before: &'a str,
@@ -96,7 +96,7 @@ struct Named<'a> {
     after: &'a str,
 }
 
-/// The text cut at a byte, which is an ASCII character that is written by this name.
+/// Splits the text at an ASCII character, for which `name` is written.
 fn cut_at<'a>(text: &'a str, at: usize, name: &'a str) -> Named<'a>
     requires within { at < length text.now }
     requires ascii { slice_index text.now at < 128 }
@@ -109,17 +109,17 @@ fn cut_at<'a>(text: &'a str, at: usize, name: &'a str) -> Named<'a>
     }
 }
 
-/// Which characters of a text are written by a name, besides no-break spaces.
+/// Which characters are escaped, besides no-break spaces.
 trait Cut {
-    // What a text is written as.
+    // The escaped form of a text.
     ghost escaped: { List ℕ → List ℕ };
 
-    /// The first of these characters.
+    /// Splits the text at the first of these characters.
     fn cut(text: &str) -> Option<Named<'_>>
         ensures { Cuts escaped spaced text.now result };
 }
 
-/// Those of a text node's text.
+/// The characters that are escaped in a text node.
 struct InText;
 
 impl Cut for InText {
@@ -130,7 +130,7 @@ impl Cut for InText {
     }
 }
 
-/// Those of an attribute's value.
+/// The characters that are escaped in an attribute value.
 struct InValue;
 
 impl Cut for InValue {
@@ -141,7 +141,7 @@ impl Cut for InValue {
     }
 }
 
-/// The first `&`, `<` or `>` of a text.
+/// Splits the text at its first `&`, `<` or `>`.
 fn cut_text(text: &str) -> Option<Named<'_>>
     ensures { Cuts escaped_text spaced text.now result }
 {
@@ -150,7 +150,7 @@ fn cut_text(text: &str) -> Option<Named<'_>>
     Some(cut_at(text, at, text_name(bytes[at])))
 }
 
-/// The name of a `&`, `<` or `>`.
+/// Returns the named character reference of `&`, `<` or `>`.
 fn text_name(byte: u8) -> &'static str
     requires { is_byte3 38 60 62 byte ≡ true }
     ensures { result.now ≡ text_char byte }
@@ -164,7 +164,7 @@ fn text_name(byte: u8) -> &'static str
     }
 }
 
-/// The first `&` or `"` of a text.
+/// Splits the text at its first `&` or `"`.
 fn cut_value(text: &str) -> Option<Named<'_>>
     ensures { Cuts escaped_value spaced text.now result }
 {
@@ -173,7 +173,7 @@ fn cut_value(text: &str) -> Option<Named<'_>>
     Some(cut_at(text, at, value_name(bytes[at])))
 }
 
-/// The name of a `&` or `"`.
+/// Returns the named character reference of `&` or `"`.
 fn value_name(byte: u8) -> &'static str
     requires { is_byte2 38 34 byte ≡ true }
     ensures { result.now ≡ value_char byte }

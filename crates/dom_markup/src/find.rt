@@ -1,4 +1,4 @@
-//! Where a byte first stands in a text.
+//! Search for a byte, for texts that are mostly short.
 
 ghost use Rattle.std.specs.Prelude.{◌≡◌, ◌≤◌, ◌<◌, ◌+◌, IfSome, Some, length, map};
 ghost use Rattle.std.specs.Simd.Lanes.{mask_l};
@@ -6,7 +6,7 @@ ghost use Rattle.memchr.specs.Find.{IsFirst, IsFirstByte, Nowhere, Passes, is_by
 
 use std::simd::prelude::*;
 
-/// Which of the bytes are that one, a bit for each.
+/// Returns a bit mask of the bytes that equal `byte`.
 #[inline(always)]
 fn places_in(bytes: u8x16, byte: u8) -> u64
     ensures { result ≡ mask_l (map (is_byte byte) bytes) }
@@ -14,7 +14,7 @@ fn places_in(bytes: u8x16, byte: u8) -> u64
     bytes.simd_eq(u8x16::splat(byte)).to_bitmask()
 }
 
-/// The first place of the byte among the sixteen from `at` on.
+/// Returns the first position of the byte among the sixteen bytes from `at` on.
 #[inline(always)]
 fn find_in_lanes(byte: u8, bytes: &[u8], at: usize) -> Option<usize>
     requires { at + 16 ≤ length bytes.now }
@@ -27,8 +27,9 @@ fn find_in_lanes(byte: u8, bytes: &[u8], at: usize) -> Option<usize>
     Some(at + places.trailing_zeros() as usize)
 }
 
-/// The first place of the byte, where it stands nowhere before `at`. The last sixteen bytes are
-/// tested at once, also those that were tested before; of fewer one is tested after the other.
+/// Returns the first position of the byte, which doesn't occur before `at`. The last sixteen bytes
+/// are tested at once, including some that were tested before; a text of fewer bytes is tested byte
+/// by byte.
 #[inline(always)]
 fn find_at_end(byte: u8, bytes: &[u8], at: usize) -> Option<usize>
     requires passed { Nowhere (Passes (is_byte byte) bytes.now) 0 at }
@@ -46,8 +47,8 @@ fn find_at_end(byte: u8, bytes: &[u8], at: usize) -> Option<usize>
     None
 }
 
-/// The first place of the byte, for texts that are mostly short: sixteen bytes are tested at once,
-/// with no call.
+/// Returns the first position of the byte. Sixteen bytes are tested at once, and there is no call,
+/// so this is fast for short texts.
 #[inline(always)]
 pub fn find_byte(byte: u8, bytes: &[u8]) -> Option<usize>
     ensures { IsFirstByte (is_byte byte) bytes.now result }
@@ -62,8 +63,8 @@ pub fn find_byte(byte: u8, bytes: &[u8]) -> Option<usize>
     find_at_end(byte, bytes, at)
 }
 
-/// The first place of the byte, if the other byte doesn't stand before it. Where fewer than sixteen
-/// bytes are left, it isn't looked for.
+/// Returns the first position of the byte, if the other byte doesn't occur before it. The last
+/// bytes, when fewer than sixteen are left, are not searched, so `None` says nothing.
 #[inline(always)]
 pub fn find_before(byte: u8, other: u8, bytes: &[u8]) -> Option<usize>
     ensures first { IfSome result (λ at. IsFirstByte (is_byte byte) bytes.now (Some at)) }

@@ -1,4 +1,6 @@
-//! Markup: reading explicit markup into a document, and writing a tree as HTML.
+//! Markup: parsing explicit markup into a document, and serializing a tree as HTML. Start at
+//! `document` for parsing, at `serializing` for writing, and at `setters` for editing a tree by
+//! markup.
 #![tactic(auto)]
 
 pub mod document;

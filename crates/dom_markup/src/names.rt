@@ -1,4 +1,4 @@
-//! The names of elements that markup treats apart.
+//! The names of the elements that the parser and the serializer treat specially.
 
 ghost use Rattle.std.specs.Prelude.{◌≡◌};
 ghost use Rattle.std.specs.List.{list_any};
@@ -8,13 +8,13 @@ ghost use Rattle.dom_markup.specs.Names.{raw_names, void_names};
 
 use dom_nodes::name::LocalRef;
 
-/// The elements that are a start tag alone.
+/// The void elements, which have a start tag alone.
 pub(crate) const VOID_NAMES: [&str; 18] = [
     "area", "base", "basefont", "bgsound", "br", "col", "embed", "frame", "hr", "img", "input",
     "keygen", "link", "meta", "param", "source", "track", "wbr",
 ];
 
-/// The elements whose texts are read and written as they are.
+/// The raw text elements, whose text is read and written without escaping.
 pub(crate) const RAW_NAMES: [&str; 7] = [
     "style",
     "script",
@@ -25,10 +25,10 @@ pub(crate) const RAW_NAMES: [&str; 7] = [
     "plaintext",
 ];
 
-/// The elements that hold one text alone, in which references are read.
+/// The escapable raw text elements, whose content is one text in which references are resolved.
 pub(crate) const TEXT_NAMES: [&str; 2] = ["title", "textarea"];
 
-/// How markup treats the element of each known name, by the name's number; 0 as any other.
+/// How each known element name is treated, indexed by the name's number; 0 for most elements.
 #[rattlefmt::skip]
 static TREATED: [u8; 247] = [
     0, 0, 0, 0, 0, 0, 0, 0, 0, 1, 0, 0, 0, 0, 0, 0, 0, 0, 0, 0, 1, 0, 0, 0, 0, 0, 0, 0, 0, 0,
@@ -42,13 +42,13 @@ static TREATED: [u8; 247] = [
     0, 0, 0, 0, 0, 0, 0,
 ];
 
-/// What `TREATED` holds for each name of `VOID_NAMES`.
+/// The entry in `TREATED` of each name in `VOID_NAMES`.
 const IS_VOID: u8 = 1;
 
-/// What `TREATED` holds for each name of `RAW_NAMES`.
+/// The entry in `TREATED` of each name in `RAW_NAMES`.
 const IS_RAW: u8 = 2;
 
-/// Whether an element of that name is a start tag alone. Known names are compared by number.
+/// Returns whether an element of that name is void. Known names are looked up by number.
 pub(crate) fn is_void_name(name: &LocalRef<'_>) -> bool
     ensures { result ≡ is_among name.now void_names }
 {
@@ -58,7 +58,7 @@ pub(crate) fn is_void_name(name: &LocalRef<'_>) -> bool
     }
 }
 
-/// Whether the texts in an element of that name are read and written as they are.
+/// Returns whether an element of that name is a raw text element.
 pub(crate) fn is_raw_name(name: &LocalRef<'_>) -> bool
     ensures { result ≡ is_among name.now raw_names }
 {

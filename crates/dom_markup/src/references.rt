@@ -1,4 +1,4 @@
-// The references in a text, and the text with each read as the character that it stands for.
+// Character references, and texts with their references resolved.
 ghost use Rattle.std.specs.Prelude.{◌≡◌, ◌≤◌, ℕ, List, None, Some, IfOk, if◌then◌else◌};
 ghost use Rattle.dom_markup.specs.References.{decoded, is_numbered, numeral, reference};
 ghost use Rattle.dom_markup.specs.Referring.{IsCutReference};
@@ -9,7 +9,7 @@ use dom_nodes::fault::OutOfMemory;
 use dom_nodes::text::Text;
 use std::alloc::Global;
 
-/// The text with its references read.
+/// Returns the text with its character references resolved. Fails only when memory runs out.
 #[inline(always)]
 pub fn decode(alloc: Global, text: &str) -> Result<Text, OutOfMemory>
     ensures { IfOk result (λ read. read ≡ decoded text.now) }
@@ -20,7 +20,7 @@ pub fn decode(alloc: Global, text: &str) -> Result<Text, OutOfMemory>
     decode_references(alloc, text, first)
 }
 
-/// The same, a character at each `&`, of which the first stands there.
+/// Resolves the references of a text whose first `&` is at `first`.
 fn decode_references(alloc: Global, text: &str, first: usize) -> Result<Text, OutOfMemory>
     requires { IsFirstByte (is_byte 38) text.now (Some first) }
     ensures { IfOk result (λ read. read ≡ decoded text.now) }
@@ -39,7 +39,7 @@ fn decode_references(alloc: Global, text: &str, first: usize) -> Result<Text, Ou
     Ok(Text::from(read))
 }
 
-/// A character that a reference stands for: the text before the reference, the character, and the
+/// A text that is split at a reference: the text before it, the character that it means, and the
 /// text after it.
 #[derive(Clone, Copy)]
 struct Referred<'a> {
@@ -48,7 +48,8 @@ struct Referred<'a> {
     after: &'a str,
 }
 
-/// The first `&` of a text, which stands there, with the reference that it begins, if it does.
+/// Splits the text at its first `&`, which is at `at`. If no reference starts there, the character
+/// is the `&` itself.
 #[inline(always)]
 fn cut_at(text: &str, at: usize) -> Referred<'_>
     requires { IsFirstByte (is_byte 38) text.now (Some at) }
@@ -68,21 +69,21 @@ fn cut_at(text: &str, at: usize) -> Referred<'_>
     }
 }
 
-/// The character that a reference stands for, and how many bytes it takes after its `&`.
+/// A character reference: the character that it means, and its length in bytes after the `&`.
 #[derive(Clone, Copy)]
 struct Reference {
     character: char,
     len: usize,
 }
 
-/// The reference by a name of a character, of so many bytes with its semicolon.
+/// Returns a named reference, whose length includes the semicolon.
 fn named(character: char, len: usize) -> Reference
     ensures { result ≡ record { character = character; len = len } }
 {
     Reference { character, len }
 }
 
-/// The reference that begins at an `&`, in front of this text.
+/// Returns the reference that an `&` before this text starts, or `None`.
 fn reference_at(after: &str) -> Option<Reference>
     ensures { result ≡ reference after.now }
 {
@@ -106,7 +107,8 @@ fn reference_at(after: &str) -> Option<Reference>
     }
 }
 
-/// What the digits before a semicolon refer to, `before` bytes after the `&`.
+/// Returns the numeric reference that these digits and a semicolon make, or `None`. `before` is the
+/// number of bytes between the `&` and the digits.
 fn numeral(bytes: &[u8], base: u32, before: usize) -> Option<Reference>
     requires digits { 2 ≤ base }
     requires base { base ≤ 16 }
@@ -131,7 +133,7 @@ fn numeral(bytes: &[u8], base: u32, before: usize) -> Option<Reference>
     None
 }
 
-/// The character of a number, where a reference by that number stands for it.
+/// Returns the character of a code point, or `None` if a numeric reference may not name it.
 fn numbered(number: u32) -> Option<char>
     ensures { result ≡ (if is_numbered number then Some number else None) }
 {

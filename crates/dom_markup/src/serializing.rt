@@ -1,4 +1,4 @@
-//! The text of a tree, written to any writer or into a string.
+//! HTML serialization of a tree, to a writer or into a string. Start at `NodeMarkup`.
 
 ghost use Rattle.std.specs.Prelude.{◌≡◌, IfOk, IfSome};
 ghost use Rattle.dom_markup.specs.Html.{html_of, inner_html_of};
@@ -18,14 +18,14 @@ use std::io::Write;
 mod edges;
 mod tags;
 
-/// Whether a node is written with its own tags, or only what is below it.
+/// Whether a node is written with its own tags, or only its content.
 #[derive(Clone, Copy, PartialEq, Eq, Debug, Drop)]
 pub enum TraversalScope {
     IncludeNode,
     ChildrenOnly,
 }
 
-/// The markup of a node.
+/// Serialization of a node as HTML.
 pub trait NodeMarkup {
     ghost use Rattle.dom_links.specs.Forest.{Forest};
     ghost use Rattle.dom_markup.specs.ReadingBack.{SpellsPlainRoot};
@@ -34,34 +34,36 @@ pub trait NodeMarkup {
     // The forest of the node's tree.
     ghost forest: { Self → Forest };
 
-    // The number of the node.
+    // The node's id.
     ghost number: { Self → ℕ };
 
-    /// Writes the node's HTML, or that of its children alone; nothing for an unknown number. After
-    /// a fault a beginning of it is written: `Write` where the writer failed, was interrupted or
-    /// took no byte, `Memory` where memory was refused.
+    /// Writes the node's HTML, or that of its children alone; nothing if the tree has no such node.
+    /// After an error, a beginning of the HTML is written. Fails with `Write` if the writer failed,
+    /// was interrupted or accepted no bytes, and with `Memory` if memory runs out.
     fn write_html<W: Write>(&self, scope: TraversalScope, w: &mut W) -> Result<(), WriteFault>
         ensures { Writes (W.contents w.old) (W.contents w.new) result
             (html_in scope (forest self.now) (number self.now)) };
 
-    /// The node's HTML; empty for an unknown number. That of a plain document's root spells the
-    /// document, so `Document::parse` reads it back.
+    /// Returns the node's HTML; empty if the tree has no such node. If the node is the root of a
+    /// plain document, `Document::parse` reads the HTML as the same tree. Fails only when memory
+    /// runs out.
     fn html(&self) -> Result<String, OutOfMemory>
         ensures text { IfOk result (IsText (html_of (forest self.now) (number self.now))) }
         ensures spelled { IfOk result (SpellsPlainRoot (forest self.now) (number self.now)) };
 
-    /// The HTML of the node's children; empty for an unknown number. That of a plain document's
-    /// root spells the document.
+    /// Returns the HTML of the node's children; empty if the tree has no such node. If the node is
+    /// the root of a plain document, `Document::parse` reads the HTML as the same tree. Fails only
+    /// when memory runs out.
     fn inner_html(&self) -> Result<String, OutOfMemory>
         ensures text { IfOk result (IsText (inner_html_of (forest self.now) (number self.now))) }
         ensures spelled { IfOk result (SpellsPlainRoot (forest self.now) (number self.now)) };
 
-    /// The same as `html`, but None where memory was refused.
+    /// Returns the node's HTML, like `html`, or `None` if memory runs out.
     fn try_html(&self) -> Option<String>
         ensures text { IfSome result (IsText (html_of (forest self.now) (number self.now))) }
         ensures spelled { IfSome result (SpellsPlainRoot (forest self.now) (number self.now)) };
 
-    /// The same as `inner_html`, but None where memory was refused.
+    /// Returns the HTML of the node's children, like `inner_html`, or `None` if memory runs out.
     fn try_inner_html(&self) -> Option<String>
         ensures text { IfSome result (IsText (inner_html_of (forest self.now) (number self.now))) }
         ensures spelled { IfSome result (SpellsPlainRoot (forest self.now) (number self.now)) };
@@ -104,7 +106,8 @@ impl<'a> NodeMarkup for NodeRef<'a> {
     }
 }
 
-/// The HTML of a plain document spells it. It does nothing.
+/// The HTML of a plain document is markup for the same tree. The calls below are made for their
+/// contracts alone, and the function does nothing.
 fn plain_html_spells(tree: &Tree)
     ensures root { IsPlain tree.now → SpellsDocument (html_of tree.now 0) tree.now }
     ensures children { IsPlain tree.now → SpellsDocument (inner_html_of tree.now 0) tree.now }
@@ -113,7 +116,7 @@ fn plain_html_spells(tree: &Tree)
     plain_documents_are_spelled();
 }
 
-/// A node that can be written.
+/// A node reference that can be serialized.
 #[derive(Clone, Copy)]
 pub struct SerializableNodeRef<'a>(pub NodeRef<'a>);
 
@@ -126,7 +129,8 @@ impl<'a> From<NodeRef<'a>> for SerializableNodeRef<'a> {
 }
 
 impl<'a> SerializableNodeRef<'a> {
-    /// The same as `NodeMarkup::write_html`.
+    /// Writes the node's HTML, or that of its children alone, as `NodeMarkup::write_html` does, and
+    /// fails as it does.
     pub fn serialize<W: Write>(&self, scope: TraversalScope, w: &mut W) -> Result<(), WriteFault>
         ensures { Writes (W.contents w.old) (W.contents w.new) result
             (html_in scope self.now.0.tree.now self.now.0.id) }

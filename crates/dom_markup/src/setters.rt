@@ -1,4 +1,6 @@
-//! Markup that is read and put into a node's tree.
+//! Editing a tree by markup, which is parsed and inserted. The methods are named as those of
+//! `NodeRef` in the crate dom_query; the markup here has to be explicit markup, as
+//! `Document::parse` reads it.
 
 ghost use Rattle.std.specs.Prelude.{◌≡◌, IfErr, IfOk};
 ghost use Rattle.dom_links.specs.declared.gap.Place.TheVariants.{After, Around, AtEnd, AtFront};
@@ -12,47 +14,49 @@ use dom_links::gap::Place;
 use dom_nodes::fault::{EditFault, MarkupFault, MarkupFaultKind};
 use dom_trees::node_mut::NodeMut;
 
-/// The changes of a node's tree by markup. The markup is read first, as `Document::parse` reads it;
-/// of what it spells the nodes at the top are put in, without doctypes. They are numbered from the
-/// tree's length on in walk order, contents before children.
+/// Edits of a node's tree by markup. The markup is parsed first, as `Document::parse` does; then
+/// its top-level nodes, without doctypes, are inserted with their descendants. The new nodes get
+/// the next ids of the tree in document order, the contents of a template before its children.
 ///
-/// Refused as `Markup`, where the text is no markup; as `UnknownNode`; as `NoChildrenHere` or
-/// `RootOrFragment` by the node, also where the markup is empty; as `TooManyNodes` or `Memory`. The
-/// tree is then as it was.
+/// Every call fails with `Markup` if the text is not markup; with `UnknownNode`; with
+/// `NoChildrenHere` or `RootOrFragment` if nothing can be inserted at that place, even when the
+/// markup is empty; and with `TooManyNodes` or `Memory`. After an error the tree is as it was.
 pub trait NodeMutMarkup {
     ghost use Rattle.dom_trees.specs.declared.node_mut.NodeMut.{NodeMut};
 
     // The node, with its tree.
     ghost node: { Self → NodeMut };
 
-    /// Puts the markup in the place of the children. These are cut out, and are a run of their own.
+    /// Replaces the children of the node by the markup. The old children are detached and stay
+    /// siblings.
     fn set_html(&mut self, html: &str) -> Result<(), EditFault>
         ensures { PutsHtml InsteadOfChildren html.now (node self.old) (node self.new) result };
 
-    /// Puts the markup behind the children.
+    /// Inserts the markup after the last child of the node.
     fn append_html(&mut self, html: &str) -> Result<(), EditFault>
         ensures { PutsHtml AtEnd html.now (node self.old) (node self.new) result };
 
-    /// Puts the markup in front of the children.
+    /// Inserts the markup before the first child of the node.
     fn prepend_html(&mut self, html: &str) -> Result<(), EditFault>
         ensures { PutsHtml AtFront html.now (node self.old) (node self.new) result };
 
-    /// Puts the markup right before the node.
+    /// Inserts the markup right before the node, as its siblings.
     fn before_html(&mut self, html: &str) -> Result<(), EditFault>
         ensures { PutsHtml Before html.now (node self.old) (node self.new) result };
 
-    /// Puts the markup right after the node.
+    /// Inserts the markup right after the node, as its siblings.
     fn after_html(&mut self, html: &str) -> Result<(), EditFault>
         ensures { PutsHtml After html.now (node self.old) (node self.new) result };
 
-    /// Puts the markup in the place of the node, which is cut out. Markup without nodes changes
-    /// nothing.
+    /// Replaces the node by the markup; the node is detached. If the markup has no nodes, nothing
+    /// changes.
     fn replace_with_html(&mut self, html: &str) -> Result<(), EditFault>
         ensures { EditsByHtml result (node self.old) (node self.new) html.now
             (replacing_by (node self.old).id) };
 
-    /// Puts the first node of the markup, if that is an element, right before the node, and the
-    /// node to the end of its children. What is not used is a run of its own.
+    /// Wraps the node: if the first node of the markup is an element, it is inserted right before
+    /// the node, and the node becomes its last child. The other nodes of the markup are made and
+    /// stay detached.
     fn wrap_html(&mut self, html: &str) -> Result<(), EditFault>
         ensures { PutsHtml Around html.now (node self.old) (node self.new) result };
 }
@@ -90,7 +94,7 @@ impl<'a> NodeMutMarkup for NodeMut<'a> {
     }
 }
 
-/// Reads markup, and puts it at the place at the node.
+/// Parses the markup and inserts it at the place at the node.
 fn put_html(node: &mut NodeMut<'_>, place: Place, html: &str) -> Result<(), EditFault>
     ensures { PutsHtml place html.now node.old node.new result }
 {
@@ -98,7 +102,7 @@ fn put_html(node: &mut NodeMut<'_>, place: Place, html: &str) -> Result<(), Edit
     snippet.put_at(node.tree, &node.id, place)
 }
 
-/// Reads markup, to be put into the node's tree.
+/// Parses markup that is to be inserted into the node's tree.
 fn read_html(node: &NodeMut<'_>, html: &str) -> Result<Snippet, EditFault>
     ensures ok { IfOk result (λ snippet. IsSpelled html.now snippet) }
     ensures cause { IfErr result (ReadCause html.now) }
@@ -109,7 +113,8 @@ fn read_html(node: &NodeMut<'_>, html: &str) -> Result<Snippet, EditFault>
     }
 }
 
-/// What a fault of reading is called where a tree was to be edited.
+/// Returns the error of an edit for a fault of the parser: limits keep their names, and any other
+/// fault becomes `Markup`.
 pub fn edit_fault(fault: MarkupFault) -> EditFault
     ensures { result ≡ named_edit fault.kind fault }
 {

@@ -1,4 +1,4 @@
-//! Where the pieces of a text go: to a writer, or to the end of a string.
+//! Where text is written to: a writer, or the end of a string.
 
 ghost use Rattle.std.specs.Prelude.{◌≡◌, ℕ, List, Option, Some, IfErr, string_bytes};
 ghost use Rattle.std.specs.List.{flat_map};
@@ -10,10 +10,10 @@ use std::io::Write;
 /// Why a text was not written whole.
 #[derive(Clone, Copy, PartialEq, Eq, Debug, Drop, thiserror::Error)]
 pub enum WriteFault {
-    /// The writer failed, or took no byte.
+    /// The writer failed, or accepted no bytes.
     #[error("write failed")]
     Write,
-    /// Memory was refused.
+    /// Memory ran out.
     #[error("out of memory")]
     Memory,
 }
@@ -28,20 +28,20 @@ impl From<OutOfMemory> for WriteFault {
     }
 }
 
-/// A way to put texts into a `W`.
+/// A way to write texts to a `W`.
 pub(crate) trait PutText<W> {
-    // The bytes that were put, where they are known.
+    // The bytes that were written, if they are known.
     ghost written: { W → Option (List ℕ) };
 
-    /// What can fail besides the memory of the one who puts.
+    /// The error of a write, which also covers memory that runs out in the caller.
     type Fault: From<OutOfMemory>;
 
-    /// Puts the text; after a fault a beginning of it is put.
+    /// Writes the text. After an error, a beginning of it is written.
     fn put(w: &mut W, text: &str) -> Result<(), Self::Fault>
         ensures { Writes (written w.old) (written w.new) result text.now };
 }
 
-/// Writes to a writer.
+/// Writes texts to a writer.
 pub(crate) struct ToWriter;
 
 impl<W: Write> PutText<W> for ToWriter {
@@ -54,7 +54,7 @@ impl<W: Write> PutText<W> for ToWriter {
     }
 }
 
-/// Puts texts at the end of a string.
+/// Appends texts to a string.
 pub(crate) struct ToText;
 
 impl PutText<String> for ToText {
@@ -67,8 +67,9 @@ impl PutText<String> for ToText {
     }
 }
 
-/// Writes the bytes; `Err` only where the writer failed or took no byte. The writer's own
-/// `write_all` doesn't say what a failed call has written.
+/// Writes all the bytes. Fails with `WriteFault::Write` if the writer fails or accepts no bytes; a
+/// beginning is then written. The writer's own `write_all` doesn't say what a failed call has
+/// written.
 pub fn write_bytes<W: Write>(w: &mut W, bytes: &[u8]) -> Result<(), WriteFault>
     ensures written { Writes (W.contents w.old) (W.contents w.new) result bytes.now }
     ensures fault { IfErr result (λ fault. fault ≡ WriteFault.Write) }
@@ -84,7 +85,7 @@ pub fn write_bytes<W: Write>(w: &mut W, bytes: &[u8]) -> Result<(), WriteFault>
     Ok(())
 }
 
-/// Puts the parts, one after the other.
+/// Writes the parts, one after the other.
 pub(crate) fn put_parts<P: PutText<W>, W>(w: &mut W, parts: &[&str]) -> Result<(), P::Fault>
     ensures { Writes (P.written w.old) (P.written w.new) result (flat_map (λ p. p.now) parts.now) }
 {

@@ -12,7 +12,7 @@ use Rattle.dom_nodes.specs.declared.node_data.NodeData.TheVariants.{Document, Fr
 use Rattle.dom_nodes.specs.declared.node_data.TreeNode.{TreeNode}
 use Rattle.dom_nodes.specs.Elements.{Element}
 use Rattle.dom_links.specs.Forest.{Forest, children_of}
-use Rattle.dom_links.specs.Lists.{stands_in}
+use Rattle.dom_links.specs.Lists.{is_member}
 use Rattle.dom_links.specs.Sound.{IsForest, children_allowed_at}
 use Rattle.dom_links.specs.Texts.{text_of}
 use Rattle.dom_links.specs.Trees.{contents_list, trees, trees_to}
@@ -64,7 +64,7 @@ ended forest es now whole none part = record {
 -- ---- the edges of trees have their events
 
 abbrev KnownNodes : Forest → List ℕ → Type 0
-KnownNodes forest ns = (m : ℕ) → stands_in m ns ≡ true → m < length forest.content
+KnownNodes forest ns = (m : ℕ) → is_member m ns ≡ true → m < length forest.content
 
 -- only documents, fragments and elements have something below them
 childless : (forest : Forest) (n : ℕ) → IsForest forest → children_allowed_at forest n ≡ false → events_below forest n ≡ []
@@ -73,7 +73,7 @@ childless forest n good shut = ap (λ ns. events forest (trees forest ns)) (none
     none : (ns : List ℕ) → children_of forest n ≡ ns → ns ≡ []
     none [] is = refl
     none (k ∷ ks) is =
-        let child : stands_in k (children_of forest n) ≡ true = ap (stands_in k) is ∙ or_left (k == k) (stands_in k ks) (eq-eqb k k refl) in
+        let child : is_member k (children_of forest n) ≡ true = ap (is_member k) is ∙ or_left (k == k) (is_member k ks) (eq-eqb k k refl) in
         let open_here = good.parents_allow n k (good.once.in_children n k child).1 in
         absurd (cc)
 
@@ -113,7 +113,7 @@ trees-events forest good ns known marked = go (trees_weight (trees forest ns)) n
     go (suc most) (n ∷ ns) known marked few =
         let tree = trees-some forest n ns good known in
         let weight = ap trees_weight tree in
-        let here = known n (or_left (n == n) (stands_in n ns) (eq-eqb n n refl)) in
+        let here = known n (or_left (n == n) (is_member n ns) (eq-eqb n n refl)) in
         elim ((slice_get_cases forest.content n).1) [
           | inl found ↦ (
               let content = found.0 in
@@ -124,7 +124,7 @@ trees-events forest good ns known marked = go (trees_weight (trees forest ns)) n
               let others = edges outside_pre forest marked (trees forest ns) in
               let first = open_events forest n content in
               let below = go most (children_of forest n) (λ m s. (good.once.in_children n m s).0) false (omega (arith, few, weight)) in
-              let later = go most ns (λ m s. known m (or_right (n == m) (stands_in m ns) s)) marked (omega (arith, few, weight)) in
+              let later = go most ns (λ m s. known m (or_right (n == m) (is_member m ns) s)) marked (omega (arith, few, weight)) in
               let node = node-parts forest good n content contents children read below in
               ap (λ ts. edges_events forest (edges outside_pre forest marked ts)) tree
               ∙ rw read (ap (λ es. first ++ es) (flat_map-append (edge_events forest) mine others) ∙ (sym (append_assoc first (edges_events forest mine) (edges_events forest others))

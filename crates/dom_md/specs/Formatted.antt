@@ -1,4 +1,4 @@
--- Formatted text: a fold over what opens and closes in a tree, and over its texts.
+-- Formatted text, defined as a fold over events: elements that open and close, and texts.
 use Rattle.std.specs.Prelude.{◌≡◌, Result, String, IfOk, encode_utf8, string_bytes, ℕ, ◌-◌, ◌==◌, ◌&&◌, ◌||◌, nat_lt, not, Bool, true, false, List, [], ◌∷◌, ◌++◌, length, drop, slice_get, codes, encode_utf8_all, if◌then◌else◌}
 use Rattle.std.specs.Borrow.{Bor}
 use Rattle.std.specs.Char.{is_whitespace}
@@ -46,25 +46,26 @@ drop_spaces (b ∷ text) = if b == space && length (drop_spaces text) == 0 then 
 
 -- ---- words
 
--- characters of which none before the first word is whitespace: each further whitespace before a word becomes one space; `gap` says
--- that whitespace stands right before
+-- the characters with each run of whitespace replaced by one space, or by nothing at the end of the text; `gap` says whether
+-- whitespace directly precedes them
 abbrev pub spaced_on : (gap : Bool) → List ℕ → List ℕ
 spaced_on gap [] = []
 spaced_on gap (c ∷ cs) = if is_whitespace c then spaced_on true cs else if gap then space ∷ c ∷ spaced_on false cs else c ∷ spaced_on false cs
 
--- a text with one space for each whitespace before a word but the first
+-- a text with one space for each run of whitespace before a word, and none at its end
 abbrev pub spaced_words : List ℕ → List ℕ
 spaced_words text = encode_utf8_all (spaced_on false (chars text))
 
--- the words of a text, joined by one space
+-- the words of a text, joined by single spaces
 abbrev pub joined_words : List ℕ → List ℕ
 joined_words text = spaced_words (trim_start text)
 
--- some of the words of a text were added to the string, and the others follow
+-- the contract of a call that appends some of a text's words: the new string followed by the words of the remaining text is the
+-- old string followed by the words of the whole text
 abbrev pub AddsWords : {A E : Type 0} → (old new : String A) → Result (Bor (List ℕ)) E → List ℕ → Type 0
 AddsWords old new result text = IfOk result (λ after. string_bytes new ++ spaced_words after.now ≡ string_bytes old ++ spaced_words text)
 
--- the text is a character and what follows it, and so are its words
+-- the text is a character followed by a rest, and the spaced words of the text are that character followed by those of the rest
 abbrev pub CutsChar : List ℕ → ℕ × Bor (List ℕ) → Type 0
 CutsChar text cut = (text ≡ encode_utf8 cut.0 ++ cut.1.now) × (spaced_words text ≡ encode_utf8 cut.0 ++ spaced_words cut.1.now)
 
@@ -76,14 +77,15 @@ ends_with_whitespace text = nat_lt (length (trim_end text)) (length text)
 
 -- ---- the steps
 
--- the words that are added, after a space where the text before did not part them
+-- the text with these words appended, and a space before them if whitespace preceded them and the old text ends in neither space
+-- nor line feed
 abbrev pub with_words : (old text words : List ℕ) → List ℕ
 with_words old text words =
     if length words == 0 then old
     else if begins_with_whitespace text && not (is_fresh old) then old ++ (codes " " ++ words)
     else old ++ words
 
--- a space where the added text ended in whitespace
+-- a space is appended if the added text ended in whitespace and the result does not
 abbrev pub with_gap : (text now : List ℕ) → List ℕ
 with_gap text now = if ends_with_whitespace text && not (ends_with_whitespace now) then now ++ codes " " else now
 
@@ -105,7 +107,7 @@ with_close old name =
 
 -- ---- the fold
 
--- an element of this name opens or closes; a text; a text that is kept as it is
+-- an element with this name opens or closes; there is a text; there is a text that is kept unchanged
 pub data Event : Type 0 where
   opens : List ℕ → Event
   closes : List ℕ → Event
@@ -124,15 +126,15 @@ folded old (e ∷ es) = folded (step old e) es
 
 -- ---- the events of trees
 
--- the texts of trees, joined
+-- the contents of all text nodes in trees, concatenated
 abbrev pub joined_texts : Forest → Trees → List ℕ
 joined_texts forest ts = flat_map (text_at forest) (walk ts)
 
--- what stands between the tags of an element: a `pre` keeps its text
+-- the events between the start and the end of an element: a `pre` keeps its text unchanged
 abbrev pub inner_events : (name text : List ℕ) → List Event → List Event
 inner_events name text below = if bytes_eq name (codes "pre") then keeps_text text ∷ [] else below
 
--- a text or the tags of an element, and what is below the node, whose text is given, too
+-- the events of a node: its text, or its start and end with what is below it between them; `text` is the text of the node
 abbrev pub node_events : NodeData → (text : List ℕ) → List Event → List Event
 node_events (Text contents) text below = has_text contents ∷ below
 node_events (AnElement e) text below = opens e.name.local ∷ inner_events e.name.local text below ++ closes e.name.local ∷ []
@@ -147,11 +149,12 @@ events forest (Tree n contents children later) =
 abbrev pub events_below : Forest → ℕ → List Event
 events_below forest n = events forest (trees forest (children_of forest n))
 
--- what is below a node, formatted
+-- the formatted text of what is below a node, with whitespace at its end
 abbrev pub untrimmed_below : Forest → ℕ → List ℕ
 untrimmed_below forest n = folded [] (events_below forest n)
 
--- the formatted text of what is below a node, and of a node with its own tags; a document or fragment has none
+-- the formatted text of what is below a node, without whitespace at its end; and that of a node including its own start and end,
+-- which is empty for a document or a fragment
 unfoldable pub formatted_below : Forest → ℕ → List ℕ
 formatted_below forest n = trim_end (untrimmed_below forest n)
 

@@ -1,4 +1,4 @@
--- The options that a node is written with.
+-- The options with which a node is written.
 use Rattle.std.specs.Prelude.{ℕ, true, false}
 use Rattle.dom_md.specs.declared.context.EmphasisScope.{EmphasisScope}
 use Rattle.dom_md.specs.declared.context.FormatOpts.{FormatOpts}
@@ -37,11 +37,11 @@ with_offset offset opts = record opts { offset = offset }
 abbrev pub with_scope : EmphasisScope → FormatOpts → FormatOpts
 with_scope scope opts = record opts { emphasis_scope = merged opts.emphasis_scope scope }
 
--- what the items of a list are written with
+-- the options for the items of a list
 abbrev pub item_opts : ListKind → FormatOpts → FormatOpts
 item_opts kind opts = record opts { include_node = false; offset = further opts.offset (kind_offset kind) }
 
--- what they are written with after the list went on to its next number
+-- those options after the list advanced to its next number
 abbrev pub advanced_opts : ListKind → (indent : ℕ) → FormatOpts → FormatOpts
 advanced_opts Ul indent opts = opts
 advanced_opts (Ol n) indent opts = with_offset (further indent (kind_offset (advanced (Ol n)))) opts

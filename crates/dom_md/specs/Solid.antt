@@ -11,10 +11,10 @@ use Rattle.dom_trees.specs.Views.{node_is}
 abbrev pub is_solid : ℕ → Bool
 is_solid c = not (is_whitespace c)
 
--- the characters of a text but for whitespace
+-- the characters of a text that are not whitespace
 abbrev pub solid : List ℕ → List ℕ
 solid text = filter is_solid (chars text)
 
--- without whitespace, the text is that of the node, if it may have children
+-- if the node may have children, the text is the node's text apart from whitespace
 abbrev pub KeepsWords : Forest → ℕ → List ℕ → Type 0
 KeepsWords forest n text = node_is children_allowed forest n ≡ true → solid text ≡ solid (text_of forest n)

@@ -1,4 +1,4 @@
--- What the names of elements are to Markdown.
+-- What kinds of elements Markdown distinguishes, by their names.
 use Rattle.std.specs.Prelude.{ℕ, ◌+◌, ◌-◌, ◌==◌, ◌&&◌, ◌||◌, nat_le, List, [], ◌∷◌, codes, if◌then◌else◌}
 use Rattle.std.specs.Str.{bytes_eq}
 use Rattle.dom_md.specs.declared.serializer.names.TheConstants.{P, DIV, SECTION, ARTICLE, DL, A, LI, UL, OL, STRONG, B, EM, I, CODE, PRE, BR, IMG, TD, TH, TR, TABLE, BLOCKQUOTE, HR, H1, H6}
@@ -18,11 +18,11 @@ abbrev pub tag_in : List (List ℕ × Tag) → List ℕ → Tag
 tag_in [] name = Other
 tag_in (entry ∷ entries) name = if bytes_eq name entry.0 then entry.1 else tag_in entries name
 
--- what an element of that name is: `Other` for all other names
+-- the kind of an element with this name; `Other` for names that are not in the table
 abbrev pub tag_named : List ℕ → Tag
 tag_named name = tag_in named_tags name
 
--- the same by the number of a known name
+-- the kind by the number of a known name
 abbrev pub inner_numbered : ℕ → Tag
 inner_numbered n =
     if n == LI then Item else if n == TR then TableRow else if n == TD || n == TH then TableCell

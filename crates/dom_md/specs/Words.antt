@@ -1,4 +1,4 @@
--- What the Markdown of texts alone stands for.
+-- The text that the Markdown of a node whose children are all texts is read as.
 use Rattle.std.specs.Prelude.{◌≡◌, ℕ, ◌&&◌, Bool, true, false, List, ◌∷◌, String, string_bytes}
 use Rattle.std.specs.List.{flat_map, list_all}
 use Rattle.dom_nodes.specs.Ascii.{space}
@@ -10,19 +10,19 @@ use Rattle.dom_links.specs.Texts.{text_of}
 use Rattle.dom_trees.specs.Views.{node_is}
 use Rattle.dom_md.specs.Resolved.{resolved}
 
--- one space between any two words, and one before them all if they are `parted`
+-- the words with one space between each two, and one before them all if `parted`
 abbrev pub spaced : (parted : Bool) → List (List ℕ) → List ℕ
 spaced false words = words_joined words
 spaced true words = flat_map (λ word. space ∷ word) words
 
--- the node may have children, and they are texts alone
+-- the node may have children, and all its children are text nodes
 abbrev pub holds_texts : Forest → ℕ → Bool
 holds_texts forest n = node_is children_allowed forest n && list_all (λ child. node_is is_text forest child) (children_of forest n)
 
--- the words between ASCII whitespace in the text of the node, joined by one space
+-- the words in the node's text, as separated by ASCII whitespace, joined by single spaces
 abbrev pub joined_words_of : Forest → ℕ → List ℕ
 joined_words_of forest n = words_joined (words_of (text_of forest n))
 
--- where the node holds texts alone, its Markdown resolves to the words of its text
+-- if all children of the node are texts, its Markdown resolves to the words of its text
 abbrev pub ReadsAsWords : {A : Type 0} → Forest → ℕ → String A → Type 0
 ReadsAsWords forest n md = holds_texts forest n ≡ true → resolved (string_bytes md) ≡ joined_words_of forest n

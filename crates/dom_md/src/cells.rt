@@ -1,4 +1,4 @@
-//! Cells of a table.
+//! Escaping of texts in the cells of a Markdown table.
 
 ghost use Rattle.std.specs.Prelude.{◌≡◌, IfOk, OnErr, OnOk, string_bytes};
 ghost use Rattle.dom_md.specs.Cells.{AddsBackslashes, BarsAreEscaped, in_cell};
@@ -6,8 +6,8 @@ ghost use Rattle.dom_md.specs.Cells.{AddsBackslashes, BarsAreEscaped, in_cell};
 use dom_nodes::fault::OutOfMemory;
 use std::alloc::{AllocError, Global};
 
-/// Puts a backslash before each `|` that none stands before. Where memory is refused the text stays
-/// as it was.
+/// Escapes the text in place: puts a backslash before each `|` that does not have one yet. Fails
+/// only when memory runs out; the text is then unchanged.
 pub fn escape_table_cell_inplace(text: &mut String) -> Result<(), OutOfMemory>
     ensures value { OnOk result (string_bytes text.new ≡ in_cell (string_bytes text.old)) }
     ensures bars { OnOk result (BarsAreEscaped (string_bytes text.new)) }
@@ -19,7 +19,7 @@ pub fn escape_table_cell_inplace(text: &mut String) -> Result<(), OutOfMemory>
     Ok(())
 }
 
-/// The text, with those backslashes.
+/// Returns an escaped copy of the text.
 fn in_cell(alloc: Global, text: &str) -> Result<String, AllocError>
     ensures { IfOk result (λ escaped. string_bytes escaped ≡ in_cell text.now) }
 {

@@ -1,4 +1,4 @@
-//! Chunks of text that Markdown is to read as they are.
+//! Escaping of chunks of text so that Markdown reads them literally. Start at `push_escaped_chunk`.
 
 ghost use Rattle.std.specs.Char.{is_ascii_digit};
 ghost use Rattle.std.specs.List.{list_all};
@@ -14,8 +14,9 @@ ghost use Rattle.dom_md.specs.Resolved.{ReadsIn, ResolvesIn};
 use dom_nodes::fault::OutOfMemory;
 use std::alloc::{AllocError, Global};
 
-/// Adds a chunk; with `escape`, a backslash stands before what Markdown would read as a mark. Where
-/// memory is refused the text stays as it was.
+/// Appends a chunk to the text. With `escape`, a backslash is put before each character of the
+/// chunk that Markdown would interpret; with `line_start`, also before one that it would interpret
+/// only at the start of a line. Fails only when memory runs out; the text is then unchanged.
 pub fn push_escaped_chunk(
     text: &mut String,
     chunk: &str,
@@ -38,7 +39,7 @@ pub fn push_escaped_chunk(
     Ok(text.push_str(escaped.as_str())?)
 }
 
-/// Whether the chunk can be added as it is: nothing in it is a mark.
+/// Whether the chunk can be appended as it is because nothing in it needs a backslash.
 fn is_plain(chunk: &str, line_start: bool) -> bool
     ensures { result ≡ true → escaped line_start chunk.now ≡ chunk.now }
 {
@@ -48,7 +49,7 @@ fn is_plain(chunk: &str, line_start: bool) -> bool
     }
 }
 
-/// The place before which a backslash stands because a line begins with the chunk.
+/// Returns the index at which a backslash is needed because the chunk begins a line, if it does.
 fn mark_at_start(chunk: &str, line_start: bool) -> Option<usize>
     ensures { result ≡ (if line_start then line_mark chunk.now else None) }
 {
@@ -67,7 +68,7 @@ fn has_no_mark(bytes: &[u8]) -> bool
     }
 }
 
-/// The chunk with backslashes.
+/// Returns an escaped copy of the chunk.
 fn escaped(alloc: Global, chunk: &str, line_start: bool) -> Result<String, AllocError>
     ensures { IfOk result (λ made. string_bytes made ≡ escaped line_start chunk.now) }
 {
@@ -84,7 +85,7 @@ fn escaped(alloc: Global, chunk: &str, line_start: bool) -> Result<String, Alloc
     Ok(made)
 }
 
-/// Adds the chunk with a backslash before each mark.
+/// Appends the chunk with a backslash before each mark.
 fn push_marks(made: &mut String, chunk: &str) -> Result<(), AllocError>
     ensures { OnOk result (string_bytes made.new ≡ string_bytes made.old ++ with_marks chunk.now) }
 {
@@ -98,7 +99,7 @@ fn push_marks(made: &mut String, chunk: &str) -> Result<(), AllocError>
     made.push_str(rest)
 }
 
-/// A mark, the text before it and the text after it.
+/// A mark, with the text before and after it.
 #[derive(Clone, Copy)]
 struct Marked<'a> {
     before: &'a str,
@@ -106,7 +107,7 @@ struct Marked<'a> {
     after: &'a str,
 }
 
-/// The first mark of a text.
+/// Splits a text at its first mark; returns `None` if there is none.
 fn cut_mark(text: &str) -> Option<Marked<'_>>
     ensures { CutsMark text.now result }
 {
@@ -118,7 +119,7 @@ fn cut_mark(text: &str) -> Option<Marked<'_>>
     })
 }
 
-/// The place of the first mark.
+/// Returns the index of the first mark.
 fn find_mark(bytes: &[u8]) -> Option<usize>
     ensures { MatchOption result (with_marks bytes.now ≡ bytes.now) (λ at.
         IsFirstMark bytes.now at) }
@@ -131,7 +132,7 @@ fn find_mark(bytes: &[u8]) -> Option<usize>
     None
 }
 
-/// Whether a backslash stands before the byte at this place.
+/// Whether the byte at this index needs a backslash wherever it is in a line.
 pub(crate) fn is_marked(bytes: &[u8], at: usize) -> bool
     requires { at < length bytes.now }
     ensures { result ≡ is_marked (slice_index_or bytes.now at 0) (drop (at + 1) bytes.now) }
@@ -157,7 +158,7 @@ fn is_mark(byte: u8) -> bool
     )
 }
 
-/// The place before which a backslash stands only where the chunk begins a line.
+/// Returns the index at which a backslash is needed only if the chunk begins a line.
 fn line_mark(chunk: &str) -> Option<usize>
     ensures value { result ≡ line_mark chunk.now }
 {

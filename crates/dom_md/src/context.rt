@@ -1,4 +1,5 @@
-//! What a writer of Markdown knows of where it writes: options, emphasis and lists.
+//! The context in which the Markdown serializer writes a node: options, emphasis and lists. The
+//! types are those of the crate dom_query.
 
 ghost use Rattle.std.specs.Prelude.{◌≡◌, ◌≤◌, IfNone, IfOk, IfSome, false, string_bytes};
 ghost use Rattle.dom_md.specs.Context.{advanced, digit_count, kind_offset, line_break, prefix_of};
@@ -12,10 +13,10 @@ ghost use Rattle.dom_md.specs.Scopes.{has_scope, merged};
 use dom_nodes::fault::OutOfMemory;
 use std::alloc::Global;
 
-/// The greatest number of an item.
+/// The greatest number of a list item.
 const MAX_LIST_NUMBER: u32 = 999_999_999;
 
-/// The emphasis round a place: bold, italic, both or none.
+/// The emphasis that surrounds a place in the text: bold, italic, both or none.
 #[derive(Clone, Copy, PartialEq, Eq, Debug, Default, Drop)]
 pub struct EmphasisScope {
     bold: bool,
@@ -33,7 +34,7 @@ impl EmphasisScope {
         italic: true,
     };
 
-    /// No emphasis.
+    /// Returns the scope without emphasis.
     pub const fn none() -> EmphasisScope
         ensures bold { result.bold ≡ false }
         ensures italic { result.italic ≡ false }
@@ -44,14 +45,14 @@ impl EmphasisScope {
         }
     }
 
-    /// Whether all of the other's emphasis is in this one.
+    /// Whether this scope includes each kind of emphasis of the other.
     pub const fn contains(self, other: EmphasisScope) -> bool
         ensures { result ≡ has_scope self other }
     {
         (self.bold || !other.bold) && (self.italic || !other.italic)
     }
 
-    /// The emphasis of both.
+    /// Returns the scope with the emphasis of both.
     pub const fn insert(self, other: EmphasisScope) -> EmphasisScope
         ensures { result ≡ merged self other }
     {
@@ -62,7 +63,7 @@ impl EmphasisScope {
     }
 }
 
-/// What a marker stands for: `*` for italic, any other for bold.
+/// The emphasis of a marker: italic for `*`, and bold for any other marker.
 impl From<&str> for EmphasisScope {
     ghost use Rattle.std.specs.Prelude.{◌≡◌};
     ghost use Rattle.dom_md.specs.Scopes.{scope_of};
@@ -78,22 +79,31 @@ impl From<&str> for EmphasisScope {
     }
 }
 
-/// How a node is written.
+/// Options for writing a node. The default is that all are off.
 #[derive(Clone, Copy, PartialEq, Eq, Debug, Default, Drop)]
 pub struct FormatOpts {
+    /// The node itself is written, not only its children.
     pub include_node: bool,
+    /// Texts are written without backslash escapes.
     pub skip_escape: bool,
+    /// The node is within a line of text.
     pub inline: bool,
+    /// Only text is written, no Markdown for elements.
     pub skip_md: bool,
+    /// The node is in the cell of a table, where a line break is `<br>`.
     pub table_cell: bool,
+    /// The node is in a list item; its first word is escaped as at the start of a line.
     pub list_item: bool,
+    /// The node is in the text of a link.
     pub link_body: bool,
+    /// The indentation of lines, in columns.
     pub offset: usize,
+    /// The emphasis that surrounds the node.
     pub emphasis_scope: EmphasisScope,
 }
 
 impl FormatOpts {
-    /// All off.
+    /// Returns options that are all off, with offset 0 and no emphasis.
     pub const fn new() -> FormatOpts
         ensures { result ≡ all_off }
     {
@@ -110,7 +120,7 @@ impl FormatOpts {
         }
     }
 
-    /// The node itself is written.
+    /// Returns the options with `include_node` on: the node itself is written, too.
     pub const fn include_node(mut self) -> FormatOpts
         ensures { result ≡ with_include_node self }
     {
@@ -118,7 +128,7 @@ impl FormatOpts {
         self
     }
 
-    /// Texts are written without backslashes.
+    /// Returns the options with `skip_escape` on: texts are written without backslash escapes.
     pub const fn skip_escape(mut self) -> FormatOpts
         ensures { result ≡ with_skip_escape self }
     {
@@ -126,7 +136,7 @@ impl FormatOpts {
         self
     }
 
-    /// The node stands in a line.
+    /// Returns the options with `inline` on: the node is within a line of text.
     pub const fn inline(mut self) -> FormatOpts
         ensures { result ≡ with_inline self }
     {
@@ -134,7 +144,7 @@ impl FormatOpts {
         self
     }
 
-    /// No Markdown is written.
+    /// Returns the options with `skip_md` on: no Markdown is written for elements.
     pub const fn skip_md(mut self) -> FormatOpts
         ensures { result ≡ with_skip_md self }
     {
@@ -142,7 +152,7 @@ impl FormatOpts {
         self
     }
 
-    /// The node stands in the cell of a table.
+    /// Returns the options with `table_cell` on: the node is in the cell of a table.
     pub const fn table_cell(mut self) -> FormatOpts
         ensures { result ≡ with_table_cell self }
     {
@@ -150,7 +160,7 @@ impl FormatOpts {
         self
     }
 
-    /// The node begins an item of a list.
+    /// Returns the options with `list_item` on: the node is in a list item.
     pub const fn list_item(mut self) -> FormatOpts
         ensures { result ≡ with_list_item self }
     {
@@ -158,7 +168,7 @@ impl FormatOpts {
         self
     }
 
-    /// The node stands in the text of a link.
+    /// Returns the options with `link_body` on: the node is in the text of a link.
     pub const fn link_body(mut self) -> FormatOpts
         ensures { result ≡ with_link_body self }
     {
@@ -166,7 +176,7 @@ impl FormatOpts {
         self
     }
 
-    /// Lines begin so far from the left.
+    /// Returns the options with this indentation, in columns.
     pub const fn offset(mut self, offset: usize) -> FormatOpts
         ensures { result ≡ with_offset offset self }
     {
@@ -174,7 +184,7 @@ impl FormatOpts {
         self
     }
 
-    /// The node stands in this emphasis, too.
+    /// Returns the options with this emphasis added to that around the node.
     pub const fn emphasis_scope(mut self, scope: EmphasisScope) -> FormatOpts
         ensures { result ≡ with_scope scope self }
     {
@@ -183,7 +193,7 @@ impl FormatOpts {
     }
 }
 
-/// A list with marks, or one with numbers and the number of its next item.
+/// The kind of a list: unordered, or ordered with the number of its next item.
 #[derive(Clone, Copy, PartialEq, Eq, Debug, Drop)]
 pub enum ListKind {
     Ul,
@@ -191,7 +201,8 @@ pub enum ListKind {
 }
 
 impl ListKind {
-    /// How far the text of an item stands behind that of the list.
+    /// By how many columns the text of an item is indented relative to its list: at least 4, and at
+    /// least two more than the number has digits.
     fn offset(self) -> usize
         ensures { result ≡ kind_offset self }
     {
@@ -239,16 +250,20 @@ fn digit_count(n: u32) -> usize
     10
 }
 
-/// A list that is being written.
+/// The state of a list that is being written.
 #[derive(Clone, Copy, Drop)]
 pub struct ListContext {
+    /// The options for the items.
     pub opts: FormatOpts,
+    /// The kind of the list, with the number of the next item.
     pub kind: ListKind,
+    /// The indentation of the list itself, in columns.
     list_indent: usize,
 }
 
 impl ListContext {
-    /// A list written with these options, and with what its items are written.
+    /// Returns the state at the start of a list. `opts` are the options of the list itself; those
+    /// of its items have the item's offset and `include_node` off.
     pub fn new(opts: FormatOpts, kind: ListKind) -> ListContext
         ensures opts { result.opts ≡ item_opts kind opts }
         ensures kind { result.kind ≡ kind }
@@ -264,21 +279,22 @@ impl ListContext {
         }
     }
 
-    /// The offset of the list itself.
+    /// Returns the indentation of the list itself, in columns.
     pub const fn list_indent_len(&self) -> usize
         ensures { result ≡ self.now.list_indent }
     {
         self.list_indent
     }
 
-    /// What ends a line.
+    /// Returns what ends a line: `<br>` in the cell of a table, a line feed elsewhere.
     pub fn linebreak(&self) -> &'static str
         ensures { result.now ≡ line_break self.now.opts.table_cell }
     {
         if self.opts.table_cell { "<br>" } else { "\n" }
     }
 
-    /// What stands before an item of a list without numbers; None for a list with numbers.
+    /// Returns the prefix of an item of an unordered list, `"- "`, or `"+ "` in the cell of a
+    /// table; `None` for an ordered list.
     pub fn mark(&self) -> Option<&'static str>
         ensures some { IfSome result (λ mark. mark.now
             ≡ prefix_of self.now.kind self.now.opts.table_cell) }
@@ -290,7 +306,8 @@ impl ListContext {
         }
     }
 
-    /// What stands before an item.
+    /// Returns the prefix of the next item: that of `mark`, or the number with `". "`. Fails only
+    /// when memory runs out.
     pub fn prefix(&self, alloc: Global) -> Result<String, OutOfMemory>
         ensures { IfOk result (λ t. string_bytes t ≡ prefix_of self.now.kind
             self.now.opts.table_cell) }
@@ -304,7 +321,8 @@ impl ListContext {
         }
     }
 
-    /// Goes on to the next number, up to the limit, and to the offset that it asks for.
+    /// Advances an ordered list to its next number, at most 999,999,999, and sets the offset of the
+    /// items accordingly. Leaves an unordered list as it is.
     pub fn advance_ol_number(&mut self)
         ensures kind { self.new.kind ≡ advanced self.old.kind }
         ensures indent { self.new.list_indent ≡ self.old.list_indent }

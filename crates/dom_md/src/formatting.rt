@@ -1,4 +1,5 @@
-//! Formatted text: the words of a tree, with line feeds where its blocks end.
+//! Formatted text: the words of a tree, with line feeds at the ends of its blocks. Start at
+//! `formatted_text`; the traversal is in `edges`, and what each event appends is in `steps`.
 
 ghost use Rattle.std.specs.Prelude.{◌≡◌, IfOk, string_bytes};
 ghost use Rattle.dom_md.specs.Formatted.{formatted_below, formatted_node};
@@ -12,8 +13,8 @@ mod edges;
 mod names;
 mod steps;
 
-/// The formatted text of what is below the node, without whitespace at its end. Without any
-/// whitespace, that of a node that may have children is its text without whitespace.
+/// Returns the formatted text of what is below the node, without whitespace at its end. If the node
+/// may have children, this is its text apart from whitespace. Fails only when memory runs out.
 pub(crate) fn formatted_text(node: &NodeRef<'_>) -> Result<String, OutOfMemory>
     ensures text { IfOk result
         (λ t. string_bytes t ≡ formatted_below node.now.tree.now node.now.id) }
@@ -24,8 +25,8 @@ pub(crate) fn formatted_text(node: &NodeRef<'_>) -> Result<String, OutOfMemory>
     Ok(String::from_str(node.tree.allocator(), text.as_str().trim_end())?)
 }
 
-/// The formatted text of the node with its own tags; empty for a document, a fragment or an unknown
-/// number.
+/// Returns the formatted text of the node, including its own start and end; an empty string for a
+/// document, a fragment or an unknown id. Fails only when memory runs out.
 pub fn formatted_node(node: &NodeRef<'_>) -> Result<String, OutOfMemory>
     ensures { IfOk result (λ text. string_bytes text
         ≡ formatted_node node.now.tree.now node.now.id) }

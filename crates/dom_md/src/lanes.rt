@@ -1,4 +1,5 @@
-//! Sixteen bytes of a text at a time, in the lanes of a vector.
+//! Operations on 16 bytes of a text at a time, in the lanes of a vector. A marked lane has all its
+//! bits set, and an unmarked one none.
 
 ghost use Rattle.std.specs.Prelude.{◌≡◌, ◌==◌, ◌||◌, ◌+◌, ◌<◌, ◌≤◌, ℕ, Bool, false, length};
 ghost use Rattle.std.specs.Prelude.{if◌then◌else◌, nat_le, slice_index_or};
@@ -7,7 +8,7 @@ ghost use Rattle.dom_md.specs.Lanes.{HasLanes, Marks};
 
 use std::simd::prelude::*;
 
-/// The bytes from this place on.
+/// Loads the 16 bytes from this index on.
 #[inline(always)]
 pub(crate) fn load(bytes: &[u8], at: usize) -> u8x16
     requires { at + 16 ≤ length bytes.now }
@@ -16,7 +17,7 @@ pub(crate) fn load(bytes: &[u8], at: usize) -> u8x16
     u8x16::from_slice(&bytes[at..])
 }
 
-/// The bytes with the one behind it for each space.
+/// Replaces each space by the byte after it; `next` are the bytes that follow those of `here`.
 #[inline(always)]
 pub(crate) fn past_spaces(here: u8x16, next: u8x16) -> u8x16
     ensures { HasLanes result (λ k. if slice_index_or here k 0 == space
@@ -25,7 +26,7 @@ pub(crate) fn past_spaces(here: u8x16, next: u8x16) -> u8x16
     here.simd_eq(u8x16::splat(b' ')).select(next, here)
 }
 
-/// Marks the lanes that hold this byte.
+/// Marks the lanes that contain this byte.
 #[inline(always)]
 pub(crate) fn equal_to(v: u8x16, byte: u8) -> u8x16
     ensures { Marks result (λ k. slice_index_or v k 0 == byte) }
@@ -34,7 +35,7 @@ pub(crate) fn equal_to(v: u8x16, byte: u8) -> u8x16
         .select(u8x16::splat(255), u8x16::splat(0))
 }
 
-/// Marks the lanes that hold this byte or a lesser one.
+/// Marks the lanes that contain this byte or a smaller one.
 #[inline(always)]
 pub(crate) fn at_most(v: u8x16, byte: u8) -> u8x16
     ensures { Marks result (λ k. nat_le (slice_index_or v k 0) byte) }
@@ -43,7 +44,7 @@ pub(crate) fn at_most(v: u8x16, byte: u8) -> u8x16
         .select(u8x16::splat(255), u8x16::splat(0))
 }
 
-/// Marks the lanes that one of the two marks.
+/// Marks the lanes that are marked in at least one of the two vectors.
 #[inline(always)]
 pub(crate) fn either(a: u8x16, b: u8x16) -> u8x16
     ensures { (p q : ℕ → Bool) → Marks a p → Marks b q → Marks result (λ k. p k || q k) }
@@ -51,7 +52,7 @@ pub(crate) fn either(a: u8x16, b: u8x16) -> u8x16
     a | b
 }
 
-/// How many lanes stand before the first that is marked.
+/// Returns how many lanes precede the first marked one; 16 if none is marked.
 #[inline(always)]
 pub(crate) fn unmarked_len(v: u8x16) -> usize
     ensures within { result ≤ 16 }

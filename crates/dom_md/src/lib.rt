@@ -1,4 +1,7 @@
-//! Markdown: the pieces that it is written of, and what a writer of it holds; formatted text.
+//! Formatted text and Markdown of a tree. `NodeMd` has the calls for a node; the module
+//! `serializer` writes Markdown, and `formatting` writes formatted text. The other modules contain
+//! the pieces: escaping (`chunks`, `cells`), code fences (`fences`), and the options and lists
+//! (`context`).
 #![tactic(auto)]
 
 pub mod cells;

@@ -1,11 +1,12 @@
-//! What this crate adds to nodes.
+//! The methods that this crate adds to nodes.
 
 use crate::formatting::formatted_text;
 use crate::serializer::serialize_md;
 use dom_nodes::fault::OutOfMemory;
 use dom_trees::node_ref::NodeRef;
 
-/// The formatted text and the Markdown of a node.
+/// The formatted text and the Markdown of a node, as in the crate dom_query. Each call fails only
+/// when memory runs out.
 pub trait NodeMd {
     ghost use Rattle.std.specs.Prelude.{◌≡◌, ℕ, IfOk, string_bytes};
     ghost use Rattle.dom_links.specs.Forest.{Forest};
@@ -16,21 +17,22 @@ pub trait NodeMd {
     // The forest of the node's tree.
     ghost forest: { Self → Forest };
 
-    // The number of the node.
+    // The node's id.
     ghost number: { Self → ℕ };
 
-    /// The formatted text of what is below the node, without whitespace at its end; empty for an
-    /// unknown number. Without any whitespace, that of a node that may have children is its `text`
-    /// without whitespace.
+    /// Returns the text of what is below the node with line feeds at the ends of blocks, without
+    /// whitespace at its end; an empty string for an unknown id. If the node may have children,
+    /// this is its `text` apart from whitespace.
     fn formatted_text(&self) -> Result<String, OutOfMemory>
         ensures text { IfOk result (λ t. string_bytes t ≡ formatted_below (forest self.now)
             (number self.now)) }
         ensures words { IfOk result (λ t. KeepsWords (forest self.now) (number self.now)
             (string_bytes t)) };
 
-    /// The Markdown of what is below the node; empty for an unknown number. Elements of the names
-    /// in `skip_tags` are left out: `script`, `style`, `meta` and `head` where none are given. That
-    /// of a node that holds texts alone resolves to the words of its text, joined by one space.
+    /// Returns the Markdown of what is below the node; an empty string for an unknown id. Elements
+    /// whose names are in `skip_tags` are left out; with `None` these are `script`, `style`, `meta`
+    /// and `head`. If all children of the node are texts, the Markdown, with its backslash escapes
+    /// resolved, is the words of the node's text, joined by single spaces.
     fn md(&self, skip_tags: Option<&[&str]>) -> Result<String, OutOfMemory>
         ensures { IfOk result (ReadsAsWords (forest self.now) (number self.now)) };
 }

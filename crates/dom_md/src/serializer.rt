@@ -1,4 +1,5 @@
-//! Markdown of a tree, by a stack of what is still to be written, so without recursion.
+//! Writes a tree as Markdown. A stack of tasks holds what remains to be written, so the writer
+//! needs no recursion. Start at `serialize_md`; `Writer::step` runs a task.
 
 ghost use Rattle.std.specs.Prelude.{◌≡◌, IfOk, OnOk, [], false, string_bytes, true};
 ghost use Rattle.dom_md.specs.Resolved.{resolved};
@@ -33,9 +34,11 @@ use dom_nodes::node_id::NodeId;
 use dom_trees::node_ref::NodeRef;
 use dom_trees::tree::Tree;
 
-/// The Markdown of what is below the node, or of the node, too; nothing for an unknown number.
-/// Elements of the names in `skip_tags` are left out: `script`, `style`, `meta` and `head` where
-/// none are given. What is below a node that holds texts alone resolves to the words of its text.
+/// Returns the Markdown of what is below the node or, with `include_node`, of the node itself; an
+/// empty string for an unknown id. Elements whose names are in `skip_tags` are left out; with
+/// `None` these are `script`, `style`, `meta` and `head`. Without `include_node`, the Markdown of a
+/// node whose children are all texts resolves to the words of its text. Fails only when memory runs
+/// out.
 pub fn serialize_md(
     node: &NodeRef<'_>,
     include_node: bool,
@@ -46,7 +49,7 @@ pub fn serialize_md(
     MDSerializer::new(node, skip_tags).serialize(include_node)
 }
 
-/// Writes nodes as Markdown.
+/// A Markdown serializer for one node.
 #[derive(Clone, Copy, Drop)]
 pub struct MDSerializer<'a> {
     node: NodeRef<'a>,
@@ -54,8 +57,8 @@ pub struct MDSerializer<'a> {
 }
 
 impl<'a> MDSerializer<'a> {
-    /// Of that node, without elements of those names; without `script`, `style`, `meta` and `head`
-    /// where none are given.
+    /// Returns a serializer of that node which leaves out elements with those names; with `None`,
+    /// it leaves out `script`, `style`, `meta` and `head`.
     pub fn new(node: &NodeRef<'a>, skip_tags: Option<&'a [&'a str]>) -> MDSerializer<'a>
         ensures node { result.node ≡ node.now }
         ensures names { result.skip_tags ≡ skip_tags.entry }
@@ -66,8 +69,9 @@ impl<'a> MDSerializer<'a> {
         }
     }
 
-    /// The Markdown of what is below the node, or of the node, too. What is below a node that holds
-    /// texts alone resolves to the words of its text.
+    /// Returns the Markdown of what is below the node or, with `include_node`, of the node itself.
+    /// Without `include_node`, the Markdown of a node whose children are all texts resolves to the
+    /// words of its text. Fails only when memory runs out.
     pub fn serialize(&self, include_node: bool) -> Result<String, OutOfMemory>
         ensures { include_node ≡ false → IfOk result (ReadsAsWords self.now.node.tree.now
             self.now.node.id) }
@@ -79,20 +83,21 @@ impl<'a> MDSerializer<'a> {
     }
 }
 
-/// A text that is being written, and what is still to be written.
+/// The state of a serialization: the text so far, and the tasks that remain.
 #[derive(Drop)]
 struct Writer<'a> {
     tree: &'a Tree,
     skip_tags: Option<&'a [&'a str]>,
-    /// What is still to be written, the last first.
+    /// The tasks that remain; the last one is the next to run.
     tasks: Vec<Task>,
     /// The text that is being written.
     text: String,
-    /// The texts that it will be part of, the outermost first.
+    /// The unfinished texts that it will be inserted into, the outermost first.
     outer: Vec<String>,
-    /// The items of lists that are being written, the outermost first.
+    /// The list items that are being written, the outermost first.
     items: Vec<Item>,
-    /// The table that is being written; a table with a table below isn't written as one.
+    /// The table that is being written. One is enough, since a table with a table below it is not
+    /// written as a Markdown table.
     table: Table,
 }
 
@@ -115,7 +120,8 @@ impl<'a> Writer<'a> {
         }
     }
 
-    /// Begins with the node or with what is below it; texts alone are written at once, as one text.
+    /// Starts with the node or with what is below it. If all children are texts, they are written
+    /// at once, as one text.
     fn begin(&mut self, id: NodeId, include_node: bool) -> Result<(), OutOfMemory>
         requires text { string_bytes self.now.text ≡ [] }
         ensures tasks { include_node ≡ false → holds_texts self.old.tree.now id ≡ true →
@@ -139,8 +145,8 @@ impl<'a> Writer<'a> {
         Ok(())
     }
 
-    /// Writes all that is on the stack, in fewer steps than the number that no machine counts up
-    /// to.
+    /// Runs the tasks until the stack is empty. The bound on the number of steps is one that no
+    /// machine counts up to; it makes the loop terminate.
     fn write_all(&mut self) -> Result<(), OutOfMemory>
         ensures { self.old.tasks.items ≡ [] → OnOk result (
             string_bytes self.new.text ≡ string_bytes self.old.text) }
@@ -154,7 +160,7 @@ impl<'a> Writer<'a> {
         Ok(())
     }
 
-    /// Writes the beginning of what a task asks for, and pushes the rest.
+    /// Runs a task: writes its beginning, and pushes tasks for the rest.
     fn step(&mut self, task: Task) -> Result<(), OutOfMemory> {
         match task {
             Task::Row { id, opts } => self.write_row(id, opts),
@@ -185,13 +191,13 @@ impl<'a> Writer<'a> {
         }
     }
 
-    /// Pushes what is below the node, and that its text is then trimmed.
+    /// Pushes tasks that write what is below the node and then trim the text.
     fn push_below(&mut self, id: NodeId, opts: FormatOpts) -> Result<(), OutOfMemory> {
         self.push(Task::Trim)?;
         self.push_children(id, opts)
     }
 
-    /// Pushes what is below the node.
+    /// Pushes a task that writes what is below the node.
     fn push_children(&mut self, id: NodeId, opts: FormatOpts) -> Result<(), OutOfMemory> {
         let tree = self.tree;
         let Some(node) = tree.tree_node(&id) else {
@@ -203,7 +209,7 @@ impl<'a> Writer<'a> {
         }
     }
 
-    /// Begins a text that will be part of the one that is being written.
+    /// Begins a new text, which will be inserted into the current one.
     fn begin_text(&mut self) -> Result<(), OutOfMemory> {
         let empty = String::new(self.tree.allocator());
         let outer = std::mem::replace(&mut self.text, empty);
@@ -213,7 +219,8 @@ impl<'a> Writer<'a> {
         }
     }
 
-    /// Ends the text, goes on with the one that it will be part of, and hands it out.
+    /// Ends the current text and returns it; the one that it will be inserted into becomes current
+    /// again.
     fn end_text(&mut self) -> String {
         let outer = match self.outer.pop() {
             Some(outer) => outer,
@@ -222,7 +229,7 @@ impl<'a> Writer<'a> {
         std::mem::replace(&mut self.text, outer)
     }
 
-    /// Whether elements of that name are left out.
+    /// Whether elements with that name are left out.
     fn is_skipped(&self, name: &LocalRef<'_>) -> bool {
         match self.skip_tags {
             Some(names) => names.iter().any(|skipped| *skipped == name.as_str()),

@@ -8,7 +8,7 @@ use Rattle.dom_nodes.specs.declared.node_data.NodeData.TheVariants.{Document}
 use Rattle.dom_links.specs.Forest.{Forest, parent, siblings}
 use Rattle.dom_links.specs.Laws.{AreLines}
 use Rattle.dom_links.specs.ListMoves.{element_at}
-use Rattle.dom_links.specs.Lists.{stands_in, before}
+use Rattle.dom_links.specs.Lists.{is_member, before}
 use Rattle.dom_links.specs.Trees.{upward}
 use Rattle.dom_selectors.specs.declared.syntax.Combinator.{Combinator}
 use Rattle.dom_selectors.specs.declared.syntax.Combinator.TheVariants.{Descendant, Child, Adjacent, Sibling}
@@ -99,7 +99,7 @@ module _ (forest : Forest) (lines : AreLines forest) where
 
   above_both : (P : ℕ → Type 0) (n s : ℕ) → parent forest s ≡ parent forest n → (on : Bool) → Decides on (HasLeft forest Descendant P n) → Decides on (HasLeft forest Descendant P s)
   unfolding CombinatorHolds
-  above_both P n s up on o = subst (λ ns. Decides on ((v : ℕ) × (stands_in v ns ≡ true) × P v)) (ap (upward forest) (sym up)) o
+  above_both P n s up on o = subst (λ ns. Decides on ((v : ℕ) × (is_member v ns ≡ true) × P v)) (ap (upward forest) (sym up)) o
 
   parent_both : (P : ℕ → Type 0) (n s : ℕ) → parent forest s ≡ parent forest n → (on : Bool) → Decides on (HasLeft forest Child P n) → Decides on (HasLeft forest Child P s)
   unfolding CombinatorHolds

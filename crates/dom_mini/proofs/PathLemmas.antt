@@ -8,7 +8,7 @@ use Rattle.dom_nodes.specs.declared.node_data.NodeData.TheVariants.{Element}
 use Rattle.dom_links.specs.Forest.{Forest, children_of, parent, run_of, siblings, children_or}
 use Rattle.dom_links.specs.Laws.{AreLines, AreTrees}
 use Rattle.dom_links.specs.ListMoves.{element_at}
-use Rattle.dom_links.specs.Lists.{IsDistinct, after, before, first, stands_in}
+use Rattle.dom_links.specs.Lists.{IsDistinct, after, before, first, is_member}
 use Rattle.dom_links.specs.Sound.{IsForest}
 use Rattle.dom_links.specs.Trees.{Trees, NoTrees, Tree, trees, walk}
 use Rattle.dom_links.specs.Walk.{IsWithin, later, row_on}
@@ -81,13 +81,13 @@ module _ (forest : Forest) (good : IsForest forest) (lines : AreLines forest) wh
     pub up : parent forest c ≡ Some n
     pub alone : before (siblings forest c) c ≡ None
 
-  here : (n : ℕ) (ns : List ℕ) → stands_in n (n ∷ ns) ≡ true
+  here : (n : ℕ) (ns : List ℕ) → is_member n (n ∷ ns) ≡ true
   here n ns = rw (eq-eqb n n refl) refl
 
   first_child : (n c : ℕ) → Some c ≡ first (children_of forest n) → IsFirstChild n c
   first_child n c is =
       let row : children_of forest n ≡ c ∷ later forest false c = lines.below false n ∙ ap (row_on forest false) (sym is) in
-      let stands = good.once.in_children n c (ap (stands_in c) row ∙ here c (later forest false c)) in
+      let stands = good.once.in_children n c (ap (is_member c) row ∙ here c (later forest false c)) in
       let same : siblings forest c ≡ c ∷ later forest false c = ap (λ p. children_or forest p (run_of forest c)) stands.1 ∙ row in
       let once = subst IsDistinct row (good.once.children_once n) in
       record { known = stands.0; up = stands.1; alone = ap (λ ns. before ns c) same ∙ before_here [] (later forest false c) c once.0 }
@@ -97,27 +97,27 @@ module _ (forest : Forest) (good : IsForest forest) (lines : AreLines forest) wh
     pub up : parent forest s ≡ parent forest n
     pub link : before (siblings forest s) s ≡ Some n
 
-  later_precedes : (v w : ℕ) → stands_in w (later forest false v) ≡ true → Precedes forest v w
+  later_precedes : (v w : ℕ) → is_member w (later forest false v) ≡ true → Precedes forest v w
   unfolding CombinatorHolds
   later_precedes v w s = stands_precedes forest lines Sibling v w (sym (lines.after_before v w) ∙ s)
 
-  earlier_precedes : (v w : ℕ) → stands_in v (earlier forest w) ≡ true → Precedes forest v w
+  earlier_precedes : (v w : ℕ) → is_member v (earlier forest w) ≡ true → Precedes forest v w
   unfolding CombinatorHolds
   earlier_precedes v w s = stands_precedes forest lines Sibling v w s
 
   -- n stands right before s, where s stands right after n
-  link_back : (n s : ℕ) → later forest false n ≡ s ∷ later forest false s → stands_in n (earlier forest s) ≡ true → (o : Option ℕ) → before (siblings forest s) s ≡ o → o ≡ Some n
-  link_back n s row stands None e = absurd (true≢false (sym stands ∙ ap (stands_in n) (lines.beside true s ∙ ap (row_on forest true) e)))
+  link_back : (n s : ℕ) → later forest false n ≡ s ∷ later forest false s → is_member n (earlier forest s) ≡ true → (o : Option ℕ) → before (siblings forest s) s ≡ o → o ≡ Some n
+  link_back n s row stands None e = absurd (true≢false (sym stands ∙ ap (is_member n) (lines.beside true s ∙ ap (row_on forest true) e)))
   link_back n s row stands (Some b) e =
       let back : earlier forest s ≡ b ∷ earlier forest b = lines.beside true s ∙ ap (row_on forest true) e in
-      let close : Precedes forest b s = earlier_precedes b s (ap (stands_in b) back ∙ here b (earlier forest b)) in
-      elim (or_cases (b == n) (stands_in n (earlier forest b)) (sym (ap (stands_in n) back) ∙ stands)) [
+      let close : Precedes forest b s = earlier_precedes b s (ap (is_member b) back ∙ here b (earlier forest b)) in
+      elim (or_cases (b == n) (is_member n (earlier forest b)) (sym (ap (is_member n) back) ∙ stands)) [
         | inl same ↦ ap (λ m. Some m) (eqb-true b n same)
-        | inr far ↦ absurd (between b close (sym (ap (stands_in b) row) ∙ (lines.after_before n b ∙ far)))
+        | inr far ↦ absurd (between b close (sym (ap (is_member b) row) ∙ (lines.after_before n b ∙ far)))
       ]
     where
-      between : (b : ℕ) → Precedes forest b s → stands_in b (s ∷ later forest false s) ≡ true → ⊥
-      between b close t = elim (or_cases (s == b) (stands_in b (later forest false s)) t) [
+      between : (b : ℕ) → Precedes forest b s → is_member b (s ∷ later forest false s) ≡ true → ⊥
+      between b close t = elim (or_cases (s == b) (is_member b (later forest false s)) t) [
         | inl same ↦ apart forest b s close (sym (eqb-true s b same))
         | inr far ↦ apart forest b b (precedes_then forest b s b close (later_precedes s b far)) refl
       ]
@@ -126,11 +126,11 @@ module _ (forest : Forest) (good : IsForest forest) (lines : AreLines forest) wh
   next_sibling n s is =
       let row : later forest false n ≡ s ∷ later forest false s = lines.beside false n ∙ ap (row_on forest false) (sym is) in
       let known : IsWithin forest (Some s) = subst (IsWithin forest) (sym is) (lines.beside_known false n) in
-      let stands : stands_in n (earlier forest s) ≡ true = sym (lines.after_before n s) ∙ ap (stands_in s) row ∙ here s (later forest false s) in
+      let stands : is_member n (earlier forest s) ≡ true = sym (lines.after_before n s) ∙ ap (is_member s) row ∙ here s (later forest false s) in
       record { known = known; up = lines.together false n s (sym is); link = link_back n s row stands (before (siblings forest s) s) refl }
 
   next_precedes : (n s : ℕ) → Some s ≡ after (siblings forest n) n → Precedes forest n s
-  next_precedes n s is = later_precedes n s (ap (stands_in s) (lines.beside false n ∙ ap (row_on forest false) (sym is)) ∙ here s (later forest false s))
+  next_precedes n s is = later_precedes n s (ap (is_member s) (lines.beside false n ∙ ap (row_on forest false) (sym is)) ∙ here s (later forest false s))
 
   child_precedes : (n c : ℕ) → parent forest c ≡ Some n → Precedes forest n c
   unfolding CombinatorHolds

@@ -1,4 +1,4 @@
-//! What is true of every path. The function does nothing.
+//! A law about paths. The function does nothing; its contract is the theorem.
 
 ghost use Rattle.std.specs.Prelude.{◌<◌, ℕ, List, length};
 ghost use Rattle.dom_links.specs.Forest.{Forest};
@@ -8,7 +8,7 @@ ghost use Rattle.dom_selectors.specs.MiniSyntax.{Mini};
 
 use dom_links::laws::{lines_of_a_forest, trees_of_a_forest};
 
-/// What is found from a node are the nodes that the path leads to, each once.
+/// What is found from a node are exactly the nodes that the path reaches, each once.
 pub fn found_exactly()
     ensures { (minis : List Mini) (forest : Forest) (x : ℕ) (found : List ℕ) → IsForest forest
         → x < length forest.content → IsFound minis forest x found

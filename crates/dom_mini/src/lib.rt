@@ -1,4 +1,5 @@
-//! Mini selectors, asked of nodes, and paths of them.
+//! Matching of mini selectors, and of paths of them. Start at
+//! `mini_selector::extension::MiniSelect`.
 #![tactic(auto)]
 
 pub mod laws;

@@ -1,4 +1,4 @@
-//! Mini selectors, asked of nodes, and paths of them.
+//! Matching of mini selectors, and of paths of them, as in the crate dom_query.
 
 pub use dom_selectors::mini_selector::{fault, parser, selector};
 

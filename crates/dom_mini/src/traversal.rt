@@ -1,4 +1,5 @@
-//! Children and nodes below that are found by their names, over an arena's nodes.
+//! Search for children and descendants by name or test, in the arena of a tree, as in the crate
+//! dom_query.
 
 ghost use Rattle.std.specs.Prelude.{◌≡◌, ◌≤◌, length, IfOk, None};
 ghost use Rattle.std.specs.Fn.{FnReturnsAt};
@@ -17,7 +18,8 @@ use dom_nodes::node_data::TreeNode;
 use dom_nodes::node_id::NodeId;
 use std::alloc::Global;
 
-/// Children and nodes below, by their names.
+/// Search for children and descendants. The functions are called as
+/// `Traversal::find_child_element`.
 pub struct Traversal {}
 
 fn is_named(nodes: &[TreeNode], id: NodeId, name: &str) -> bool
@@ -33,7 +35,7 @@ fn is_named(nodes: &[TreeNode], id: NodeId, name: &str) -> bool
     }
 }
 
-/// Whether the node is an element that passes the test.
+/// Returns whether the node is an element that passes the test.
 fn passes<F: Fn(&TreeNode) -> bool>(nodes: &[TreeNode], id: NodeId, test: &F) -> bool
     requires sound { IsSoundArena nodes.now }
     requires callable { F.IsAlwaysCallable test.now }
@@ -49,7 +51,8 @@ fn passes<F: Fn(&TreeNode) -> bool>(nodes: &[TreeNode], id: NodeId, test: &F) ->
 }
 
 impl Traversal {
-    /// The first child that is an element which passes the test; none where the number is unknown.
+    /// Returns the first child that is an element and passes the test, or `None`, also if there is
+    /// no such node.
     pub fn find_child_element<F: Fn(&TreeNode) -> bool + Drop>(
         nodes: &[TreeNode],
         id: NodeId,
@@ -59,6 +62,7 @@ impl Traversal {
         requires callable { F.IsAlwaysCallable f }
         ensures { FindsChild (FnReturnsAt F.Fn f) (forest_of nodes.now) id result }
     {
+        // A law, called for its contract alone.
         lines_of_a_forest();
         let mut next = first_child_id(nodes, &id);
         while let Some(child) = next {
@@ -70,7 +74,8 @@ impl Traversal {
         None
     }
 
-    /// The first child that is an element of that local name; none where the number is unknown.
+    /// Returns the first child that is an element with this local name, or `None`, also if there is
+    /// no such node.
     pub fn find_child_element_by_name(nodes: &[TreeNode], id: NodeId, name: &str) -> Option<NodeId>
         requires { IsSoundArena nodes.now }
         ensures { result ≡ child_named (forest_of nodes.now) id name.now }
@@ -86,8 +91,9 @@ impl Traversal {
         None
     }
 
-    /// From the node to the first child of the first name, to that one's first child of the next
-    /// name, and so on; no name answers the node itself, an unknown number nothing.
+    /// Returns the first child with the first name, its first child with the next name, and so on
+    /// to the last name. An empty path returns the node itself. Returns `None` if a child or the
+    /// node doesn't exist.
     pub fn find_descendant_element(nodes: &[TreeNode], id: NodeId, path: &[&str]) -> Option<NodeId>
         requires { IsSoundArena nodes.now }
         ensures known { FindsByNames (forest_of nodes.now) id (texts_of path.now) result }
@@ -101,8 +107,10 @@ impl Traversal {
         Some(at)
     }
 
-    /// The nodes that names lead to, each of a descendant of the one before: each node once, in
-    /// document order. No name leads to the node itself, and to nothing where it is unknown.
+    /// Returns the elements that a path of local names reaches: descendants of the node with the
+    /// first name, their descendants with the next name, and so on. Each is returned once, in
+    /// document order. An empty path reaches the node itself; if there is no such node, nothing is
+    /// reached. Fails only when memory runs out.
     pub fn find_descendant_elements(
         alloc: Global,
         nodes: &[TreeNode],

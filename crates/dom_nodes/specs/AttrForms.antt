@@ -1,11 +1,11 @@
--- The attributes of an element, wherever they lie.
+-- The list of attributes that a storage form holds.
 use Rattle.std.specs.Prelude.{List, [], take, drop}
 use Rattle.std.specs.Rc.{rc_value}
 use Rattle.dom_nodes.specs.declared.name.Attr.{Attr}
 use Rattle.dom_nodes.specs.declared.node_data.attrs_form.AttrsForm.{AttrsForm}
 use Rattle.dom_nodes.specs.declared.node_data.attrs_form.AttrsForm.TheVariants.{None, One, Two, Room, First, Second, OneOf, TwoOf, Few, Own}
 
--- the attributes of each form
+-- The attributes in each storage form, in order.
 abbrev pub form_attrs : AttrsForm → List Attr
 form_attrs None = []
 form_attrs (One list) = rc_value list

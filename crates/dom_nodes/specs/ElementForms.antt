@@ -1,4 +1,4 @@
--- An element by the form of its name, and what lies beside that.
+-- The element that is stored as a name form and a list of attributes.
 use Rattle.std.specs.Prelude.{List}
 use Rattle.dom_nodes.specs.declared.name.Attr.{Attr}
 use Rattle.dom_nodes.specs.declared.name.form.NameForm.{NameForm}

@@ -1,4 +1,4 @@
--- What an element is to those who read it.
+-- The data of an element, as contracts see it.
 use Rattle.std.specs.Prelude.{ℕ, Bool, List, Option}
 use Rattle.dom_nodes.specs.declared.name.Attr.{Attr}
 use Rattle.dom_nodes.specs.declared.name.NameParts.{NameParts}

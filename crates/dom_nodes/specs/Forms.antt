@@ -1,4 +1,4 @@
--- The bytes of a text or of a name, wherever they lie.
+-- The bytes of a text, for each of the ways to store them.
 use Rattle.std.specs.Prelude.{ℕ, List, string_bytes}
 use Rattle.dom_nodes.specs.declared.text.Form.{Form}
 use Rattle.dom_nodes.specs.declared.text.Form.TheVariants.{Short, Long, Part}

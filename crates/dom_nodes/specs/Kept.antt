@@ -5,7 +5,7 @@ use Rattle.dom_nodes.specs.declared.node_data.attrs_form.Kept.{Kept}
 use Rattle.dom_nodes.specs.declared.node_data.attrs_form.Kept.TheVariants.{AllBut, NoneOf, OneOf, MissingIn}
 use Rattle.dom_nodes.specs.Changes.{has_attr_named, is_attr_named, is_named_in}
 
--- a removal keeps the attribute
+-- Whether a removal keeps the attribute.
 abbrev pub keeps : Kept → Attr → Bool
 keeps (AllBut name) attr = not (is_attr_named name.now attr)
 keeps (NoneOf names) attr = not (is_named_in (map (λ name. name.now) names.now) attr)

@@ -1,4 +1,4 @@
--- `same_name` decides whether the parts of two names are equal.
+-- `same_name` decides whether two names are equal in all their parts.
 use Rattle.std.proofs.Common.{ℕ, ◌≡◌, Bool, true, false, List, Option, Some, None, refl, sym, ap, ◌∙◌}
 use Rattle.std.specs.Prelude.{◌&&◌}
 use Rattle.std.specs.Bool.{Decides}

@@ -1,4 +1,4 @@
-//! Whether letters are distinguished by their case.
+//! Comparison with or without the case of ASCII letters.
 
 ghost use Rattle.std.specs.Prelude.{◌≡◌};
 
@@ -9,14 +9,14 @@ use crate::words::is_same_word;
 pub enum CaseSensitivity {
     /// Byte by byte.
     CaseSensitive,
-    /// ASCII letters are the same in both cases.
+    /// Byte by byte, but `A` to `Z` are equal to `a` to `z`.
     AsciiCaseInsensitive,
 }
 
 impl CaseSensitivity {
     ghost use Rattle.dom_nodes.specs.Classes.{same_bytes};
 
-    /// Whether the names are the same.
+    /// Returns whether the two names are equal in this way of comparing.
     pub fn is_same(self, name: &[u8], other: &[u8]) -> bool
         ensures { result ≡ same_bytes self name.now other.now }
     {

@@ -1,4 +1,5 @@
-//! Texts and names compare, and print for a programmer, as their bytes.
+//! `==` and `Debug` for texts and names. Texts and local names are equal when their bytes are, and
+//! print as text.
 
 ghost use Rattle.std.specs.Cmp.{partial_equiv_from_equiv};
 ghost use Rattle.std.specs.Cmp.Lexicographic.{nat_list_eq_equiv};
@@ -50,7 +51,7 @@ impl fmt::Debug for RareText {
     }
 }
 
-/// Known names are compared by their numbers.
+/// Known names are compared by their table indexes.
 impl PartialEq for LocalName {
     ghost eq = { bytes_eq };
 
@@ -91,7 +92,7 @@ impl fmt::Debug for QualName {
     }
 }
 
-/// Prints the parts of the name.
+/// Prints prefix, namespace and local name.
 impl fmt::Debug for NameRef<'_> {
     fn fmt<W: fmt::Write>(&self, f: &mut fmt::Formatter<W>) -> fmt::Result {
         f.debug_struct("QualName")

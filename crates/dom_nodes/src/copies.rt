@@ -1,6 +1,7 @@
-//! Copies of names, attributes and nodes: the same value. Copies share lists of one or two
-//! attributes, those of many nodes also the blocks that long texts lie in; all else lies in memory
-//! of its own.
+//! Copies of names, attributes and nodes. A copy is equal to its original. Copies of elements share
+//! lists of one or two attributes, and `TreeNode::push_copies` also shares the blocks that long
+//! texts lie in; everything else is in memory of its own. Each call fails with `OutOfMemory` when
+//! memory is refused.
 
 ghost use Rattle.std.specs.Prelude.{◌≡◌, ◌∷◌, ◌++◌, [], IfOk, IfSome, OnOk};
 
@@ -10,7 +11,7 @@ use crate::node_data::{Attrs, Element, NodeData, TreeNode};
 use crate::text::{RareText, Text};
 
 impl Namespace {
-    /// The same namespace.
+    /// Returns a copy of the namespace, or `OutOfMemory`.
     pub fn try_clone(&self) -> Result<Namespace, OutOfMemory>
         ensures { IfOk result (λ made. made ≡ self.now) }
     {
@@ -28,7 +29,7 @@ impl Namespace {
 }
 
 impl NameParts {
-    /// The same parts.
+    /// Returns a copy of prefix, namespace and local name, or `OutOfMemory`.
     pub fn try_clone(&self) -> Result<NameParts, OutOfMemory>
         ensures { IfOk result (λ made. made ≡ self.now) }
     {
@@ -40,7 +41,7 @@ impl NameParts {
 }
 
 impl Attr {
-    /// The same attribute.
+    /// Returns a copy of the attribute, or `OutOfMemory`.
     pub fn try_clone(&self) -> Result<Attr, OutOfMemory>
         ensures { IfOk result (λ made. made ≡ self.now) }
     {
@@ -51,7 +52,8 @@ impl Attr {
 }
 
 impl Element {
-    /// The same element; it names the same template contents.
+    /// Returns a copy of the element, or `OutOfMemory`. The copy has the same template contents by
+    /// id; the fragment itself isn't copied.
     pub fn try_clone(&self) -> Result<Element, OutOfMemory>
         ensures { IfOk result (λ made. made ≡ self.now) }
     {
@@ -65,7 +67,8 @@ impl NodeData {
     ghost use Rattle.std.specs.Prelude.{None};
     ghost use Rattle.dom_nodes.specs.Kinds.{contents_named};
 
-    /// The same data, where it is a text that needs no memory of its own.
+    /// Returns a copy if the data is a text that is short enough to need no memory of its own (at
+    /// most 30 bytes), and `None` otherwise. It is the quick way before `try_clone`.
     #[inline(always)]
     pub fn short_text(&self) -> Option<NodeData>
         ensures same { IfSome result (λ made. made ≡ self.now) }
@@ -78,7 +81,9 @@ impl NodeData {
         Some(NodeData::Text { contents })
     }
 
-    /// The same data, where it is an element of a common name without attributes and contents.
+    /// Returns a copy if the data is an element with a known name (one that needs no memory),
+    /// without attributes and template contents, and `None` otherwise. It is the quick way before
+    /// `try_clone`.
     #[inline(always)]
     pub fn bare_element(&self) -> Option<NodeData>
         ensures same { IfSome result (λ made. made ≡ self.now) }
@@ -98,7 +103,7 @@ impl NodeData {
         Some(NodeData::Element(Element { form, attrs }))
     }
 
-    /// The same data.
+    /// Returns a copy of the data, or `OutOfMemory`.
     pub fn try_clone(&self) -> Result<NodeData, OutOfMemory>
         ensures { IfOk result (λ made. made ≡ self.now) }
     {
@@ -123,7 +128,7 @@ impl NodeData {
 }
 
 impl TreeNode {
-    /// The same node: its number, links and data.
+    /// Returns a copy of the node with the same id, links and data, or `OutOfMemory`.
     pub fn try_clone(&self) -> Result<TreeNode, OutOfMemory>
         ensures { IfOk result (λ made. made ≡ self.now) }
     {
@@ -139,7 +144,8 @@ impl TreeNode {
         })
     }
 
-    /// Adds copies of nodes at the end, each as `try_clone` makes it.
+    /// Appends copies of the nodes, in order, each equal to its original. On `OutOfMemory` some of
+    /// them may have been appended.
     pub fn push_copies(made: &mut Vec<TreeNode>, nodes: &[TreeNode]) -> Result<(), OutOfMemory>
         ensures { OnOk result (made.new.items ≡ made.old.items ++ nodes.now) }
     {
@@ -150,7 +156,8 @@ impl TreeNode {
     }
 }
 
-/// Adds a copy of a node. Texts and elements, which most nodes are, are made where they go.
+/// Appends a copy of one node. Texts and elements, which most nodes are, have quick ways of their
+/// own.
 #[inline(always)]
 fn push_copy(made: &mut Vec<TreeNode>, node: &TreeNode) -> Result<(), OutOfMemory>
     ensures { OnOk result (made.new.items ≡ made.old.items ++ node.now ∷ []) }
@@ -191,7 +198,7 @@ fn push_element(
     push_with(made, node, NodeData::Element(Element { form, attrs }))
 }
 
-/// Adds a node with the number and the links of another one.
+/// Appends a node with the id and the links of `node` and with this content.
 #[inline(always)]
 fn push_with(
     made: &mut Vec<TreeNode>,
@@ -213,7 +220,7 @@ fn push_with(
     Ok(())
 }
 
-/// Adds a copy of an attribute.
+/// Appends a copy of an attribute.
 #[inline(always)]
 pub(crate) fn push_attr(made: &mut Vec<Attr>, attr: &Attr) -> Result<(), OutOfMemory>
     ensures { OnOk result (made.new.items ≡ made.old.items ++ attr.now ∷ []) }
@@ -222,7 +229,7 @@ pub(crate) fn push_attr(made: &mut Vec<Attr>, attr: &Attr) -> Result<(), OutOfMe
     Ok(())
 }
 
-/// A copy of an attribute.
+/// Returns a copy of an attribute, with quick ways for known names and short values.
 #[inline(always)]
 pub(crate) fn attr_copy(attr: &Attr) -> Result<Attr, OutOfMemory>
     ensures { IfOk result (λ made. made ≡ attr.now) }

@@ -1,11 +1,11 @@
-//! What is wrong with markup, and why an edit is refused.
+//! The errors of this crate and the crates above: no memory, bad markup, and refused edits.
 
 ghost use Rattle.std.specs.Prelude.{◌≡◌};
 ghost use Rattle.dom_nodes.specs.declared.fault.EditFault.TheVariants.{Memory};
 
 use std::alloc::{AllocError, AllocFailed};
 
-/// A request for memory was refused.
+/// A request for memory was refused, or a reference count was full.
 #[derive(Clone, Copy, PartialEq, Eq, Debug, Drop, thiserror::Error)]
 #[error("out of memory")]
 pub struct OutOfMemory;
@@ -22,45 +22,45 @@ impl<T: Drop> From<AllocFailed<T>> for OutOfMemory {
     }
 }
 
-/// A kind of fault in markup.
+/// What is wrong with markup, as the strict reader `Document::parse` reports it.
 #[derive(Clone, Copy, PartialEq, Eq, Debug, Drop, thiserror::Error)]
 pub enum MarkupFaultKind {
-    /// A tag can't be read.
+    /// A tag that doesn't follow the grammar.
     #[error("bad tag")]
     BadTag,
     /// The text ends while an element is open.
     #[error("unclosed element")]
     Unclosed,
-    /// An end tag doesn't name the innermost open element.
+    /// An end tag that doesn't have the name of the innermost open element.
     #[error("mismatched end tag")]
     MismatchedEnd,
-    /// An end tag stands where no element is open.
+    /// An end tag where no element is open.
     #[error("stray end tag")]
     StrayEnd,
-    /// An element that isn't void ends in a slash.
+    /// A tag that ends in `/>` for an element that isn't void.
     #[error("slash in the tag of an element that isn't void")]
     SlashOnOpen,
-    /// A comment can't be read.
+    /// A comment that doesn't follow the grammar.
     #[error("bad comment")]
     BadComment,
-    /// A declaration can't be read.
+    /// A declaration (`<!` and what follows) that is no well-formed doctype.
     #[error("bad declaration")]
     BadDeclaration,
-    /// A doctype stands inside an element.
+    /// A doctype inside an element.
     #[error("misplaced doctype")]
     MisplacedDoctype,
-    /// A processing instruction.
+    /// A processing instruction (`<?` and what follows), which isn't allowed.
     #[error("processing instruction")]
     Instruction,
-    /// A number past the last one would be given.
+    /// A node would get an id past the last one, 4294967294.
     #[error("too many nodes")]
     TooManyNodes,
-    /// Memory was refused.
+    /// A request for memory was refused.
     #[error("out of memory")]
     Memory,
 }
 
-/// What is wrong in markup, and at which byte.
+/// What is wrong with markup, and where: `at` is the offset in bytes from the start of the text.
 #[derive(Clone, Copy, PartialEq, Eq, Debug, Drop, thiserror::Error)]
 #[error("{kind} at byte {at}")]
 pub struct MarkupFault {
@@ -68,31 +68,34 @@ pub struct MarkupFault {
     pub at: usize,
 }
 
-/// Why an edit is refused. The tree is then as it was.
+/// Why an edit was refused. The tree is unchanged after a refusal.
 #[derive(Clone, Copy, PartialEq, Eq, Debug, Drop, thiserror::Error)]
 pub enum EditFault {
-    /// A named number is outside the tree.
+    /// An id that was passed isn't the id of a node of this tree.
     #[error("unknown node")]
     UnknownNode,
-    /// The target is a text, comment, doctype or instruction.
+    /// The target is a text, a comment, a doctype or a processing instruction, which can't have
+    /// children.
     #[error("no children here")]
     NoChildrenHere,
     /// The root, a document or a fragment would be moved or get siblings.
     #[error("root or fragment")]
     RootOrFragment,
-    /// A moved node is the target, or reaches it by children or template contents.
+    /// A moved node is the target itself, or one of its ancestors, where an element also counts as
+    /// the parent of its template contents.
     #[error("cycle")]
     Cycle,
-    /// A number past the last one would be given.
+    /// A node would get an id past the last one, 4294967294.
     #[error("too many nodes")]
     TooManyNodes,
-    /// Memory was refused.
+    /// A request for memory was refused.
     #[error("out of memory")]
     Memory,
-    /// The template contents aren't a free fragment.
+    /// The id of template contents is refused: it has to be the id of a fragment that has no
+    /// parent, isn't the root and isn't the contents of another element.
     #[error("bad template contents")]
     BadContents,
-    /// The markup that was to be read in is no markup.
+    /// The markup that was passed doesn't follow the grammar; the fault says why and where.
     #[error("bad markup: {0}")]
     Markup(MarkupFault),
 }
@@ -122,8 +125,9 @@ impl From<OutOfMemory> for EditFault {
 }
 
 impl MarkupFault {
-    /// The line and the column of the fault in the text that was read, each counted from 1. A
-    /// column is a character. Past the end of the text it is where the text ends.
+    /// Returns the line and the column of the fault in the text that was parsed, each counted from
+    /// 1. A column counts characters, not bytes. When `at` is past the end of the text, the answer
+    /// is the position of the end.
     pub fn line_and_column(&self, text: &str) -> (usize, usize) {
         let bytes = text.as_bytes();
         let end = self.at.min(bytes.len());
@@ -131,7 +135,7 @@ impl MarkupFault {
     }
 }
 
-/// The line and the column after some bytes, each counted from 1.
+/// Returns the line and the column behind these bytes, each counted from 1.
 fn position_after(bytes: &[u8]) -> (usize, usize) {
     let mut line: usize = 1;
     let mut column: usize = 1;
@@ -146,7 +150,7 @@ fn position_after(bytes: &[u8]) -> (usize, usize) {
     (line, column)
 }
 
-/// Whether a byte is the first one of a character.
+/// Returns whether a byte of UTF-8 begins a character.
 fn begins_char(byte: u8) -> bool {
     !(byte >= 128 && byte < 192)
 }

@@ -1,26 +1,29 @@
-//! How the siblings of a node are counted, and which of their indexes `an+b` gives.
+//! The ways of counting an element among its siblings, and the indexes that `An+B` selects
+//! (Selectors Level 4, "Child-indexed Pseudo-classes").
 
-/// How a node's siblings are counted.
+/// Which siblings are counted to find the index of an element.
 #[derive(Clone, Copy, PartialEq, Eq, Debug, Drop)]
 pub enum IndexKind {
-    /// The elements before it.
+    /// The elements before it, as for `:nth-child()`.
     Child,
-    /// The elements after it.
+    /// The elements after it, as for `:nth-last-child()`.
     LastChild,
-    /// The elements of its name before it.
+    /// The elements before it of the same name (prefix, namespace and local name), as for
+    /// `:nth-of-type()`.
     OfType,
-    /// The elements of its name after it.
+    /// The elements after it of the same name (prefix, namespace and local name), as for
+    /// `:nth-last-of-type()`.
     LastOfType,
 }
 
-/// A whole number by its sign.
+/// An integer as sign and magnitude.
 #[derive(Clone, Copy, PartialEq, Eq, Debug, Drop)]
 pub struct Signed {
     pub is_negative: bool,
     pub magnitude: u32,
 }
 
-/// The indexes `a * k + b`, for each whole k from 0 on.
+/// The indexes `a * k + b` for every integer k from 0 on.
 #[derive(Clone, Copy, PartialEq, Eq, Debug, Drop)]
 pub struct Nth {
     pub a: Signed,

@@ -1,5 +1,6 @@
-//! What is true of numbers, attributes and classes, stated for the crates above. The functions do
-//! nothing.
+//! Facts about node ids, names, attributes and classes, which the crates above use in their proofs.
+//! Each function has an empty body: a call of it costs nothing and brings its `ensures` clauses
+//! into the caller's proof.
 
 ghost use Rattle.std.specs.Prelude.{◌≡◌, ◌==◌, ◌&&◌, ℕ, List, false, None, Some};
 ghost use Rattle.std.specs.Hash.{u32 as hashed_u32};
@@ -17,7 +18,7 @@ use crate::name::{Attr, QualName};
 use crate::node_id::NodeId;
 use std::hash::Hash;
 
-/// `==`, the orders and the hash of node numbers are those of the numbers.
+/// Comparing, ordering and hashing node ids is comparing, ordering and hashing their numbers.
 pub fn comparisons_of_numbers(id: NodeId, other: NodeId)
     ensures eq { ⟦<NodeId as PartialEq>⟧.eq id other ≡ (id == other) }
     ensures cmp { ⟦<NodeId as Ord>⟧.cmp id other ≡ nat_cmp id other }
@@ -25,19 +26,19 @@ pub fn comparisons_of_numbers(id: NodeId, other: NodeId)
     ensures hash { ⟦<NodeId as Hash>⟧.hash_input id ≡ hashed_u32 id }
 {}
 
-/// `==` of names is that of prefix, namespace and local name.
+/// Two names are `==` exactly when prefix, namespace and local name are equal.
 pub fn comparisons_of_names(name: &QualName, other: &QualName)
     ensures { ⟦<QualName as PartialEq>⟧.eq name.now other.now ≡ same_name name.now other.now }
 {}
 
-/// `==` of attributes is that of names and values.
+/// Two attributes are `==` exactly when their names and their values are equal.
 pub fn comparisons_of_attributes(attr: &Attr, other: &Attr)
     ensures { ⟦<Attr as PartialEq>⟧.eq attr.now other.now
         ≡ (same_name attr.now.name other.now.name && bytes_eq attr.now.value other.now.value) }
 {}
 
-/// An attribute that is set has the value, one of another name keeps its own, and one that is
-/// removed is gone.
+/// An attribute that was set has the new value; attributes of other names keep theirs; an attribute
+/// that was removed is absent.
 pub fn values_after_changes()
     ensures set { (name value : List ℕ) (attrs : List Attr)
         → attr_of (with_attr name value attrs) name ≡ Some value }
@@ -47,7 +48,7 @@ pub fn values_after_changes()
         → attr_of (without_name name attrs) name ≡ None }
 {}
 
-/// The classes after words are added or removed, where the text of the words isn't blank.
+/// The classes after words are added or removed, for a text of words that isn't blank.
 pub fn classes_after_changes()
     ensures added { (text : List ℕ) (attrs : List Attr) → is_blank text ≡ false
         → class_words (with_classes text attrs) ≡ words_with (class_words attrs) (words_of text) }

@@ -1,4 +1,4 @@
-//! A link of a node to another, in four bytes.
+//! The link from a node to another one, or to none, in four bytes.
 
 ghost use Rattle.std.specs.Prelude.{◌≡◌};
 
@@ -6,7 +6,7 @@ use crate::node_id::NodeId;
 use std::fmt;
 use std::marker::Model;
 
-/// Where a link leads, if anywhere. A contract sees it as that option.
+/// An optional node id, stored in four bytes. In a contract a `Link` is an optional natural number.
 #[derive(Clone, Copy, PartialEq, Eq, Drop)]
 pub struct Link {
     value: u32,
@@ -28,11 +28,11 @@ impl Model for Link {
     ghost inverse_ok = { link_same };
 }
 
-/// The number that leads nowhere; no node has it.
+/// The value that is stored for `None`. It is no valid node id.
 const NOWHERE: u32 = 4294967295;
 
 impl Link {
-    /// A link to that node; without one, a link that leads nowhere.
+    /// Returns the link to the node with this id, or the empty link for `None`.
     pub fn new(id: Option<NodeId>) -> Link
         ensures { result ≡ id }
     {
@@ -44,7 +44,7 @@ impl Link {
         }
     }
 
-    /// The node that the link leads to.
+    /// Returns the id of the node that the link leads to, or `None` for the empty link.
     pub fn get(self) -> Option<NodeId>
         ensures { result ≡ self }
     {
@@ -52,7 +52,7 @@ impl Link {
     }
 }
 
-/// Prints for a programmer as the option that it is.
+/// Prints the link as the `Option` that `get` returns.
 impl fmt::Debug for Link {
     fn fmt<W: fmt::Write>(&self, f: &mut fmt::Formatter<W>) -> fmt::Result {
         fmt::Debug::fmt(&self.get(), f)

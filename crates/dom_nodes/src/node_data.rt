@@ -1,4 +1,9 @@
-//! The kinds of nodes, and a node with its links.
+//! What a node is: its kind, an element's name and attributes, and the links to other nodes.
+//!
+//! `NodeData` is the enum of kinds. The modules below add the methods: `any_node` (queries on any
+//! node), `attributes` and `classes` (reading and writing an element), `changing` (one change as a
+//! value), `node_edit` (updates by a closure), `lending` (mutable access to an element) and
+//! `missing` (adding absent attributes). `attrs_form` is the storage of attribute lists.
 
 ghost use Rattle.std.specs.Prelude.{◌≡◌, ◌∷◌, ◌++◌, [], IfOk, OnErr, OnOk};
 
@@ -25,13 +30,14 @@ use std::marker::Model;
 use std::rc::Rc;
 use std::{fmt, mem};
 
-/// The attributes of an element, in order. A contract sees them as a list.
+/// The attributes of an element, in source order. In a contract an `Attrs` is the list of its
+/// attributes.
 pub struct Attrs {
     form: AttrsForm,
     alloc: Global,
 }
 
-/// Written out, so that what drops an element has no case for each form.
+/// Destructures by hand, so that code that drops an element needs no case for each storage form.
 impl Drop for Attrs {
     #[inline(always)]
     fn drop(self) {
@@ -50,7 +56,7 @@ impl Model for Attrs {
     ghost view = { λ attrs. form_attrs attrs.form };
 }
 
-/// Prints the list of the attributes.
+/// Prints the attributes as a list.
 impl fmt::Debug for Attrs {
     fn fmt<W: fmt::Write>(&self, f: &mut fmt::Formatter<W>) -> fmt::Result {
         f.debug_struct("Attrs")
@@ -64,7 +70,7 @@ impl Attrs {
     ghost use Rattle.std.specs.Prelude.{◌-◌, drop, take};
     ghost use Rattle.std.specs.Rc.{rc_value};
 
-    /// No attributes.
+    /// Returns an empty list of attributes. It allocates no memory.
     pub fn new(alloc: Global) -> Attrs
         ensures { result ≡ [] }
     {
@@ -74,7 +80,8 @@ impl Attrs {
         }
     }
 
-    /// The list of these attributes.
+    /// Returns the attributes of the vector, in order. It fails with `OutOfMemory` when memory for
+    /// their storage is refused.
     pub fn from_items(alloc: Global, mut items: Vec<Attr>) -> Result<Attrs, OutOfMemory>
         ensures { IfOk result (λ made. made ≡ items.items) }
     {
@@ -84,8 +91,10 @@ impl Attrs {
         take_all(alloc, &mut items)
     }
 
-    /// Part of a list: so many attributes as stand from one place up to another. One or two are
-    /// shared with the list, more are copied.
+    /// Returns a copy of the attributes of `list` from index `from` up to, but not including, index
+    /// `to`; indexes past the end are ignored. One or two attributes are shared with `list` through
+    /// its reference count (as long as `from` fits the storage form), and more are copied. It fails
+    /// with `OutOfMemory` when memory is refused or the reference count is full.
     pub fn part(
         alloc: Global,
         list: &Rc<Vec<Attr>>,
@@ -99,7 +108,7 @@ impl Attrs {
         Ok(Attrs { form, alloc })
     }
 
-    /// The attributes, in order.
+    /// Returns the attributes as a slice, in order.
     #[inline(always)]
     pub fn as_slice(&self) -> &[Attr]
         ensures { result.now ≡ self.now }
@@ -107,7 +116,8 @@ impl Attrs {
         self.form.as_slice()
     }
 
-    /// The same attributes in the same order.
+    /// Returns a copy of the list. A list of one or two attributes is shared through its reference
+    /// count, and a longer one is copied. It fails with `OutOfMemory` when memory is refused.
     #[inline(always)]
     pub fn try_clone(&self) -> Result<Attrs, OutOfMemory>
         ensures { IfOk result (λ made. made ≡ self.now) }
@@ -119,7 +129,8 @@ impl Attrs {
         })
     }
 
-    /// Makes room for so many more attributes, where there is memory.
+    /// Makes room for `additional` more attributes. A refusal of memory is ignored: the list is the
+    /// same, and a later `push` asks again.
     pub fn reserve(&mut self, additional: usize)
         ensures { self.new ≡ self.old }
     {
@@ -142,15 +153,17 @@ impl Attrs {
         }
     }
 
-    /// Gives back the memory past the last attribute.
+    /// Releases unused memory behind the last attribute where the storage form can. The list stays
+    /// the same.
     pub fn shrink_to_fit(&mut self)
         ensures { self.new ≡ self.old }
     {
         self.form.shrink_to_fit();
     }
 
-    /// Adds an attribute at the end. The list is unchanged after a refusal. The room of more than
-    /// two attributes doubles.
+    /// Appends an attribute. When memory is refused, it fails with `OutOfMemory` and the list is
+    /// unchanged. Beyond two attributes the capacity doubles, so appending n attributes takes time
+    /// linear in n.
     pub fn push(&mut self, attr: Attr) -> Result<(), OutOfMemory>
         ensures ok { OnOk result (self.new ≡ self.old ++ attr ∷ []) }
         ensures err { OnErr result (self.new ≡ self.old) }
@@ -167,8 +180,9 @@ impl Attrs {
     }
 }
 
-/// Takes all attributes out of a vector, which keeps its memory if there are at most three. They
-/// are dropped where memory is refused.
+/// Moves all attributes out of the vector, which is then empty, and returns them. The vector keeps
+/// its memory when it had at most three. When memory is refused, it fails with `OutOfMemory` and
+/// the attributes are dropped.
 pub fn take_all(alloc: Global, items: &mut Vec<Attr>) -> Result<Attrs, OutOfMemory>
     ensures taken { IfOk result (λ made. made ≡ items.old.items) }
     ensures emptied { items.new.items ≡ [] }
@@ -183,7 +197,8 @@ pub fn take_all(alloc: Global, items: &mut Vec<Attr>) -> Result<Attrs, OutOfMemo
     Ok(Attrs { form, alloc })
 }
 
-/// Adds an attribute at the end. The room doubles.
+/// Appends an attribute and doubles the capacity when the vector is full. On a refusal the vector
+/// is unchanged.
 fn push_doubling(items: &mut Vec<Attr>, attr: Attr) -> Result<(), OutOfMemory>
     ensures ok { OnOk result (items.new.items ≡ items.old.items ++ attr ∷ []) }
     ensures err { OnErr result (items.new.items ≡ items.old.items) }
@@ -196,14 +211,18 @@ fn push_doubling(items: &mut Vec<Attr>, attr: Attr) -> Result<(), OutOfMemory>
     Ok(())
 }
 
-/// An element's own data: its name, its attributes, the contents of a template, and a flag. A
-/// contract sees it as those four.
+/// The data of an element: its name, its attributes, the id of its template contents and the MathML
+/// flag. In a contract an `Element` is the record of these four.
+///
+/// The template contents are the fragment that holds what is inside a `template` element (HTML
+/// Standard, 4.12.3). The flag says that a MathML `annotation-xml` element is an HTML integration
+/// point (HTML Standard, 13.2.6).
 pub struct Element {
     pub(crate) form: NameForm,
     pub(crate) attrs: Attrs,
 }
 
-/// Written out, so that what drops a node has no case for each form.
+/// Destructures by hand, so that code that drops a node needs no case for each storage form.
 impl Drop for Element {
     #[inline(always)]
     fn drop(self) {
@@ -225,7 +244,7 @@ impl Model for Element {
     ghost invariant = { λ element. IsCanonicalName element.form };
 }
 
-/// Prints the four parts.
+/// Prints name, attributes, template contents and flag.
 impl fmt::Debug for Element {
     fn fmt<W: fmt::Write>(&self, f: &mut fmt::Formatter<W>) -> fmt::Result {
         let flag = self.mathml_annotation_xml_integration_point();
@@ -244,7 +263,7 @@ impl Element {
     ghost use Rattle.dom_nodes.specs.Attrs.{attr_of};
     ghost use Rattle.dom_nodes.specs.Words.{class_words, is_among};
 
-    /// An element of that name, with these attributes, template contents and flag.
+    /// Returns an element with this name, these attributes, template contents and flag.
     pub fn new(
         name: QualName,
         attrs: Attrs,
@@ -265,7 +284,7 @@ impl Element {
         Element { form, attrs }
     }
 
-    /// The name, with prefix and namespace.
+    /// Returns the element's name with its prefix and namespace.
     #[inline(always)]
     pub fn name(&self) -> NameRef<'_>
         ensures { result ≡ self.now.name }
@@ -273,7 +292,7 @@ impl Element {
         NameRef::of_form(&self.form)
     }
 
-    /// The attributes.
+    /// Returns the element's attributes.
     #[inline(always)]
     pub fn attrs(&self) -> &Attrs
         ensures { result.now ≡ self.now.attrs }
@@ -281,7 +300,7 @@ impl Element {
         &self.attrs
     }
 
-    /// Whether an element `annotation-xml` of MathML holds HTML.
+    /// Returns the flag that an `annotation-xml` element of MathML is an HTML integration point.
     #[inline(always)]
     pub fn mathml_annotation_xml_integration_point(&self) -> bool
         ensures { result ≡ self.now.mathml_annotation_xml_integration_point }
@@ -289,7 +308,7 @@ impl Element {
         self.form.flag()
     }
 
-    /// The element with other template contents.
+    /// Returns the element with its template contents replaced. Name, attributes and flag stay.
     pub fn with_template_contents(self, contents: Option<NodeId>) -> Element
         ensures { result ≡ record self { template_contents = contents } }
     {
@@ -301,28 +320,29 @@ impl Element {
         }
     }
 
-    /// Gives the element another name.
+    /// Replaces the element's name. Attributes, template contents and flag stay.
     pub fn set_name(&mut self, name: QualName)
         ensures { self.new ≡ record self.old { name = name } }
     {
         drop(self.replace_name(name));
     }
 
-    /// Gives the element other attributes.
+    /// Replaces the element's attributes. Name, template contents and flag stay.
     pub fn set_attrs(&mut self, attrs: Attrs)
         ensures { self.new ≡ record self.old { attrs = attrs } }
     {
         self.attrs = attrs;
     }
 
-    /// The local name.
+    /// Returns the element's local name.
     pub fn node_name(&self) -> &str
         ensures { result.now ≡ self.now.name.local }
     {
         self.name().local().as_str()
     }
 
-    /// The value of the first attribute of that local name.
+    /// Returns the value of the first attribute with this local name, or `None` when there is none.
+    /// The names are compared byte by byte.
     pub fn attr(&self, name: &str) -> Option<&str>
         ensures { option_copied result ≡ attr_of self.now.attrs name.now }
     {
@@ -333,21 +353,22 @@ impl Element {
             .map(|attr| attr.value.as_str())
     }
 
-    /// The value of the first attribute `id`.
+    /// Returns the value of the first attribute `id`, or `None` when there is none.
     pub fn id(&self) -> Option<&str>
         ensures { option_copied result ≡ attr_of self.now.attrs (codes "id") }
     {
         self.attr("id")
     }
 
-    /// The value of the first attribute `class`.
+    /// Returns the value of the first attribute `class`, or `None` when there is none.
     pub fn class(&self) -> Option<&str>
         ensures { option_copied result ≡ attr_of self.now.attrs (codes "class") }
     {
         self.attr("class")
     }
 
-    /// Whether the name is a word of the first attribute `class`. An empty name isn't.
+    /// Returns whether `name` is one of the words of the first attribute `class`, compared byte by
+    /// byte. For an empty name the answer is false.
     pub fn has_class(&self, name: &str) -> bool
         ensures { result ≡ is_among name.now (class_words self.now.attrs) }
     {
@@ -357,7 +378,8 @@ impl Element {
         }
     }
 
-    /// The fragment that holds a template's contents.
+    /// Returns the id of the fragment that holds the element's template contents, or `None` when it
+    /// has none.
     #[inline(always)]
     pub fn template_contents(&self) -> Option<NodeId>
         ensures { result ≡ self.now.template_contents }
@@ -366,7 +388,7 @@ impl Element {
     }
 }
 
-/// What a node is.
+/// What a node is. Every node of a tree is of one of these kinds.
 #[derive(Debug, Drop)]
 pub enum NodeData {
     Document,
@@ -389,7 +411,7 @@ pub enum NodeData {
     },
 }
 
-/// A node of an arena: its number, its links, and what it is.
+/// A node in the vector of a tree: its id, its links to other nodes, and what it is.
 #[derive(Debug, Drop)]
 pub struct TreeNode {
     pub id: NodeId,
@@ -407,7 +429,7 @@ impl NodeData {
     ghost use Rattle.dom_nodes.specs.Attrs.{element_of};
     ghost use Rattle.dom_nodes.specs.Kinds.{contents_named, is_fragment, is_top, children_allowed};
 
-    /// The element that the node is.
+    /// Returns the element's data, or `None` when the node is no element.
     pub fn as_element(&self) -> Option<&Element>
         ensures { option_copied result ≡ element_of self.now }
     {
@@ -417,21 +439,23 @@ impl NodeData {
         }
     }
 
-    /// Whether the node is a fragment.
+    /// Returns whether the node is a fragment.
     pub fn is_fragment(&self) -> bool
         ensures { result ≡ is_fragment self.now }
     {
         matches!(self, NodeData::Fragment)
     }
 
-    /// A document or a fragment, which stands alone.
+    /// Returns whether the node is a document or a fragment. Such a node never has a parent or
+    /// siblings.
     pub fn is_top(&self) -> bool
         ensures { result ≡ is_top self.now }
     {
         matches!(self, NodeData::Document | NodeData::Fragment)
     }
 
-    /// Whether the node is a document, a fragment or an element.
+    /// Returns whether the node is of a kind that may have children: a document, a fragment or an
+    /// element.
     pub fn may_have_children(&self) -> bool
         ensures { result ≡ children_allowed self.now }
     {
@@ -441,7 +465,8 @@ impl NodeData {
         )
     }
 
-    /// The fragment that an element holds as its contents.
+    /// Returns the id of the fragment that holds the element's template contents. The answer is
+    /// `None` when the node is no element or has no template contents.
     pub fn template_contents(&self) -> Option<NodeId>
         ensures { result ≡ contents_named self.now }
     {

@@ -1,4 +1,4 @@
-//! Texts: bytes of valid UTF-8, short ones without memory of their own.
+//! Strings of valid UTF-8. Up to 30 bytes are stored in the value itself, without an allocation.
 
 ghost use Rattle.std.specs.Prelude.{◌≡◌, ◌≤◌, ◌++◌, IfOk, IfSome, MatchOption, OnErr, OnOk, List};
 ghost use Rattle.std.specs.Prelude.{ℕ, length};
@@ -17,13 +17,13 @@ use short::ShortText;
 use std::alloc::Global;
 use std::marker::Model;
 
-/// A text. A contract sees it as the list of its bytes.
+/// A string. In a contract a `Text` is the list of its bytes.
 pub struct Text {
     form: Form,
     alloc: Global,
 }
 
-/// Written out, so that what drops a text has no case for each form.
+/// Destructures by hand, so that code that drops a text needs no case for each storage form.
 impl Drop for Text {
     #[inline(always)]
     fn drop(self) {
@@ -32,7 +32,7 @@ impl Drop for Text {
     }
 }
 
-/// Where the bytes of a text lie.
+/// How the bytes of a text are stored: in the value, in memory of its own, or in a shared block.
 #[derive(Drop)]
 enum Form {
     Short(ShortText),
@@ -50,7 +50,8 @@ impl Model for Text {
 }
 
 impl Text {
-    /// Asks for memory only where the text has more than 30 bytes.
+    /// Returns a copy of `text`. Only more than 30 bytes need an allocation; it fails with
+    /// `OutOfMemory` when that is refused.
     pub fn new(alloc: Global, text: &str) -> Result<Text, OutOfMemory>
         ensures { IfOk result (λ made. made ≡ text.now) }
     {
@@ -61,8 +62,9 @@ impl Text {
         Ok(Text { form, alloc })
     }
 
-    /// The text that lies in the block from this place on, which it shares. It asks for no memory:
-    /// an error comes only where more texts share the block than can be counted.
+    /// Returns the text that lies in the block from index `start` on. The block is shared and
+    /// nothing is copied or allocated. It fails with `OutOfMemory` only when the reference count of
+    /// the block is full.
     pub fn within(
         alloc: Global,
         block: &TextBlock,
@@ -76,7 +78,7 @@ impl Text {
         Ok(Text { form, alloc })
     }
 
-    /// The text.
+    /// Returns the text.
     #[inline(always)]
     pub fn as_str(&self) -> &str
         ensures { result.now ≡ self.now }
@@ -88,8 +90,9 @@ impl Text {
         }
     }
 
-    /// Adds the bytes of another text at the end. The text is unchanged after a refusal. The room
-    /// of a long text doubles, so a text that grows piece by piece is copied but a few times.
+    /// Appends `more`. When memory is refused, it fails with `OutOfMemory` and the text is
+    /// unchanged. The capacity of a long text doubles, so a text that grows by small pieces takes
+    /// linear time.
     pub fn push_str(&mut self, more: &str) -> Result<(), OutOfMemory>
         ensures ok { OnOk result (self.new ≡ self.old ++ more.now) }
         ensures err { OnErr result (self.new ≡ self.old) }
@@ -110,7 +113,8 @@ impl Text {
         Ok(())
     }
 
-    /// The same text, where it needs no memory of its own.
+    /// Returns a copy if the text is stored in the value itself (at most 30 bytes), and `None`
+    /// otherwise.
     #[inline(always)]
     pub(crate) fn short_copy(&self) -> Option<Text>
         ensures { IfSome result (λ made. made ≡ self.now) }
@@ -125,7 +129,8 @@ impl Text {
         }
     }
 
-    /// The same text, in the same block where it shares one; else in memory of its own.
+    /// Returns a copy. A text in a shared block stays in that block; any other text gets memory of
+    /// its own.
     pub(crate) fn shared_copy(&self) -> Result<Text, OutOfMemory>
         ensures { IfOk result (λ made. made ≡ self.now) }
     {
@@ -138,7 +143,7 @@ impl Text {
         })
     }
 
-    /// A text of the same bytes in memory of its own.
+    /// Returns a copy in memory of its own, or `OutOfMemory`.
     pub fn try_clone(&self) -> Result<Text, OutOfMemory>
         ensures { IfOk result (λ made. made ≡ self.now) }
     {
@@ -153,13 +158,13 @@ impl Text {
         })
     }
 
-    /// The allocator of the text.
+    /// Returns the allocator of the text.
     pub(crate) fn allocator(&self) -> Global {
         self.alloc
     }
 }
 
-/// A short text with more behind it.
+/// Returns the text `short` with `more` appended.
 fn lengthened(alloc: Global, short: &ShortText, more: &str) -> Result<Form, OutOfMemory>
     ensures { IfOk result (λ form. form_bytes form ≡ short.now ++ more.now) }
 {
@@ -169,7 +174,7 @@ fn lengthened(alloc: Global, short: &ShortText, more: &str) -> Result<Form, OutO
     joined(alloc, short.as_str(), more)
 }
 
-/// A text with more behind it, in memory of its own.
+/// Returns `text` with `more` appended, in memory of its own.
 fn joined(alloc: Global, text: &str, more: &str) -> Result<Form, OutOfMemory>
     ensures { IfOk result (λ form. form_bytes form ≡ text.now ++ more.now) }
 {

@@ -1,4 +1,4 @@
-//! Texts as words, and tests of texts.
+//! Words of texts, separated by ASCII whitespace, and comparisons of short strings.
 
 ghost use Rattle.std.specs.Int.{w32, to_le_bytes};
 ghost use Rattle.std.specs.Prelude.{◌≡◌, ◌+◌, ◌<◌, ◌≤◌, drop, length, map, take};
@@ -8,21 +8,23 @@ ghost use Rattle.dom_nodes.specs.Words.{is_among, words_of};
 
 use crate::case_sensitivity::CaseSensitivity;
 
-/// Whether the text is empty, or of white characters alone.
+/// Returns whether the text is empty or has only characters of the Unicode property White_Space.
 pub fn is_blank(text: &str) -> bool
     ensures { result ≡ is_blank text.now }
 {
     text.chars().all(|c| c.is_whitespace())
 }
 
-/// Whether the text has that word, between whitespace.
+/// Returns whether `word` is one of the words of `text`, which ASCII whitespace separates. The
+/// words are compared byte by byte.
 pub fn has_word(text: &str, word: &str) -> bool
     ensures { result ≡ is_among word.now (words_of text.now) }
 {
     has_word_by(text, word.as_bytes(), CaseSensitivity::CaseSensitive)
 }
 
-/// Whether one of the text's words is the name.
+/// Returns whether `name` is one of the words of `text`, compared with or without the case of ASCII
+/// letters.
 pub fn has_word_by(text: &str, name: &[u8], case_sensitivity: CaseSensitivity) -> bool
     ensures { result ≡ is_among_by case_sensitivity name.now (words_of text.now) }
 {
@@ -34,7 +36,7 @@ pub fn has_word_by(text: &str, name: &[u8], case_sensitivity: CaseSensitivity) -
     false
 }
 
-/// Whether the text is one of the names.
+/// Returns whether the text is equal to one of the names, byte by byte.
 pub fn is_one_of(text: &str, names: &[&str]) -> bool
     ensures { result ≡ is_among text.now (map (λ name. name.now) names.now) }
 {
@@ -46,9 +48,9 @@ pub fn is_one_of(text: &str, names: &[&str]) -> bool
     false
 }
 
-/// Whether two words are the same. Up to eight bytes are compared by pieces that may overlap, with
-/// no loop that ends at another length each time: for the few letters of most names this takes less
-/// time than a loop, or a call that compares texts of any length.
+/// Returns whether two words are equal. Up to eight bytes are compared in pieces of fixed length
+/// that may overlap, without a loop. For names, which are mostly a few letters long, this is faster
+/// than a loop or a call of the general comparison.
 #[inline(always)]
 pub fn is_same_word(word: &[u8], other: &[u8]) -> bool
     ensures { result ≡ bytes_eq word.now other.now }
@@ -66,8 +68,8 @@ pub fn is_same_word(word: &[u8], other: &[u8]) -> bool
     is_same_long(word, other)
 }
 
-/// Whether two words of one length, of one to three bytes, are the same. The three places may
-/// overlap, and are all that the words have.
+/// Returns whether two words of equal length, one to three bytes, are equal. The first, the middle
+/// and the last byte cover all bytes of such words, and may be the same byte.
 #[inline(always)]
 fn is_same_short(word: &[u8], other: &[u8]) -> bool
     requires same_length { length word.now ≡ length other.now }
@@ -79,7 +81,7 @@ fn is_same_short(word: &[u8], other: &[u8]) -> bool
     (word[0] == other[0]) & (word[middle] == other[middle]) & (word[last] == other[last])
 }
 
-/// Whether two texts have the same four bytes at that place.
+/// Returns whether two texts have the same four bytes from index `at` on.
 #[inline(always)]
 fn is_same_four(word: &[u8], other: &[u8], at: usize) -> bool
     requires word { at + 4 ≤ length word.now }
@@ -89,7 +91,7 @@ fn is_same_four(word: &[u8], other: &[u8], at: usize) -> bool
     four_at(word, at) == four_at(other, at)
 }
 
-/// The four bytes at that place, as one number.
+/// Returns the four bytes from index `at` on as one integer.
 #[inline(always)]
 fn four_at(text: &[u8], at: usize) -> u32
     requires { at + 4 ≤ length text.now }
@@ -98,7 +100,7 @@ fn four_at(text: &[u8], at: usize) -> u32
     u32::from_le_bytes([text[at], text[at + 1], text[at + 2], text[at + 3]])
 }
 
-/// Whether two words are the same, however long they are. Never inlined, so that the callers of
+/// Returns whether two words of any length are equal. It is never inlined, so that callers of
 /// `is_same_word` stay small.
 #[inline(never)]
 fn is_same_long(word: &[u8], other: &[u8]) -> bool

@@ -9,7 +9,7 @@ use Rattle.dom_markup.specs.Writing.{AppendsBeginning}
 use Rattle.dom_selectors.specs.Syntax.{SelectorList}
 use Rattle.dom_links.specs.Lists.{without}
 use Rattle.dom_links.specs.Sound.{IsForest}
-use Rattle.dom_select.specs.Meaning.{Means}
+use Rattle.dom_select.specs.Meaning.{MatchesNode}
 use Rattle.dom_select.specs.Selected.{Selected}
 use Rattle.dom_sanitize.specs.Clean.{Lists}
 use Rattle.dom_sanitize.specs.Laws.{HasOneClean}
@@ -42,7 +42,7 @@ queried-once : OneSelection → (forest : Forest) (selection : List ℕ) (kind :
     → QueryResult forest selection kind selector a → QueryResult forest selection kind selector b → a ≡ b
 queried-once one forest selection Select selector a b p q = one forest _ selector a b p q
 queried-once one forest selection Find selector a b p q = one forest _ selector a b p q
-queried-once one forest selection Filter selector a b p q = filtered-once (Means selector forest) selection a b p q
+queried-once one forest selection Filter selector a b p q = filtered-once (MatchesNode selector forest) selection a b p q
 queried-once one forest [] Add selector a b p q = p ∙ sym q
 queried-once one forest (n ∷ ns) Add selector a b (more, p, is) (others, q, so) =
     is ∙ ap (λ ms. (n ∷ ns) ++ without (n ∷ ns) ms) (one forest _ selector more others p q) ∙ sym so

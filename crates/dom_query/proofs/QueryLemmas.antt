@@ -10,7 +10,7 @@ use Rattle.dom_links.specs.Lists.{without}
 use Rattle.dom_trees.specs.declared.node_ref.NodeRef.{NodeRef}
 use Rattle.dom_trees.specs.Views.{refs_to}
 use Rattle.dom_selectors.specs.Syntax.{SelectorList}
-use Rattle.dom_select.specs.Meaning.{Means}
+use Rattle.dom_select.specs.Meaning.{MatchesNode}
 use Rattle.dom_select.specs.Selected.{FiltersTo, Selected, first_occurrences}
 use Rattle.dom_selection.specs.Selecting.{Adds, AreFound, Keeps, Selects}
 use Rattle.dom_selection.specs.Selections.{Lists, first_alone, gathered, ids_of}
@@ -38,9 +38,9 @@ pub selects-numbers : (selector : SelectorList) (tree : Bor Forest) (ns : List �
 selects-numbers selector tree [] found is = subst (Selected tree.now [] selector) (sym (ap ids_of is)) (selected-none tree.now selector)
 selects-numbers selector tree (n ∷ ns) found is = found-numbers (λ forest ms ids. Selected forest ms selector ids) tree n ns found is
 
-pub keeps-numbers : (selector : SelectorList) (tree : Bor Forest) (ns : List ℕ) (found : List NodeRef) → Keeps selector (refs_to tree ns) found → FiltersTo (Means selector tree.now) ns (ids_of found)
+pub keeps-numbers : (selector : SelectorList) (tree : Bor Forest) (ns : List ℕ) (found : List NodeRef) → Keeps selector (refs_to tree ns) found → FiltersTo (MatchesNode selector tree.now) ns (ids_of found)
 keeps-numbers selector tree [] found is = ap ids_of is
-keeps-numbers selector tree (n ∷ ns) found is = found-numbers (λ forest ms ids. FiltersTo (Means selector forest) ms ids) tree n ns found is
+keeps-numbers selector tree (n ∷ ns) found is = found-numbers (λ forest ms ids. FiltersTo (MatchesNode selector forest) ms ids) tree n ns found is
 
 pub adds-numbers : (selector : SelectorList) (tree : Bor Forest) (ns : List ℕ) (found : List NodeRef) → Adds selector (refs_to tree ns) found → Added tree.now ns selector (ids_of found)
 adds-numbers selector tree [] found is = ap ids_of is

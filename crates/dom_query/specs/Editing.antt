@@ -1,4 +1,4 @@
--- What lines change in the tree.
+-- What the script lines that edit do to the tree.
 use Rattle.std.specs.Prelude.{◌≢◌, ℕ, List, [], ◌∷◌, Result, IfErr, OnOk}
 use Rattle.dom_nodes.specs.Changes.{on_element, renamed, with_attr, with_attrs, without_name}
 use Rattle.dom_nodes.specs.Classes.{with_classes, without_classes}
@@ -14,11 +14,11 @@ use Rattle.dom_script.specs.declared.script.edit_line.EditLine.{EditLine}
 use Rattle.dom_script.specs.declared.script.edit_line.EditLine.TheVariants.{SetAttr, RemoveAttr, Rename, AddClass, RemoveClass, SetText, Strip, Put, Remove, Unwrap, Normalize}
 use Rattle.dom_script.specs.EditLine.{names_in}
 
--- the data of x is changed; it is refused where x is unknown, or memory was refused
+-- Changing the data of x. It may fail only if x is unknown or memory is refused.
 abbrev pub rewriting : (NodeData → NodeData) → ℕ → TreeEdit
 rewriting change x = record { after = with_content x change; Allowed = IsKnown x; Cause = JoinCause x }
 
--- what the line does at a node
+-- The edit that a line makes at a node.
 abbrev pub line_edit : EditLine → ℕ → TreeEdit
 line_edit (SetAttr name value) n = rewriting (with_attrs (with_attr name value)) n
 line_edit (RemoveAttr name) n = rewriting (with_attrs (without_name name)) n
@@ -32,22 +32,23 @@ line_edit Remove n = removing n
 line_edit Unwrap n = unwrapping n
 line_edit Normalize n = normalizing n
 
--- where it does it: at each selected node, or at the root, which is number 0
+-- The nodes at which a line makes its edit: each selected node, or the root (id 0) for `normalize`.
 abbrev pub targets : EditLine → List ℕ → List ℕ
 targets Normalize selection = 0 ∷ []
 targets _ selection = selection
 
--- at one of the nodes it is refused, with this fault
+-- The edit fails with this fault at one of the nodes.
 abbrev pub FailsAtOne : (ℕ → TreeEdit) → List ℕ → Forest → EditFault → Type 0
 FailsAtOne edit nodes forest fault =
     (done : ℕ) × (after : Forest) × Stops edit nodes forest after (record { done = done; fault = fault })
 
--- It is done at each of the nodes, or refused at one. That memory was refused says nothing more
+-- The result of an edit line: the edit was made at each of the nodes, or it failed at one of them.
+-- When memory is refused, nothing more is said.
 pub record EditsOrFails (result : Result Unit EditFault) (old new : Forest) (nodes : List ℕ) (edit : ℕ → TreeEdit) : Type 0 where
   pub ok : OnOk result (Each edit nodes old new)
   pub err : IfErr result (λ fault. fault ≢ Memory → FailsAtOne edit nodes old fault)
 
--- the fault is of the edit, and not of numbers or memory that gave out
+-- The fault comes from the edit itself, and not from a lack of ids or memory.
 abbrev pub IsRefusal : EditFault → Type 0
 IsRefusal TooManyNodes = ⊥
 IsRefusal Memory = ⊥

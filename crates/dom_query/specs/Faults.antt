@@ -14,11 +14,11 @@ use Rattle.dom_script.specs.declared.script.ScriptFault.{ScriptFault}
 use Rattle.dom_script.specs.declared.script.ScriptFault.TheVariants.{BadLine, Memory as NoMemory, TooManyNodes as NoNumbers}
 use Rattle.dom_query.specs.Out.{IsNoMarkup}
 
--- the text is markup of the trees that the forest is
+-- The text is markup in UTF-8, and the forest is that of the trees in it.
 abbrev pub IsMarkup : List ℕ → Forest → Type 0
 IsMarkup markup forest = (trees : ValueTrees) × IsUtf8 markup × Spells markup trees × (forest ≡ document_of trees)
 
--- why a text was not read as markup
+-- When parsing the markup may fail.
 abbrev pub MarkupRefused : List ℕ → RunFault → Type 0
 MarkupRefused markup BadMarkup = IsNoMarkup markup
 MarkupRefused markup TooManyNodes = BeginsTooManyNodes markup
@@ -27,7 +27,7 @@ MarkupRefused markup (BadScript line) = ⊥
 MarkupRefused markup (Edit line fault) = ⊥
 MarkupRefused markup Write = ⊥
 
--- memory or the writer gave out
+-- The fault is that memory was refused or the writer failed.
 abbrev pub GaveOut : RunFault → Type 0
 GaveOut Memory = Unit {0}
 GaveOut Write = Unit {0}
@@ -36,13 +36,13 @@ GaveOut BadMarkup = ⊥
 GaveOut (Edit line fault) = ⊥
 GaveOut TooManyNodes = ⊥
 
--- the fault of a run for a fault of its script
+-- The fault of a run for a fault of its script.
 abbrev pub fault_of : ScriptFault → RunFault
 fault_of (BadLine line) = BadScript line
 fault_of NoNumbers = TooManyNodes
 fault_of NoMemory = Memory
 
--- the fault of a run for a fault in writing
+-- The fault of a run for a fault of writing.
 abbrev pub limit_of : WriteFault → RunFault
 limit_of NotWritten = Write
 limit_of NoRoom = Memory

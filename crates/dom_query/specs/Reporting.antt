@@ -1,4 +1,4 @@
--- What the program reports where it ends early: a line on standard error, and a status.
+-- What the program `dq` reports when it fails: a line on standard error, and an exit status.
 use Rattle.std.specs.Prelude.{ℕ, List, ◌++◌, codes, decimal}
 use Rattle.dom_nodes.specs.declared.fault.EditFault.{EditFault}
 use Rattle.dom_nodes.specs.declared.fault.EditFault.TheVariants.{UnknownNode, NoChildrenHere, RootOrFragment, Cycle, BadContents, Markup, TooManyNodes as TooMany, Memory as NoMemory}
@@ -8,7 +8,7 @@ use Rattle.dom_query.specs.declared.reporting.DriveFault.{DriveFault}
 use Rattle.dom_query.specs.declared.reporting.DriveFault.TheVariants.{Usage, Read, Run}
 use Rattle.dom_query.specs.Rendering.{line_of}
 
--- the name of an edit's fault
+-- The name of an edit's fault.
 abbrev pub name_text : EditFault → List ℕ
 name_text UnknownNode = codes "UnknownNode"
 name_text NoChildrenHere = codes "NoChildrenHere"
@@ -19,7 +19,7 @@ name_text NoMemory = codes "Memory"
 name_text BadContents = codes "BadContents"
 name_text (Markup fault) = codes "Markup"
 
--- why a run ended early
+-- Why running the script failed.
 abbrev pub reason_of : RunFault → List ℕ
 reason_of (BadScript line) = codes "script: line " ++ decimal line
 reason_of BadMarkup = codes "markup: refused"
@@ -28,13 +28,13 @@ reason_of TooManyNodes = codes "too many nodes"
 reason_of Memory = codes "out of memory"
 reason_of Write = codes "write failed"
 
--- the line on standard error
+-- The line on standard error.
 abbrev pub report_of : DriveFault → List ℕ
 report_of Usage = line_of (codes "usage: dq SCRIPT | dq --md")
 report_of Read = line_of (codes "dq: read failed")
 report_of (Run fault) = line_of (codes "dq: " ++ reason_of fault)
 
--- the status
+-- The exit status.
 abbrev pub status_of : DriveFault → ℕ
 status_of Usage = 64
 status_of Read = 5

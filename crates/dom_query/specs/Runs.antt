@@ -1,4 +1,5 @@
--- What a run leaves in a writer that held the bytes `old` and now holds `new`, and what its faults say.
+-- What running a script does to a writer that held the bytes `old` and now holds `new`, and what
+-- its faults say.
 use Rattle.std.specs.Prelude.{◌≡◌, ◌⊎◌, ℕ, List, [], Option}
 use Rattle.std.specs.Io.KnownBytes.{Appends}
 use Rattle.dom_nodes.specs.declared.fault.EditFault.{EditFault}
@@ -14,25 +15,26 @@ use Rattle.dom_query.specs.Out.{Does, DoesAll, Ending, Fails, Out, Ran}
 use Rattle.dom_query.specs.Out.Ending.{refused, bad_script, bad_markup}
 use Rattle.dom_script.specs.Script.{HasLargeLine, IsScript}
 
--- the command was done with this selection, what it writes was written, and then the forest is `after`, and those nodes are
--- selected
+-- The command was done and its text was written. The forest is then `after`, and the nodes
+-- `selected` are selected.
 abbrev pub Did : Forest → List ℕ → Command → Option (List ℕ) → Option (List ℕ) → Forest → List ℕ → Type 0
 Did forest selection command old new after selected =
     (text : List ℕ) × Does forest selection command text after selected × Appends old new text
 
--- a beginning of what the command writes was written, and nothing where it is refused
+-- A beginning of what the command writes was written, and nothing if the command fails.
 abbrev pub DidBegin : Forest → List ℕ → Command → Option (List ℕ) → Option (List ℕ) → Type 0
 DidBegin forest selection command old new =
     ((text selected : List ℕ) (after : Forest) → Does forest selection command text after selected → AppendsBeginning old new text)
     × ((fault : EditFault) → Fails forest selection command fault → AppendsBeginning old new [])
 
--- the fault of a run for an edit's fault in this line
+-- The fault of the run for an edit's fault in this line.
 abbrev pub fault_at : ℕ → EditFault → RunFault
 fault_at line TooMany = TooManyNodes
 fault_at line NoMemory = Memory
 fault_at line fault = Edit line fault
 
--- the command failed in this line, and nothing was written; or memory or the writer gave out
+-- When a command may fail: its edit failed, and nothing was written; or memory was refused, or the
+-- writer failed.
 abbrev pub CommandCause : Forest → List ℕ → Command → ℕ → Option (List ℕ) → Option (List ℕ) → RunFault → Type 0
 CommandCause forest selection command line old new (Edit at fault) = (at ≡ line) × IsRefusal fault × Fails forest selection command fault × Appends old new []
 CommandCause forest selection command line old new TooManyNodes = Fails forest selection command TooMany × Appends old new []
@@ -41,22 +43,22 @@ CommandCause forest selection command line old new Write = Unit {0}
 CommandCause forest selection command line old new (BadScript at) = ⊥
 CommandCause forest selection command line old new BadMarkup = ⊥
 
--- the commands end so, at first with this selection, and what they write was written
+-- The commands, beginning with this selection, end in this way, and what they write was written.
 abbrev pub DidAll : Forest → List ℕ → List Command → Option (List ℕ) → Option (List ℕ) → Ending → Type 0
 DidAll forest selection commands old new ending =
     (text : List ℕ) × DoesAll forest selection 1 commands text ending × Appends old new text
 
--- numbers and memory that give out are no ending of a run
+-- The ending isn't a lack of ids or memory.
 abbrev pub IsEnding : Ending → Type 0
 IsEnding (refused line fault) = IsRefusal fault
 IsEnding _ = Unit {0}
 
--- a beginning of what the commands write was written
+-- A beginning of what the commands write was written.
 abbrev pub DidAllBegin : Forest → List ℕ → List Command → Option (List ℕ) → Option (List ℕ) → Type 0
 DidAllBegin forest selection commands old new =
     (text : List ℕ) (ending : Ending) → IsEnding ending → DoesAll forest selection 1 commands text ending → AppendsBeginning old new text
 
--- what a fault says of the commands
+-- What each fault says of the commands.
 abbrev pub CommandsCause : Forest → List ℕ → List Command → Option (List ℕ) → Option (List ℕ) → RunFault → Type 0
 CommandsCause forest selection commands old new (Edit line fault) = IsRefusal fault × DidAll forest selection commands old new (refused line fault)
 CommandsCause forest selection commands old new TooManyNodes = (line : ℕ) × DidAll forest selection commands old new (refused line TooMany)
@@ -65,23 +67,24 @@ CommandsCause forest selection commands old new Write = Unit {0}
 CommandsCause forest selection commands old new (BadScript line) = ⊥
 CommandsCause forest selection commands old new BadMarkup = ⊥
 
--- what the run writes was written, and it ended so
+-- What the run writes was written, and it ended in this way.
 abbrev pub Ended : List ℕ → List ℕ → Option (List ℕ) → Option (List ℕ) → Ending → Type 0
 Ended markup script old new ending = (text : List ℕ) × Out markup script text ending × Appends old new text
 
--- a beginning of what the run writes was written
+-- A beginning of what the run writes was written.
 abbrev pub Began : List ℕ → List ℕ → Option (List ℕ) → Option (List ℕ) → Type 0
 Began markup script old new = (text : List ℕ) (ending : Ending) → Out markup script text ending → AppendsBeginning old new text
 
--- numbers gave out: the markup of a line, or of a script's document, has too many nodes, and nothing was written; or the
--- lines before an edit were done and written, and it asks for a number too many
+-- Ids ran out. Either the markup in a line of the script, or the markup itself, has too many nodes,
+-- and nothing was written; or an edit needs an id too many, and the output of the lines before it
+-- was written.
 abbrev pub RanOut : List ℕ → List ℕ → Option (List ℕ) → Option (List ℕ) → Type 0
 RanOut markup script old new =
     (HasLargeLine script × Appends old new [])
     ⊎ (((commands : List Command) × IsScript script commands) × BeginsTooManyNodes markup × Appends old new [])
     ⊎ ((line : ℕ) × (text : List ℕ) × Ran markup script text (refused line TooMany) × Appends old new text)
 
--- what a fault says
+-- What each fault of a run says.
 abbrev pub RunCause : List ℕ → List ℕ → Option (List ℕ) → Option (List ℕ) → RunFault → Type 0
 RunCause markup script old new (BadScript line) = Ended markup script old new (bad_script line)
 RunCause markup script old new BadMarkup = Ended markup script old new bad_markup

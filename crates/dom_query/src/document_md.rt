@@ -1,4 +1,4 @@
-//! What the Markdown's crate adds to documents.
+//! Text with line breaks, and Markdown, for documents.
 
 use dom_markup::document::Document;
 use dom_md::node_md::NodeMd;
@@ -15,15 +15,18 @@ pub trait DocumentMd {
     // The forest of the document.
     ghost forest: { Self → Forest };
 
-    /// The formatted text of what is below the root, without whitespace at its end. Without any
-    /// whitespace it is the text of the document without whitespace.
+    /// Returns the text below the root, laid out in lines and paragraphs as the elements ask for,
+    /// without white space at its end. Without all white space it is the text of the document
+    /// without white space. It fails with `OutOfMemory` when memory is refused.
     fn formatted_text(&self) -> Result<String, OutOfMemory>
         ensures text { IfOk result (λ text. string_bytes text
             ≡ formatted_below (forest self.now) 0) }
         ensures words { IfOk result (λ text. KeepsWords (forest self.now) 0 (string_bytes text)) };
 
-    /// The Markdown of what is below the root. That of texts alone resolves to their words, joined
-    /// by one space.
+    /// Returns the Markdown of what is below the root, without the elements whose local names are
+    /// in `skip_tags`; `None` leaves out `script`, `style`, `meta` and `head`. When there are only
+    /// texts below the root, the Markdown, with its escapes resolved, is their words joined by one
+    /// space. It fails with `OutOfMemory` when memory is refused.
     fn md(&self, skip_tags: Option<&[&str]>) -> Result<String, OutOfMemory>
         ensures { IfOk result (ReadsAsWords (forest self.now) 0) };
 }

@@ -1,4 +1,4 @@
-//! The program's work, apart from its streams.
+//! The work of the program `dq`, over any streams.
 
 ghost use Rattle.std.specs.Prelude.{◌≡◌, ◌⊎◌, None, Some, IfOk, IfErr, IfSome, MatchOption, OnOk};
 ghost use Rattle.dom_query.specs.Drive.{AsksFor, AsksForNothing, words_of};
@@ -11,16 +11,16 @@ use crate::runner::{RunFault, run};
 use std::alloc::Global;
 use std::io::{ErrorKind, Read, Write};
 
-/// What the words ask for.
+/// What the program's arguments ask for.
 #[derive(Clone, Copy, Drop)]
 pub enum Job<'a> {
-    /// This script is run over the markup.
+    /// Run this script over the markup.
     Script(&'a str),
-    /// The markup's Markdown is written.
+    /// Write the Markdown of the markup.
     Markdown,
 }
 
-/// What the words ask for, if they are one.
+/// Returns what the arguments ask for, or `None` if there isn't exactly one.
 fn job_of(words: &[String]) -> Option<Job<'_>>
     ensures { MatchOption result (AsksForNothing (words_of words.now))
         (AsksFor (words_of words.now)) }
@@ -35,7 +35,8 @@ fn job_of(words: &[String]) -> Option<Job<'_>>
     Some(Job::Script(script))
 }
 
-/// All that the reader has.
+/// Reads everything from the reader. It fails with `DriveFault::Read` when the reader fails, and
+/// with `RunFault::Memory` when memory is refused.
 fn read_whole<R: Read>(alloc: Global, input: &mut R) -> Result<Vec<u8>, DriveFault>
     ensures ok { IfOk result (λ bytes.
         IfSome (R.remaining input.old) (λ known. bytes.items ≡ known)) }
@@ -53,7 +54,7 @@ fn read_whole<R: Read>(alloc: Global, input: &mut R) -> Result<Vec<u8>, DriveFau
     }
 }
 
-/// Does what the words ask for, over what the reader has.
+/// Does what the arguments ask for, with everything from the reader as the markup.
 fn run_words<R: Read, W: Write>(
     alloc: Global,
     args: &[String],
@@ -69,6 +70,7 @@ fn run_words<R: Read, W: Write>(
     ensures untouched { IfErr result (λ fault. fault ≡ DriveFault.Usage
         → (input.new ≡ input.old) × (out.new ≡ out.old)) }
 {
+    // Called for its contract; the law does nothing at run time.
     one_output();
     let Some(job) = job_of(args) else {
         return Err(DriveFault::Usage);
@@ -80,10 +82,11 @@ fn run_words<R: Read, W: Write>(
     }
 }
 
-/// Runs the script that is the one word over what the reader has, or writes the Markdown of that
-/// and a line feed where the word is `--md`. Gives the program's status: 0, or 64 where there isn't
-/// one word, 2 for a bad script, 3 for bad markup, 4 where numbers gave out, 5 where memory, the
-/// reader or the writer did. Where it isn't 0, a line on `err` says why.
+/// The program `dq`. The one argument is a script, which is run over the markup from `input` and
+/// writes to `out`; or it is `--md`, and the Markdown of the markup and a line feed are written.
+/// Returns the exit status: 0 when everything was done; 64 when there isn't exactly one argument; 2
+/// for a bad script; 3 for bad markup; 4 when an edit failed or no node id was left; 5 when memory
+/// was refused or the reader or the writer failed. When it isn't 0, one line on `err` says why.
 pub fn drive<R: Read, W: Write, E: Write>(
     alloc: Global,
     args: &[String],
@@ -91,17 +94,17 @@ pub fn drive<R: Read, W: Write, E: Write>(
     out: &mut W,
     err: &mut E,
 ) -> u8
-    // Each status comes by its cause, and then the line of that cause is reported.
+    // The status is that of the cause, and the line of that cause is written to `err`.
     ensures drove { Drove (words_of args.now) (R.remaining input.old) (W.contents out.old)
         (W.contents out.new) (E.contents err.old) (E.contents err.new) result }
-    // The words are looked at first.
+    // The arguments are tested before anything is read or written.
     ensures untouched { result ≡ 64 → (input.new ≡ input.old) × (out.new ≡ out.old) }
     ensures quiet { result ≡ 0 → err.new ≡ err.old }
 {
     match run_words(alloc, args, input, out) {
         Ok(()) => 0,
         Err(fault) => {
-            // No status waits on the line.
+            // The status doesn't depend on whether this line could be written.
             let _ = report(err, fault);
             status_of_fault(fault)
         }

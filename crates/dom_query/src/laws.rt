@@ -1,4 +1,4 @@
-//! What is true of every run. The functions do nothing.
+//! Facts about every run of a script over markup. The functions do nothing at run time.
 
 ghost use Rattle.std.specs.Prelude.{ℕ, List, Option};
 ghost use Rattle.dom_query.specs.Drive.{Drove, StatusMeans};
@@ -6,18 +6,20 @@ ghost use Rattle.dom_query.specs.Out.{HasOneOutput};
 ghost use Rattle.dom_query.specs.ReadBack.{EndReadsBack, ReadsBack};
 ghost use Rattle.dom_script.specs.declared.script.Command.{Command};
 
-/// A run has one text and one ending at most.
+/// A script and a markup determine the text that `run` writes and how it ends.
 pub fn one_output()
     ensures { (markup script : List ℕ) → HasOneOutput markup script }
 {
+    // Called for their contracts, here and below; the laws do nothing at run time.
     dom_markup::laws::one_reading();
     dom_select::laws::one_reading();
     dom_select::laws::one_selection();
     dom_sanitize::laws::one_clean();
 }
 
-/// Where the script is the one line `document` and the document of the markup is plain, what a run
-/// writes that is done is a text that spells the same tree, and a line feed.
+/// If the script is the single line `document`, and the document of the markup is plain (see
+/// `IsPlain` in dom_markup), then a run that succeeds writes a text that parses to the same tree,
+/// and a line feed.
 pub fn document_reads_back()
     ensures { (markup text : List ℕ) → ReadsBack markup text }
 {
@@ -27,8 +29,9 @@ pub fn document_reads_back()
     dom_markup::laws::plain::plain_documents_are_spelled();
 }
 
-/// Where a script ends in the line `document`, what a run writes that is done is the text of the
-/// lines before it, and then a line: where they leave a plain document, it spells the same tree.
+/// If a script ends with the line `document`, then a run that succeeds writes the text of the lines
+/// before it and then one more line. If those lines leave a plain document, the last line parses to
+/// the same tree.
 pub fn last_document_reads_back()
     ensures { (m s : List ℕ) (cs : List Command) (text : List ℕ) → EndReadsBack m s cs text }
 {
@@ -37,8 +40,8 @@ pub fn last_document_reads_back()
     dom_markup::laws::plain::plain_documents_are_spelled();
 }
 
-/// The status of a drive says how it ended: 0 that its job was done, 2 that the script was
-/// refused, 3 that the markup was, 64 that the words ask for nothing.
+/// The status that `drive` returns says how it ended: 0, everything was done; 2, the script is bad;
+/// 3, the markup is bad; 64, there isn't exactly one argument.
 pub fn status_determines_ending()
     ensures { (words : List (List ℕ)) (known old new err reported : Option (List ℕ)) (status : ℕ)
         → Drove words known old new err reported status → StatusMeans words known old new status }

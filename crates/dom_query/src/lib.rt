@@ -1,4 +1,9 @@
-//! Scripts of lines, run over markup; the names of the crates below are handed on.
+//! HTML documents: parse, select, edit, sanitize and write them, with proved contracts.
+//!
+//! Most programs begin with `use dom_query::prelude::*;`. This crate hands on the public names of
+//! the crates below, under the module names of the Rust crate dom_query, and adds three things of
+//! its own: `run`, which runs a script of lines over markup; `drive`, the program `dq`; and the
+//! Markdown and formatted text of documents and selections.
 #![tactic(auto)]
 
 mod document_md;
@@ -11,6 +16,7 @@ pub mod prelude;
 mod reporting;
 mod runner;
 mod selection_md;
+mod selector_places;
 pub mod serializing;
 
 pub use document_md::DocumentMd;
@@ -85,6 +91,9 @@ pub use dom_nodes::text::Text;
 pub use dom_sanitize::sanitize::Allow;
 pub use dom_sanitize::sanitize::sanitize;
 pub use dom_sanitize::sanitize::sanitize_tree;
+pub use dom_script::script::Command;
+pub use dom_script::script::ScriptFault;
+pub use dom_script::script::read_script;
 pub use dom_select::matcher::InnerSelector;
 pub use dom_select::matcher::MatchNode;
 pub use dom_select::matcher::Matcher;
@@ -122,4 +131,6 @@ pub use dom_trees::tree::Tree;
 pub use driver::drive;
 pub use runner::RunFault;
 pub use runner::run;
+pub use runner::run_commands;
 pub use selection_md::SelectionMd;
+pub use selector_places::valid_selector_prefix;

@@ -1,4 +1,4 @@
-//! The Markdown of markup.
+//! Writing the Markdown of markup.
 
 ghost use Rattle.std.specs.Prelude.{IfErr, OnOk};
 ghost use Rattle.dom_query.specs.Markdown.{MarkdownCause, WroteMarkdown};
@@ -9,7 +9,8 @@ use dom_markup::writing::write_bytes;
 use std::alloc::Global;
 use std::io::Write;
 
-/// Writes the Markdown of the document that the bytes spell, and a line feed.
+/// Parses the markup, and writes the Markdown of the document and a line feed. It fails with
+/// `BadMarkup`, `TooManyNodes`, `Memory` or `Write`; unless the writer failed, nothing was written.
 pub fn write_markdown<W: Write>(alloc: Global, markup: &[u8], out: &mut W) -> Result<(), RunFault>
     ensures done { OnOk result (WroteMarkdown markup.now
         (W.contents out.old) (W.contents out.new)) }

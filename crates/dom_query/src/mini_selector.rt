@@ -1,4 +1,4 @@
-//! Mini selectors: selectors of one step, and paths of them.
+//! Mini selectors: selectors of a single step, and paths of such steps.
 
 pub use dom_mini::mini_selector::extension::MiniSelect;
 pub use dom_selectors::mini_selector::fault::MiniFault;

@@ -1,4 +1,4 @@
-//! Numbers written without memory.
+//! Writing numbers without allocating memory.
 
 ghost use Rattle.std.specs.Prelude.{decimal};
 ghost use Rattle.dom_markup.specs.Writing.{Writes};
@@ -7,7 +7,7 @@ use dom_markup::serializing::WriteFault;
 use dom_markup::writing::write_bytes;
 use std::io::Write;
 
-/// Writes the number in decimal.
+/// Writes the number in decimal. It fails when the writer does.
 pub fn write_number<W: Write>(out: &mut W, number: usize) -> Result<(), WriteFault>
     ensures { Writes (W.contents out.old) (W.contents out.new) result (decimal number) }
 {

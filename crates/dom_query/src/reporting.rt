@@ -1,4 +1,4 @@
-//! What the program reports where it ends early.
+//! The exit status and the error line of the program `dq`.
 
 ghost use Rattle.std.specs.Prelude.{◌≡◌};
 ghost use Rattle.dom_markup.specs.Writing.{Writes};
@@ -11,14 +11,14 @@ use dom_markup::writing::write_bytes;
 use dom_nodes::fault::EditFault;
 use std::io::Write;
 
-/// Why the program ends with another status than 0.
+/// Why the program ends with a status other than 0.
 #[derive(Clone, Copy, Drop)]
 pub enum DriveFault {
-    /// The words are no script.
+    /// There isn't exactly one argument.
     Usage,
     /// The reader failed.
     Read,
-    /// The run ended early, or memory was refused before it.
+    /// Running the script failed, or memory was refused before that.
     Run(RunFault),
 }
 
@@ -32,7 +32,7 @@ impl From<RunFault> for DriveFault {
     }
 }
 
-/// The program's status.
+/// Returns the exit status for the fault.
 pub fn status_of_fault(fault: DriveFault) -> u8
     ensures { result ≡ status_of fault }
 {
@@ -46,7 +46,7 @@ pub fn status_of_fault(fault: DriveFault) -> u8
     }
 }
 
-/// Writes the line that reports the fault.
+/// Writes the line that reports the fault. It fails when the writer does.
 pub fn report<W: Write>(err: &mut W, fault: DriveFault) -> Result<(), WriteFault>
     ensures { Writes (W.contents err.old) (W.contents err.new) result (report_of fault) }
 {
@@ -61,7 +61,7 @@ pub fn report<W: Write>(err: &mut W, fault: DriveFault) -> Result<(), WriteFault
     }
 }
 
-/// Writes why a run ended early.
+/// Writes why running the script failed.
 fn report_reason<W: Write>(err: &mut W, fault: RunFault) -> Result<(), WriteFault>
     ensures { Writes (W.contents err.old) (W.contents err.new) result (reason_of fault) }
 {
@@ -83,7 +83,7 @@ fn report_reason<W: Write>(err: &mut W, fault: RunFault) -> Result<(), WriteFaul
     }
 }
 
-/// The name of an edit's fault.
+/// Returns the name of an edit's fault.
 fn name_of(fault: EditFault) -> &'static str
     ensures { result.now ≡ name_text fault }
 {

@@ -1,4 +1,4 @@
-//! A script of lines, run over markup.
+//! `run`: a script of lines, run over markup.
 
 ghost use Rattle.std.specs.Prelude.{◌≡◌, ◌∷◌, [], IfErr, IfOk, OnErr, OnOk};
 ghost use Rattle.dom_query.specs.Faults.{IsMarkup, MarkupRefused};
@@ -25,25 +25,26 @@ use dom_trees::tree::Tree;
 use std::alloc::{AllocError, Global};
 use std::io::Write;
 
-/// Why a run ended early.
+/// Why running a script failed.
 #[derive(Clone, Copy, PartialEq, Eq, Debug, Drop, thiserror::Error)]
 pub enum RunFault {
-    /// The first bad line, counted from 1; 0 where the script isn't UTF-8.
+    /// The script is bad. The number is that of the first bad line, counted from 1; it is 0 if the
+    /// script isn't UTF-8.
     #[error("bad script at line {0}")]
     BadScript(usize),
-    /// The markup isn't UTF-8, or spells nothing.
+    /// The markup isn't UTF-8, or doesn't follow the grammar of markup.
     #[error("bad markup")]
     BadMarkup,
-    /// An edit was refused, at that line.
+    /// The edit in this line, counted from 1, failed.
     #[error("edit refused at line {0}: {1}")]
     Edit(usize, EditFault),
-    /// Markup, or an edit, asks for more nodes than there are numbers.
+    /// The markup or an edit needs more nodes than there are ids.
     #[error("too many nodes")]
     TooManyNodes,
-    /// Memory was refused.
+    /// A request for memory was refused.
     #[error("out of memory")]
     Memory,
-    /// The writer failed, or took no byte.
+    /// The writer failed, or accepted no byte.
     #[error("write failed")]
     Write,
 }
@@ -91,7 +92,7 @@ impl From<AllocError> for RunFault {
     }
 }
 
-/// The fault of the run for an edit's fault in this line.
+/// Returns the fault of the run for an edit's fault in this line.
 fn fault_at(line: usize, fault: EditFault) -> RunFault
     ensures { result ≡ fault_at line fault }
 {
@@ -102,7 +103,7 @@ fn fault_at(line: usize, fault: EditFault) -> RunFault
     }
 }
 
-/// Does what one line asks for, and gives what is selected then.
+/// Does what one line asks for, and returns the nodes that are selected after it.
 fn do_command<W: Write>(
     tree: &mut Tree,
     selection: Vec<NodeId>,
@@ -140,7 +141,7 @@ fn do_command<W: Write>(
     }
 }
 
-/// The root alone.
+/// Returns the selection of the root.
 fn root_alone(alloc: Global) -> Result<Vec<NodeId>, OutOfMemory>
     ensures { IfOk result (λ selection. selection.items ≡ 0 ∷ []) }
 {
@@ -149,8 +150,12 @@ fn root_alone(alloc: Global) -> Result<Vec<NodeId>, OutOfMemory>
     Ok(selection)
 }
 
-/// Does the lines in their order, at first with the root selected.
-fn do_commands<W: Write>(
+/// Runs the commands of a script on a tree, in order, and writes their output to `out`. At the
+/// beginning the root is selected. It fails with `Edit` when an edit isn't allowed (with the number
+/// of the command, counted from 1), with `TooManyNodes` or `Memory` when ids or memory run out, and
+/// with `Write` when the writer fails. After an error, what the earlier commands did to the tree
+/// stays.
+pub fn run_commands<W: Write>(
     alloc: Global,
     tree: &mut Tree,
     commands: &[Command],
@@ -163,6 +168,7 @@ fn do_commands<W: Write>(
     ensures cause { IfErr result (CommandsCause tree.old (0 ∷ []) commands.now
         (W.contents out.old) (W.contents out.new)) }
 {
+    // Called for their contracts; the laws do nothing at run time.
     dom_select::laws::one_selection();
     dom_sanitize::laws::one_clean();
     let mut selection = root_alone(alloc)?;
@@ -174,7 +180,7 @@ fn do_commands<W: Write>(
     Ok(())
 }
 
-/// The document that the bytes spell.
+/// Parses the markup. It fails with `BadMarkup`, `TooManyNodes` or `Memory`.
 pub(crate) fn read_markup(alloc: Global, markup: &[u8]) -> Result<Document, RunFault>
     ensures ok { IfOk result (λ document. IsMarkup markup.now document.tree) }
     ensures refused { IfErr result (MarkupRefused markup.now) }
@@ -192,26 +198,30 @@ pub(crate) fn read_markup(alloc: Global, markup: &[u8]) -> Result<Document, RunF
     }
 }
 
-/// Reads the script, then the markup, and then does the script's lines in their order.
+/// Parses the script, then the markup, and then does what the lines of the script ask for, in
+/// order. The output goes to `out`. It fails with `BadScript` or `BadMarkup` before anything is
+/// written; with `Edit` when an edit isn't allowed, after the output of the lines before it; and
+/// with `TooManyNodes`, `Memory` or `Write`.
 pub fn run<W: Write>(
     alloc: Global,
     markup: &[u8],
     script: &[u8],
     out: &mut W,
 ) -> Result<(), RunFault>
-    // All that the run writes was written.
+    // On success, everything that the script writes was written.
     ensures done { OnOk result (Ended markup.now script.now
         (W.contents out.old) (W.contents out.new) done) }
-    // After a fault a beginning of it was written, whatever gave out.
+    // After any error, what was written is a beginning of that.
     ensures begun { OnErr result (Began markup.now script.now
         (W.contents out.old) (W.contents out.new)) }
     // When each fault comes.
     ensures cause { IfErr result (RunCause markup.now script.now
         (W.contents out.old) (W.contents out.new)) }
 {
+    // Called for their contracts; the laws do nothing at run time.
     dom_markup::laws::one_reading();
     dom_select::laws::one_reading();
     let commands = read_script(alloc, script)?;
     let mut document = read_markup(alloc, markup)?;
-    do_commands(alloc, &mut document.tree, &commands, out)
+    run_commands(alloc, &mut document.tree, &commands, out)
 }

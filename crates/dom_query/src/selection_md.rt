@@ -1,4 +1,4 @@
-//! What the Markdown's crate adds to selections.
+//! Text with line breaks for selections.
 
 use dom_md::formatting::formatted_node;
 use dom_nodes::fault::OutOfMemory;
@@ -14,8 +14,9 @@ pub trait SelectionMd {
     // The nodes of the selection.
     ghost nodes: { Self → List NodeRef };
 
-    /// The formatted texts of the nodes, each with its own tags and untrimmed, joined; a document
-    /// or a fragment gives nothing.
+    /// Returns the formatted texts of the nodes, joined. Each node is formatted as an element of
+    /// its own, and white space at the ends stays. A document or a fragment gives nothing. It fails
+    /// with `OutOfMemory` when memory is refused.
     fn formatted_text(&self) -> Result<String, OutOfMemory>
         ensures { IfOk result (λ text. string_bytes text
             ≡ joined formatted_node (nodes self.now)) };

@@ -11,9 +11,9 @@ use Rattle.dom_nodes.specs.Changes.{only_names, with_attrs}
 use Rattle.dom_links.specs.Contents.{AreChanges, changed_at, with_content}
 use Rattle.dom_links.specs.Forest.{Forest, children_of, children_or, parent, run_of}
 use Rattle.dom_links.specs.Laws.{AreLines, AreTrees}
-use Rattle.dom_links.specs.Lists.{stands_in, IsDistinct}
+use Rattle.dom_links.specs.Lists.{is_member, IsDistinct}
 use Rattle.dom_links.specs.Sound.{IsForest, IsHostAncestor, children_allowed_at, contents_at, one_step, stays, then_step}
-use Rattle.dom_links.specs.Trees.{trees, walk_below}
+use Rattle.dom_links.specs.Trees.{trees, descendants_in_order}
 use Rattle.dom_sanitize.specs.Clean.{Clean, Cleaned, Lists, kept}
 use Rattle.dom_sanitize.specs.Plan.{EachStep, IsKnown, MayPut, MayPutAll, MayPutAt, all_done, clear_one, cut_one, homed, ids, planned, put_one, staying}
 use Rattle.dom_sanitize.specs.declared.plan.Step.{Step}
@@ -21,7 +21,7 @@ use Rattle.dom_links.proofs.moves.Cuts.{one-stands}
 use Rattle.dom_sanitize.proofs.NumberLists.{out_of-without, out_of_both, out_of_less, turned}
 use Rattle.dom_sanitize.proofs.PlanLemmas.{absent-planned, alike-self, not_staying, root_planned}
 use Rattle.dom_sanitize.proofs.Planned.{HomeBears, HomeIn, HomesBefore, each-in, each-more, homes_bear, homes_before, homes_planned, not_planned, planned_once, step_walked}
-use Rattle.dom_sanitize.proofs.Moving.{Movable, children-all_cut, children-all_put, content-all_cut, content-all_put, list_past, long-all_cut, no_parent, out_of-homed}
+use Rattle.dom_sanitize.proofs.MovedNodes.{Movable, children-all_cut, children-all_put, content-all_cut, content-all_put, list_past, long-all_cut, no_parent, out_of-homed}
 use Rattle.dom_sanitize.proofs.RunLists.{run-beside_cut, run-beside_put, run-of_cut, run-of_put, runs-all_cut, runs-all_put, runs-cleared}
 use Rattle.dom_sanitize.proofs.Cleaning.{IsMade, clean_made, left_children, new_children}
 
@@ -89,7 +89,7 @@ content-cleared names changes n (s ∷ ss) forest once on =
     let rest = all_done (clear_one names) ss forest in
     elim (cases_Bool ((s.id == n) && is_some s.home)) [
       | inl t ↦ (let is : s.id ≡ n = first_one (is_some s.home) s.id n t in
-          let out : stands_in n (ids ss) ≡ false = subst (λ (i : ℕ). stands_in i (ids ss) ≡ false) is once.0 in
+          let out : is_member n (ids ss) ≡ false = subst (λ (i : ℕ). is_member i (ids ss) ≡ false) is once.0 in
           one-cleared names s.home s.id n rest t ∙ ap (option_map (with_attrs (only_names names))) (content-left names changes n ss forest (not_staying n ss out)))
       | inr f ↦ one-left names s.home s.id n rest (changes rest) f ∙ content-cleared names changes n ss forest once.1 (rw f at on)
     ]
@@ -99,7 +99,7 @@ content-cleared names changes n (s ∷ ss) forest once on =
 
 -- all that is asked of a step
 record Fits (old : Forest) (all : List Step) (s : Step) : Type 0 where
-  has_step : stands_in s.id (ids all) ≡ true
+  has_step : is_member s.id (ids all) ≡ true
   home_in : HomeIn 0 (ids all) s
   bears_it : HomeBears old s
 
@@ -113,15 +113,15 @@ module _ (allow : Lists) (old : Forest) (good : IsForest old) (are : AreTrees ol
   no_parent_root : parent old 0 ≡ None
   no_parent_root = (good.alone 0 good.rooted refl).0
 
-  root_out : stands_in 0 (walk_below old 0) ≡ false
-  root_out = lines.below_above 0 0 ∙ ap (stands_in 0) (lines.top 0 no_parent_root)
+  root_out : is_member 0 (descendants_in_order old 0) ≡ false
+  root_out = lines.below_above 0 0 ∙ ap (is_member 0) (lines.top 0 no_parent_root)
 
   -- who stands below the root isn't bound to its place
-  moves_below : (n : ℕ) → stands_in n (walk_below old 0) ≡ true → stays old n ≡ false
+  moves_below : (n : ℕ) → is_member n (descendants_in_order old 0) ≡ true → stays old n ≡ false
   moves_below n s = elim (cases_Bool (stays old n)) [
     | inr f ↦ f
     | inl t ↦ (let none = (good.alone n (are.walk_inside 0 n s) t).0 in
-        absurd (true≢false (sym s ∙ lines.below_above 0 n ∙ ap (stands_in 0) (lines.top n none))))
+        absurd (true≢false (sym s ∙ lines.below_above 0 n ∙ ap (is_member 0) (lines.top n none))))
   ]
 
   bears_known : (p : ℕ) → children_allowed_at old p ≡ true → p < length old.content
@@ -130,10 +130,10 @@ module _ (allow : Lists) (old : Forest) (good : IsForest old) (are : AreTrees ol
     | inr past ↦ absurd (true≢false (sym b ∙ ap (λ o. option_map_or children_allowed o false) (slice_get_past old.content p past)))
   ]
 
-  inside : (m : ℕ) → stands_in m (children_of old 0) ≡ true → m < length old.content
+  inside : (m : ℕ) → is_member m (children_of old 0) ≡ true → m < length old.content
   inside m s = (good.once.in_children 0 m s).0
 
-  walked : (n : ℕ) → stands_in n (ids all) ≡ true → stands_in n (walk_below old 0) ≡ true
+  walked : (n : ℕ) → is_member n (ids all) ≡ true → is_member n (descendants_in_order old 0) ≡ true
   walked n s = step_walked allow old (trees old (children_of old 0)) 0 n s
 
   once : IsDistinct (ids all)
@@ -146,25 +146,25 @@ module _ (allow : Lists) (old : Forest) (good : IsForest old) (are : AreTrees ol
   bearing = homes_bear allow old (trees old (children_of old 0)) (children_of old 0) 0 good are inside refl (λ n s. good.parents_allow 0 n (good.once.in_children 0 n s).1)
 
   pub all_known : EachStep (IsKnown old) all
-  all_known = each-more (λ s. stands_in s.id (ids all) ≡ true) (IsKnown old) all (λ s h. are.walk_inside 0 s.id (walked s.id h)) (each-in all)
+  all_known = each-more (λ s. is_member s.id (ids all) ≡ true) (IsKnown old) all (λ s h. are.walk_inside 0 s.id (walked s.id h)) (each-in all)
 
-  fit : (ss : List Step) → EachStep (λ s. stands_in s.id (ids all) ≡ true) ss → EachStep (HomeIn 0 (ids all)) ss → EachStep (HomeBears old) ss → EachStep (Fits old all) ss
+  fit : (ss : List Step) → EachStep (λ s. is_member s.id (ids all) ≡ true) ss → EachStep (HomeIn 0 (ids all)) ss → EachStep (HomeBears old) ss → EachStep (Fits old all) ss
   fit [] one two three = tt
   fit (s ∷ ss) one two three = (record { has_step = one.0; home_in = two.0; bears_it = three.0 }, fit ss one.1 two.1 three.1)
 
   movable : (s : Step) → Fits old all s → Movable start s
   movable s h = record {
-    free = λ n. ap (stands_in s.id) (children-all_cut all old n) ∙ out_of-without (ids all) (children_of old n) s.id h.has_step;
+    free = λ n. ap (is_member s.id) (children-all_cut all old n) ∙ out_of-without (ids all) (children_of old n) s.id h.has_step;
     home_inside = λ p e. omega (arith, bears_known p (h.bears_it p e), good.once.children_each, long-all_cut all old);
   }
 
-  -- the root, or who has a step, is no child once all were cut out
-  no_child : (p n : ℕ) → ((0 == p) || stands_in p (ids all)) ≡ true → stands_in p (children_of start n) ≡ false
-  no_child p n s = ap (stands_in p) (children-all_cut all old n) ∙ (elim (cases_Bool (stands_in p (ids all))) [
+  -- the root, or who has a step, is no child once all were detached
+  no_child : (p n : ℕ) → ((0 == p) || is_member p (ids all)) ≡ true → is_member p (children_of start n) ≡ false
+  no_child p n s = ap (is_member p) (children-all_cut all old n) ∙ (elim (cases_Bool (is_member p (ids all))) [
     | inl t ↦ out_of-without (ids all) (children_of old n) p t
-    | inr f ↦ out_of_less (ids all) (children_of old n) p (elim (cases_Bool (stands_in p (children_of old n))) [
+    | inr f ↦ out_of_less (ids all) (children_of old n) p (elim (cases_Bool (is_member p (children_of old n))) [
       | inr g ↦ g
-      | inl t ↦ (let is : 0 ≡ p = eqb-true 0 p (is_left (0 == p) (stands_in p (ids all)) f s) in
+      | inl t ↦ (let is : 0 ≡ p = eqb-true 0 p (is_left (0 == p) (is_member p (ids all)) f s) in
           let up : parent old 0 ≡ Some n = ap (parent old) is ∙ (good.once.in_children n p t).1 in
           absurd (let bad = sym no_parent_root ∙ up in cc))
     ])
@@ -174,12 +174,12 @@ module _ (allow : Lists) (old : Forest) (good : IsForest old) (are : AreTrees ol
       is_left true b f h = refl
       is_left false b f h = absurd (true≢false (sym h ∙ f))
 
-  no_contents : (p k : ℕ) → ((0 == p) || stands_in p (ids all)) ≡ true → contents_at old k ≡ Some p → ⊥
+  no_contents : (p k : ℕ) → ((0 == p) || is_member p (ids all)) ≡ true → contents_at old k ≡ Some p → ⊥
   no_contents p k s e =
       let facts = good.contents_known k p e in
-      elim (cases_Bool (stands_in p (ids all))) [
+      elim (cases_Bool (is_member p (ids all))) [
         | inl t ↦ true≢false (sym (or_right (p == 0) _ (tops (slice_get old.content p) facts.1)) ∙ moves_below p (walked p t))
-        | inr f ↦ facts.0 (sym (eqb-true 0 p (left_one (0 == p) (stands_in p (ids all)) f s)))
+        | inr f ↦ facts.0 (sym (eqb-true 0 p (left_one (0 == p) (is_member p (ids all)) f s)))
       ]
     where
       left_one : (a b : Bool) → b ≡ false → (a || b) ≡ true → a ≡ true
@@ -194,8 +194,8 @@ module _ (allow : Lists) (old : Forest) (good : IsForest old) (are : AreTrees ol
       let lists : (n : ℕ) → children_of forest n ≡ homed n ss ++ children_of start n = λ n. children-all_put ss start n one.1 (each-more (Fits old all) (Movable start) ss movable each.1) in (
         may_put forest s.home s.id (λ p e.
             let out = before.0 p e in
-            let two = or_parts (s.id == p) (stands_in p (ids ss)) out in
-            let lone : parent forest p ≡ None = no_parent forest p (λ n. ap (stands_in p) (lists n) ∙ out_of_both (homed n ss) (children_of start n) p (out_of-homed n p ss two.1) (no_child p n (each.0.home_in p e))) in
+            let two = or_parts (s.id == p) (is_member p (ids ss)) out in
+            let lone : parent forest p ≡ None = no_parent forest p (λ n. ap (is_member p) (lists n) ∙ out_of_both (homed n ss) (children_of start n) p (out_of-homed n p ss two.1) (no_child p n (each.0.home_in p e))) in
             record {
               known = subst (λ (c : List NodeData). s.id < length c) (sym same) (are.walk_inside 0 s.id (walked s.id each.0.has_step));
               home_known = subst (λ (c : List NodeData). p < length c) (sym same) (bears_known p (each.0.bears_it p e));
@@ -230,21 +230,21 @@ module _ (allow : Lists) (old : Forest) (good : IsForest old) (are : AreTrees ol
   }
 
   -- a child of a node that isn't below the root, nor the root, isn't below it either
-  child_elsewhere : (n m : ℕ) → n ≢ 0 → stands_in n (walk_below old 0) ≡ false → stands_in m (children_of old n) ≡ true → stands_in m (walk_below old 0) ≡ false
+  child_elsewhere : (n m : ℕ) → n ≢ 0 → is_member n (descendants_in_order old 0) ≡ false → is_member m (children_of old n) ≡ true → is_member m (descendants_in_order old 0) ≡ false
   child_elsewhere n m ne out s =
       let up = lines.up m n (good.once.in_children n m s).1 in
-      lines.below_above 0 m ∙ ap (stands_in 0) up ∙ rw (ne_eqb n 0 ne) (sym (lines.below_above 0 n) ∙ out)
+      lines.below_above 0 m ∙ ap (is_member 0) up ∙ rw (ne_eqb n 0 ne) (sym (lines.below_above 0 n) ∙ out)
 
   -- who stands below the root has a parent, and so stands in no run
-  has_parent : (n : ℕ) → stands_in n (walk_below old 0) ≡ true → parent old n ≡ None → ⊥
-  has_parent n s none = true≢false (sym s ∙ lines.below_above 0 n ∙ ap (stands_in 0) (lines.top n none))
+  has_parent : (n : ℕ) → is_member n (descendants_in_order old 0) ≡ true → parent old n ≡ None → ⊥
+  has_parent n s none = true≢false (sym s ∙ lines.below_above 0 n ∙ ap (is_member 0) (lines.top n none))
 
-  no_run : (o : Option ℕ) (n : ℕ) → parent old n ≡ o → stands_in n (walk_below old 0) ≡ true → run_of old n ≡ []
+  no_run : (o : Option ℕ) (n : ℕ) → parent old n ≡ o → is_member n (descendants_in_order old 0) ≡ true → run_of old n ≡ []
   no_run None n e s = absurd (has_parent n s e)
   no_run (Some p) n e s = good.once.no_run p n e
 
-  out_of_runs : (m n : ℕ) → stands_in m (ids all) ≡ true → stands_in m (run_of old n) ≡ false
-  out_of_runs m n s = elim (cases_Bool (stands_in m (run_of old n))) [
+  out_of_runs : (m n : ℕ) → is_member m (ids all) ≡ true → is_member m (run_of old n) ≡ false
+  out_of_runs m n s = elim (cases_Bool (is_member m (run_of old n))) [
     | inr f ↦ f
     | inl t ↦ absurd (has_parent m (walked m s) (good.once.in_run n m t).1)
   ]
@@ -259,33 +259,33 @@ module _ (allow : Lists) (old : Forest) (good : IsForest old) (are : AreTrees ol
   in_start : (n : ℕ) → n < length old.runs → n < length start.runs
   in_start n h = omega (arith, h, runs-all_cut all old)
 
-  run_left : (n : ℕ) → n < length old.runs → stands_in n (ids all) ≡ false → run_of new n ≡ run_of old n
+  run_left : (n : ℕ) → n < length old.runs → is_member n (ids all) ≡ false → run_of new n ≡ run_of old n
   run_left n h out =
       let uncut : run_of start n ≡ run_of old n = run-beside_cut n all old h out (λ m t. out_of_runs m n t) in
-      new_run n ∙ run-beside_put n all start (in_start n h) (not_staying n all out) (λ m t ne. ap (stands_in m) uncut ∙ out_of_runs m n t) ∙ uncut
+      new_run n ∙ run-beside_put n all start (in_start n h) (not_staying n all out) (λ m t ne. ap (is_member m) uncut ∙ out_of_runs m n t) ∙ uncut
 
-  run_alone : (n : ℕ) → n < length old.runs → stands_in n (ids all) ≡ true → staying n all ≡ false → run_of new n ≡ n ∷ []
+  run_alone : (n : ℕ) → n < length old.runs → is_member n (ids all) ≡ true → staying n all ≡ false → run_of new n ≡ n ∷ []
   run_alone n h s off =
       let was_cut : run_of start n ≡ n ∷ [] = run-of_cut n all old h s in
-      new_run n ∙ run-beside_put n all start (in_start n h) off (λ m t ne. ap (stands_in m) was_cut ∙ one-stands n m ∙ turned m n ne) ∙ was_cut
+      new_run n ∙ run-beside_put n all start (in_start n h) off (λ m t ne. ap (is_member m) was_cut ∙ one-stands n m ∙ turned m n ne) ∙ was_cut
 
-  runs_beside : (n : ℕ) → stands_in n (walk_below old 0) ≡ false → run_of new n ≡ run_of old n
+  runs_beside : (n : ℕ) → is_member n (descendants_in_order old 0) ≡ false → run_of new n ≡ run_of old n
   runs_beside n out = elim (cases_lt n (length old.runs)) [
     | inl h ↦ run_left n h (not_planned allow old (trees old (children_of old 0)) 0 n out)
     | inr past ↦ list_past new.runs n (omega (arith, long_runs, past)) ∙ sym (list_past old.runs n past)
   ]
 
-  runs_alone : IsForest new → (n : ℕ) → stands_in n (walk_below old 0) ≡ true → parent new n ≡ None → run_of new n ≡ n ∷ []
+  runs_alone : IsForest new → (n : ℕ) → is_member n (descendants_in_order old 0) ≡ true → parent new n ≡ None → run_of new n ≡ n ∷ []
   runs_alone is_forest n s none =
       let here = are.walk_inside 0 n s in
       let h : n < length old.runs = omega (arith, here, good.once.runs_each) in
-      let standing : stands_in n (run_of new n) ≡ true = ap (λ o. stands_in n (children_or new o (run_of new n))) (sym none) ∙ is_forest.once.placed n (omega (arith, h, long_runs, is_forest.once.runs_each)) in
-      elim (cases_Bool (stands_in n (ids all))) [
+      let standing : is_member n (run_of new n) ≡ true = ap (λ o. is_member n (children_or new o (run_of new n))) (sym none) ∙ is_forest.once.placed n (omega (arith, h, long_runs, is_forest.once.runs_each)) in
+      elim (cases_Bool (is_member n (ids all))) [
         | inl t ↦ elim (cases_Bool (staying n all)) [
-          | inl on ↦ absurd (true≢false (sym standing ∙ ap (stands_in n) (new_run n ∙ run-of_put n all start (in_start n h) on)))
+          | inl on ↦ absurd (true≢false (sym standing ∙ ap (is_member n) (new_run n ∙ run-of_put n all start (in_start n h) on)))
           | inr off ↦ run_alone n h t off
         ]
-        | inr f ↦ absurd (true≢false (sym standing ∙ ap (stands_in n) (run_left n h f ∙ no_run (parent old n) n refl s)))
+        | inr f ↦ absurd (true≢false (sym standing ∙ ap (is_member n) (run_left n h f ∙ no_run (parent old n) n refl s)))
       ]
 
   pub cleaned : ((forest : Forest) → AreChanges forest) → IsForest new → Cleaned allow old new
@@ -309,24 +309,24 @@ module _ (allow : Lists) (old : Forest) (good : IsForest old) (are : AreTrees ol
   pub may_cut : (steps : List Step) → steps ≡ all → EachStep (IsKnown old) steps
   may_cut steps is = subst (EachStep (IsKnown old)) (sym is) all_known
 
-  are_cut : (cut_steps : List Step) (cut : Forest) → cut_steps ≡ all → cut ≡ all_done cut_one cut_steps old → cut ≡ start
-  are_cut cut_steps cut cut_is cut_made = cut_made ∙ ap (λ ss. all_done cut_one ss old) cut_is
+  are_cut : (cut_steps : List Step) (detach : Forest) → cut_steps ≡ all → detach ≡ all_done cut_one cut_steps old → detach ≡ start
+  are_cut cut_steps detach cut_is cut_made = cut_made ∙ ap (λ ss. all_done cut_one ss old) cut_is
 
-  are_put : (cut_steps put_steps : List Step) (cut back : Forest) → cut_steps ≡ all → put_steps ≡ all → cut ≡ all_done cut_one cut_steps old → back ≡ all_done put_one put_steps cut → back ≡ all_done put_one all start
-  are_put cut_steps put_steps cut back cut_is put_is cut_made put_made = put_made ∙ ap (λ ss. all_done put_one ss cut) put_is ∙ ap (all_done put_one all) (are_cut cut_steps cut cut_is cut_made)
+  are_put : (cut_steps put_steps : List Step) (detach back : Forest) → cut_steps ≡ all → put_steps ≡ all → detach ≡ all_done cut_one cut_steps old → back ≡ all_done put_one put_steps detach → back ≡ all_done put_one all start
+  are_put cut_steps put_steps detach back cut_is put_is cut_made put_made = put_made ∙ ap (λ ss. all_done put_one ss detach) put_is ∙ ap (all_done put_one all) (are_cut cut_steps detach cut_is cut_made)
 
-  pub may_put_back : (cut_steps put_steps : List Step) (cut : Forest) → cut_steps ≡ all → put_steps ≡ all → cut ≡ all_done cut_one cut_steps old → MayPutAll cut put_steps
-  may_put_back cut_steps put_steps cut cut_is put_is cut_made =
-      subst (λ ss. MayPutAll cut ss) (sym put_is) (subst (λ f. MayPutAll f all) (sym (are_cut cut_steps cut cut_is cut_made)) all_may)
+  pub may_put_back : (cut_steps put_steps : List Step) (detach : Forest) → cut_steps ≡ all → put_steps ≡ all → detach ≡ all_done cut_one cut_steps old → MayPutAll detach put_steps
+  may_put_back cut_steps put_steps detach cut_is put_is cut_made =
+      subst (λ ss. MayPutAll detach ss) (sym put_is) (subst (λ f. MayPutAll f all) (sym (are_cut cut_steps detach cut_is cut_made)) all_may)
 
-  pub may_clear : (cut_steps put_steps clear_steps : List Step) (cut back : Forest) → cut_steps ≡ all → put_steps ≡ all → clear_steps ≡ all → cut ≡ all_done cut_one cut_steps old → back ≡ all_done put_one put_steps cut → EachStep (IsKnown back) clear_steps
-  may_clear cut_steps put_steps clear_steps cut back cut_is put_is clear_is cut_made put_made =
+  pub may_clear : (cut_steps put_steps clear_steps : List Step) (detach back : Forest) → cut_steps ≡ all → put_steps ≡ all → clear_steps ≡ all → detach ≡ all_done cut_one cut_steps old → back ≡ all_done put_one put_steps detach → EachStep (IsKnown back) clear_steps
+  may_clear cut_steps put_steps clear_steps detach back cut_is put_is clear_is cut_made put_made =
       subst (λ ss. EachStep (IsKnown back) ss) (sym clear_is)
-      (subst (λ f. EachStep (IsKnown f) all) (sym (are_put cut_steps put_steps cut back cut_is put_is cut_made put_made)) put_known)
+      (subst (λ f. EachStep (IsKnown f) all) (sym (are_put cut_steps put_steps detach back cut_is put_is cut_made put_made)) put_known)
 
-  pub is_cleaned : ((forest : Forest) → AreChanges forest) → (cut_steps put_steps clear_steps : List Step) (cut back cleared : Forest) → cut_steps ≡ all → put_steps ≡ all → clear_steps ≡ all → cut ≡ all_done cut_one cut_steps old → back ≡ all_done put_one put_steps cut →
+  pub is_cleaned : ((forest : Forest) → AreChanges forest) → (cut_steps put_steps clear_steps : List Step) (detach back cleared : Forest) → cut_steps ≡ all → put_steps ≡ all → clear_steps ≡ all → detach ≡ all_done cut_one cut_steps old → back ≡ all_done put_one put_steps detach →
       cleared ≡ all_done (clear_one allow.attrs) clear_steps back → IsForest cleared → Cleaned allow old cleared
-  is_cleaned changes cut_steps put_steps clear_steps cut back last cut_is put_is clear_is cut_made put_made clear_made is_forest =
+  is_cleaned changes cut_steps put_steps clear_steps detach back last cut_is put_is clear_is cut_made put_made clear_made is_forest =
       let is : last ≡ new = clear_made ∙ ap (λ ss. all_done (clear_one allow.attrs) ss back) clear_is
-      ∙ ap (all_done (clear_one allow.attrs) all) (are_put cut_steps put_steps cut back cut_is put_is cut_made put_made) in
+      ∙ ap (all_done (clear_one allow.attrs) all) (are_put cut_steps put_steps detach back cut_is put_is cut_made put_made) in
       subst (Cleaned allow old) (sym is) (cleaned changes (subst IsForest is is_forest))

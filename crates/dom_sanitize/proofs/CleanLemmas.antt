@@ -9,14 +9,14 @@ use Rattle.dom_nodes.specs.declared.node_data.NodeData.TheVariants.{Document, Fr
 use Rattle.dom_nodes.specs.Changes.{is_named_in}
 use Rattle.dom_links.specs.Forest.{Forest, children_of}
 use Rattle.dom_links.specs.Laws.{AreTrees}
-use Rattle.dom_links.specs.Lists.{stands_in}
+use Rattle.dom_links.specs.Lists.{is_member}
 use Rattle.dom_links.specs.Sound.{IsForest}
-use Rattle.dom_links.specs.Trees.{trees, walk, walk_below}
+use Rattle.dom_links.specs.Trees.{trees, walk, descendants_in_order}
 use Rattle.dom_sanitize.specs.Clean.{Clean, nothing, stays, is_unwrapped, vanishes, Cleaned, IsLeft, Lists, fate_at, fate_of, kept}
 use Rattle.dom_sanitize.specs.Laws.{AreAllowed, IsAllowed, NothingAppears}
 use Rattle.dom_sanitize.specs.declared.plan.Fate.{Fate}
 use Rattle.dom_sanitize.specs.declared.plan.Fate.TheVariants.{Stay, Unwrap, Vanish}
-use Rattle.dom_links.proofs.forest.Neighbours.{stands_in-append}
+use Rattle.dom_links.proofs.forest.Neighbours.{is_member-append}
 use Rattle.dom_sanitize.proofs.NumberLists.{in_back, in_front}
 use Rattle.dom_sanitize.proofs.PlanLemmas.{AreInside, inside_rest}
 
@@ -67,10 +67,10 @@ append-numbers : (xs ys zs : List ℕ) → (xs ++ ys) ++ zs ≡ xs ++ (ys ++ zs)
 append-numbers [] ys zs = refl
 append-numbers (x ∷ xs) ys zs = ap (λ ns. x ∷ ns) (append-numbers xs ys zs)
 
-in_parts : (xs ys : List ℕ) (n : ℕ) → stands_in n (xs ++ ys) ≡ true → (stands_in n xs ≡ true) ⊎ (stands_in n ys ≡ true)
-in_parts xs ys n s = elim (cases_Bool (stands_in n xs)) [
+in_parts : (xs ys : List ℕ) (n : ℕ) → is_member n (xs ++ ys) ≡ true → (is_member n xs ≡ true) ⊎ (is_member n ys ≡ true)
+in_parts xs ys n s = elim (cases_Bool (is_member n xs)) [
   | inl t ↦ inl t
-  | inr f ↦ inr (second (stands_in n xs) (stands_in n ys) f (sym (stands_in-append xs ys n) ∙ s))
+  | inr f ↦ inr (second (is_member n xs) (is_member n ys) f (sym (is_member-append xs ys n) ∙ s))
 ]
   where
     second : (a b : Bool) → a ≡ false → (a || b) ≡ true → b ≡ true
@@ -87,45 +87,45 @@ module _ (forest : Forest) (are : AreTrees forest) where
   pub walk-none : walk (trees forest []) ≡ []
   walk-none = ap walk are.no_trees
 
-  pub walk-cons : (x : ℕ) (xs : List ℕ) → AreInside forest (x ∷ xs) → walk (trees forest (x ∷ xs)) ≡ x ∷ (walk_below forest x ++ walk (trees forest xs))
+  pub walk-cons : (x : ℕ) (xs : List ℕ) → AreInside forest (x ∷ xs) → walk (trees forest (x ∷ xs)) ≡ x ∷ (descendants_in_order forest x ++ walk (trees forest xs))
   walk-cons x xs known = ap walk (are.a_tree x xs known)
 
   pub walk-append : (xs ys : List ℕ) → AreInside forest (xs ++ ys) → walk (trees forest (xs ++ ys)) ≡ walk (trees forest xs) ++ walk (trees forest ys)
   walk-append [] ys known = ap (λ ns. ns ++ walk (trees forest ys)) (sym walk-none)
   walk-append (x ∷ xs) ys known =
-      walk-cons x (xs ++ ys) known ∙ ap (λ ns. x ∷ (walk_below forest x ++ ns)) (walk-append xs ys (inside_rest forest x (xs ++ ys) known))
-      ∙ ap (λ ns. x ∷ ns) (sym (append-numbers (walk_below forest x) (walk (trees forest xs)) (walk (trees forest ys))))
+      walk-cons x (xs ++ ys) known ∙ ap (λ ns. x ∷ (descendants_in_order forest x ++ ns)) (walk-append xs ys (inside_rest forest x (xs ++ ys) known))
+      ∙ ap (λ ns. x ∷ ns) (sym (append-numbers (descendants_in_order forest x) (walk (trees forest xs)) (walk (trees forest ys))))
       ∙ ap (λ ns. ns ++ walk (trees forest ys)) (sym (walk-cons x xs (inside_front forest (x ∷ xs) ys known)))
 
   -- a node of the walk is the first one, below it, or in the rest
-  pub walk-cases : (x n : ℕ) (xs : List ℕ) → AreInside forest (x ∷ xs) → stands_in n (walk (trees forest (x ∷ xs))) ≡ true → (x ≡ n) ⊎ ((stands_in n (walk_below forest x) ≡ true) ⊎ (stands_in n (walk (trees forest xs)) ≡ true))
+  pub walk-cases : (x n : ℕ) (xs : List ℕ) → AreInside forest (x ∷ xs) → is_member n (walk (trees forest (x ∷ xs))) ≡ true → (x ≡ n) ⊎ ((is_member n (descendants_in_order forest x) ≡ true) ⊎ (is_member n (walk (trees forest xs)) ≡ true))
   walk-cases x n xs known s =
-      let t : stands_in n (x ∷ (walk_below forest x ++ walk (trees forest xs))) ≡ true = ap (stands_in n) (sym (walk-cons x xs known)) ∙ s in
+      let t : is_member n (x ∷ (descendants_in_order forest x ++ walk (trees forest xs))) ≡ true = ap (is_member n) (sym (walk-cons x xs known)) ∙ s in
       elim (cases_Bool (x == n)) [
         | inl e ↦ inl (eqb-true x n e)
-        | inr f ↦ inr (in_parts (walk_below forest x) (walk (trees forest xs)) n (rw f at t))
+        | inr f ↦ inr (in_parts (descendants_in_order forest x) (walk (trees forest xs)) n (rw f at t))
       ]
 
-  pub walk-parts : (xs ys : List ℕ) (n : ℕ) → AreInside forest (xs ++ ys) → stands_in n (walk (trees forest (xs ++ ys))) ≡ true → (stands_in n (walk (trees forest xs)) ≡ true) ⊎ (stands_in n (walk (trees forest ys)) ≡ true)
-  walk-parts xs ys n known s = in_parts (walk (trees forest xs)) (walk (trees forest ys)) n (ap (stands_in n) (sym (walk-append xs ys known)) ∙ s)
+  pub walk-parts : (xs ys : List ℕ) (n : ℕ) → AreInside forest (xs ++ ys) → is_member n (walk (trees forest (xs ++ ys))) ≡ true → (is_member n (walk (trees forest xs)) ≡ true) ⊎ (is_member n (walk (trees forest ys)) ≡ true)
+  walk-parts xs ys n known s = in_parts (walk (trees forest xs)) (walk (trees forest ys)) n (ap (is_member n) (sym (walk-append xs ys known)) ∙ s)
 
-  pub walk-nothing : (n : ℕ) → stands_in n (walk (trees forest [])) ≡ true → ⊥
-  walk-nothing n s = true≢false (sym s ∙ ap (stands_in n) walk-none)
+  pub walk-nothing : (n : ℕ) → is_member n (walk (trees forest [])) ≡ true → ⊥
+  walk-nothing n s = true≢false (sym s ∙ ap (is_member n) walk-none)
 
-  pub walk-first : (x n : ℕ) (xs : List ℕ) → AreInside forest (x ∷ xs) → x ≡ n → stands_in n (walk (trees forest (x ∷ xs))) ≡ true
-  walk-first x n xs known e = ap (stands_in n) (walk-cons x xs known) ∙ or_left (x == n) _ (eq-eqb x n e)
+  pub walk-first : (x n : ℕ) (xs : List ℕ) → AreInside forest (x ∷ xs) → x ≡ n → is_member n (walk (trees forest (x ∷ xs))) ≡ true
+  walk-first x n xs known e = ap (is_member n) (walk-cons x xs known) ∙ or_left (x == n) _ (eq-eqb x n e)
 
-  pub walk-under : (x n : ℕ) (xs : List ℕ) → AreInside forest (x ∷ xs) → stands_in n (walk_below forest x) ≡ true → stands_in n (walk (trees forest (x ∷ xs))) ≡ true
-  walk-under x n xs known s = ap (stands_in n) (walk-cons x xs known) ∙ or_right (x == n) _ (in_front (walk_below forest x) (walk (trees forest xs)) n s)
+  pub walk-under : (x n : ℕ) (xs : List ℕ) → AreInside forest (x ∷ xs) → is_member n (descendants_in_order forest x) ≡ true → is_member n (walk (trees forest (x ∷ xs))) ≡ true
+  walk-under x n xs known s = ap (is_member n) (walk-cons x xs known) ∙ or_right (x == n) _ (in_front (descendants_in_order forest x) (walk (trees forest xs)) n s)
 
-  pub walk-later : (x n : ℕ) (xs : List ℕ) → AreInside forest (x ∷ xs) → stands_in n (walk (trees forest xs)) ≡ true → stands_in n (walk (trees forest (x ∷ xs))) ≡ true
-  walk-later x n xs known s = ap (stands_in n) (walk-cons x xs known) ∙ or_right (x == n) _ (in_back (walk_below forest x) (walk (trees forest xs)) n s)
+  pub walk-later : (x n : ℕ) (xs : List ℕ) → AreInside forest (x ∷ xs) → is_member n (walk (trees forest xs)) ≡ true → is_member n (walk (trees forest (x ∷ xs))) ≡ true
+  walk-later x n xs known s = ap (is_member n) (walk-cons x xs known) ∙ or_right (x == n) _ (in_back (descendants_in_order forest x) (walk (trees forest xs)) n s)
 
 pub children_inside : (forest : Forest) → IsForest forest → (n : ℕ) → AreInside forest (children_of forest n)
 children_inside forest good n = λ m s. (good.once.in_children n m s).0
 
 module _ (allow : Lists) (old new : Forest) (good : IsForest new) (are : AreTrees new) where
-  allowed_in : (ns ms : List ℕ) → Clean allow old new ns ms → AreInside new ms → (i : ℕ) → stands_in i (walk (trees new ms)) ≡ true → IsAllowed allow new i
+  allowed_in : (ns ms : List ℕ) → Clean allow old new ns ms → AreInside new ms → (i : ℕ) → is_member i (walk (trees new ms)) ≡ true → IsAllowed allow new i
   allowed_in _ _ nothing known i s = absurd (walk-nothing new are i s)
   allowed_in _ _ (stays n ns ms fate content inner later) known i s = elim (walk-cases new are n i ms known s) [
     | inl e ↦ subst (IsAllowed allow new) e (left_allowed allow old new n fate content)
@@ -144,7 +144,7 @@ module _ (allow : Lists) (old new : Forest) (good : IsForest new) (are : AreTree
   are_allowed cleaned = λ n s. allowed_in (children_of old 0) (children_of new 0) cleaned.below (children_inside new good 0) n s
 
 module _ (allow : Lists) (old new : Forest) (was : IsForest old) (were : AreTrees old) (good : IsForest new) (are : AreTrees new) where
-  was_in : (ns ms : List ℕ) → Clean allow old new ns ms → AreInside old ns → AreInside new ms → (i : ℕ) → stands_in i (walk (trees new ms)) ≡ true → stands_in i (walk (trees old ns)) ≡ true
+  was_in : (ns ms : List ℕ) → Clean allow old new ns ms → AreInside old ns → AreInside new ms → (i : ℕ) → is_member i (walk (trees new ms)) ≡ true → is_member i (walk (trees old ns)) ≡ true
   was_in _ _ nothing there known i s = absurd (walk-nothing new are i s)
   was_in _ _ (stays n ns ms fate content inner later) there known i s = elim (walk-cases new are n i ms known s) [
     | inl e ↦ walk-first old were n i ns there e
@@ -166,10 +166,10 @@ module _ (allow : Lists) (old new : Forest) (was : IsForest old) (were : AreTree
 module _ (allow : Lists) (new again : Forest) (good : IsForest new) (are : AreTrees new) where
   record Same (ns ms : List ℕ) : Type 0 where
     list : ms ≡ ns
-    nodes : (i : ℕ) → stands_in i (walk (trees new ns)) ≡ true → IsLeft new again i
+    nodes : (i : ℕ) → is_member i (walk (trees new ns)) ≡ true → IsLeft new again i
 
   abbrev Allowed : List ℕ → Type 0
-  Allowed ns = (i : ℕ) → stands_in i (walk (trees new ns)) ≡ true → IsAllowed allow new i
+  Allowed ns = (i : ℕ) → is_member i (walk (trees new ns)) ≡ true → IsAllowed allow new i
 
   no_other : (n : ℕ) (ns : List ℕ) → AreInside new (n ∷ ns) → Allowed (n ∷ ns) → (f : Fate) → (f ≡ Stay → ⊥) → fate_at allow new n ≡ f → ⊥
   no_other n ns known all f off fate = off (sym fate ∙ (all n (walk-first new are n n ns known refl)).stays)
@@ -195,7 +195,7 @@ module _ (allow : Lists) (new again : Forest) (good : IsForest new) (are : AreTr
       let same = same_again (children_of new 0) (children_of again 0) cleaned.below (children_inside new good 0) all in
       elim (cases_Bool (n == 0)) [
         | inl t ↦ subst (IsLeft new again) (sym (eqb-true n 0 t)) (record { content = cleaned.root; children = same.list })
-        | inr f ↦ elim (cases_Bool (stands_in n (walk_below new 0))) [
+        | inr f ↦ elim (cases_Bool (is_member n (descendants_in_order new 0))) [
           | inl s ↦ same.nodes n s
           | inr out ↦ cleaned.elsewhere n (λ e. true≢false (sym (eq-eqb n 0 e) ∙ f)) out
         ]

@@ -5,7 +5,7 @@ use Rattle.dom_links.specs.Contents.{changed_at}
 use Rattle.dom_links.specs.Forest.{Forest}
 use Rattle.dom_sanitize.specs.Plan.{EachStep, IsKnown, MayPut, MayPutAll, all_done, clear_one, cut_one, put_one}
 use Rattle.dom_sanitize.specs.declared.plan.Step.{Step}
-use Rattle.dom_sanitize.proofs.Moving.{content-all_cut}
+use Rattle.dom_sanitize.proofs.MovedNodes.{content-all_cut}
 
 -- the steps that are left come before those that were done
 pub record Doing (move : Step → Forest → Forest) (all rest : List Step) (before now : Forest) : Type 0 where

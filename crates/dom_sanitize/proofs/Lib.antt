@@ -1,7 +1,7 @@
 mod NumberLists
 mod PlanLemmas
 mod Cleaning
-mod Moving
+mod MovedNodes
 mod RunLists
 mod Planned
 mod Allowed

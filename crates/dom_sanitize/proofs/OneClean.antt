@@ -7,9 +7,9 @@ use Rattle.std.proofs.lemmas.Option.{same_Some}
 use Rattle.dom_nodes.specs.declared.node_data.NodeData.{NodeData}
 use Rattle.dom_links.specs.Forest.{Forest, children_of, owner_from, parent, run_of}
 use Rattle.dom_links.specs.Laws.{AreLines, AreTrees}
-use Rattle.dom_links.specs.Lists.{stands_in}
+use Rattle.dom_links.specs.Lists.{is_member}
 use Rattle.dom_links.specs.Sound.{IsForest}
-use Rattle.dom_links.specs.Trees.{trees, walk, walk_below}
+use Rattle.dom_links.specs.Trees.{trees, walk, descendants_in_order}
 use Rattle.dom_sanitize.specs.Clean.{Clean, nothing, stays, is_unwrapped, vanishes, Cleaned, IsLeft, Lists, fate_at, kept}
 use Rattle.dom_sanitize.specs.Laws.{StaysClean}
 use Rattle.dom_sanitize.specs.declared.plan.Fate.{Fate}
@@ -35,7 +35,7 @@ pub record Unwrapped (allow : Lists) (old new : Forest) (n : ℕ) (ns ms : List 
   pub later : Clean allow old new ns rest
 
 pub record Vanished (allow : Lists) (old new : Forest) (n : ℕ) (ns ms : List ℕ) : Type 0 where
-  pub left : (m : ℕ) → stands_in m (n ∷ walk_below old n) ≡ true → IsLeft old new m
+  pub left : (m : ℕ) → is_member m (n ∷ descendants_in_order old n) ≡ true → IsLeft old new m
   pub later : Clean allow old new ns ms
 
 abbrev pub First : Lists → (old new : Forest) → Fate → ℕ → (ns ms : List ℕ) → Type 0
@@ -88,7 +88,7 @@ both_left old a b n p q = record { content = p.content ∙ sym q.content; childr
 module _ (allow : Lists) (old a b : Forest) (was : IsForest old) (were : AreTrees old) where
   record Agree (ns ms qs : List ℕ) : Type 0 where
     list : ms ≡ qs
-    nodes : (i : ℕ) → stands_in i (walk (trees old ns)) ≡ true → SameAt a b i
+    nodes : (i : ℕ) → is_member i (walk (trees old ns)) ≡ true → SameAt a b i
 
   agree : (ns ms : List ℕ) → Clean allow old a ns ms → (qs : List ℕ) → Clean allow old b ns qs → AreInside old ns → Agree ns ms qs
   agree _ _ nothing qs d known = record { list = sym (none_of allow old b [] qs d refl); nodes = λ i s. absurd (walk-nothing old were i s) }
@@ -119,27 +119,27 @@ module _ (allow : Lists) (old a b : Forest) (was : IsForest old) (were : AreTree
   agree _ _ (vanishes n ns ms fate left later) qs d known =
       let other : Vanished allow old b n ns qs = subst (λ f. First allow old b f n ns qs) fate (first_of allow old b (n ∷ ns) qs d n ns refl) in
       let rest = agree ns ms later qs other.later (inside_rest old n ns known) in
-      let here : (i : ℕ) → stands_in i (n ∷ walk_below old n) ≡ true → SameAt a b i = λ i s. both_left old a b i (left i s) (other.left i s) in
+      let here : (i : ℕ) → is_member i (n ∷ descendants_in_order old n) ≡ true → SameAt a b i = λ i s. both_left old a b i (left i s) (other.left i s) in
       record {
         list = rest.list;
         nodes = λ i s. elim (walk-cases old were n i ns known s) [
-          | inl e ↦ subst (SameAt a b) e (here n (first n (walk_below old n)))
-          | inr r ↦ elim r [ inl below ↦ here i (behind n i (walk_below old n) below) | inr after ↦ rest.nodes i after ]
+          | inl e ↦ subst (SameAt a b) e (here n (first n (descendants_in_order old n)))
+          | inr r ↦ elim r [ inl below ↦ here i (behind n i (descendants_in_order old n) below) | inr after ↦ rest.nodes i after ]
         ];
       }
     where
-      first : (n : ℕ) (ns : List ℕ) → stands_in n (n ∷ ns) ≡ true
-      first n ns = or_left (n == n) (stands_in n ns) (eq-eqb n n refl)
+      first : (n : ℕ) (ns : List ℕ) → is_member n (n ∷ ns) ≡ true
+      first n ns = or_left (n == n) (is_member n ns) (eq-eqb n n refl)
 
-      behind : (n i : ℕ) (ns : List ℕ) → stands_in i ns ≡ true → stands_in i (n ∷ ns) ≡ true
-      behind n i ns s = or_right (n == i) (stands_in i ns) s
+      behind : (n i : ℕ) (ns : List ℕ) → is_member i ns ≡ true → is_member i (n ∷ ns) ≡ true
+      behind n i ns s = or_right (n == i) (is_member i ns) s
 
   same_at : Cleaned allow old a → Cleaned allow old b → (n : ℕ) → SameAt a b n
   same_at one two n =
       let below = agree (children_of old 0) (children_of a 0) one.below (children_of b 0) two.below (children_inside old was 0) in
       elim (cases_Bool (n == 0)) [
         | inl t ↦ subst (SameAt a b) (sym (eqb-true n 0 t)) (record { content = one.root ∙ sym two.root; children = below.list })
-        | inr f ↦ elim (cases_Bool (stands_in n (walk_below old 0))) [
+        | inr f ↦ elim (cases_Bool (is_member n (descendants_in_order old 0))) [
           | inl s ↦ below.nodes n s
           | inr out ↦ (let off : n ≡ 0 → ⊥ = λ e. true≢false (sym (eq-eqb n 0 e) ∙ f) in both_left old a b n (one.elsewhere n off out) (two.elsewhere n off out))
         ]
@@ -170,13 +170,13 @@ one_clean allow old a b was were good fine one two =
     let long : length a.content ≡ length b.content = ap length contents in
     let rows : a.children ≡ b.children = same_rows a.children b.children (good.once.children_each ∙ long ∙ sym fine.once.children_each) (λ n. (same n).children) in
     let parents : (n : ℕ) → parent a n ≡ parent b n = λ n. ap (λ k. owner_from 0 k n) rows in
-    let runs : a.runs ≡ b.runs = same_rows a.runs b.runs (good.once.runs_each ∙ long ∙ sym fine.once.runs_each) (λ n. elim (cases_Bool (stands_in n (walk_below old 0))) [
+    let runs : a.runs ≡ b.runs = same_rows a.runs b.runs (good.once.runs_each ∙ long ∙ sym fine.once.runs_each) (λ n. elim (cases_Bool (is_member n (descendants_in_order old 0))) [
       | inr out ↦ one.beside n out ∙ sym (two.beside n out)
       | inl s ↦ run_same n (parent a n) refl (parents n) s
     ]) in
     same_forest a b contents rows runs
   where
-    run_same : (n : ℕ) (o : Option ℕ) → parent a n ≡ o → parent a n ≡ parent b n → stands_in n (walk_below old 0) ≡ true → run_of a n ≡ run_of b n
+    run_same : (n : ℕ) (o : Option ℕ) → parent a n ≡ o → parent a n ≡ parent b n → is_member n (descendants_in_order old 0) ≡ true → run_of a n ≡ run_of b n
     run_same n None e same s = one.alone n s e ∙ sym (two.alone n s (sym same ∙ e))
     run_same n (Some p) e same s = good.once.no_run p n e ∙ sym (fine.once.no_run p n (sym same ∙ e))
 
@@ -188,12 +188,12 @@ stays_clean allow old new good are lines cleaned = λ again fine second.
     let long : length again.content ≡ length new.content = ap length contents in
     let rows : again.children ≡ new.children = same_rows again.children new.children (fine.once.children_each ∙ long ∙ sym good.once.children_each) (λ n. (left n).children) in
     let parents : (n : ℕ) → parent again n ≡ parent new n = λ n. ap (λ k. owner_from 0 k n) rows in
-    let runs : again.runs ≡ new.runs = same_rows again.runs new.runs (fine.once.runs_each ∙ long ∙ sym good.once.runs_each) (λ n. elim (cases_Bool (stands_in n (walk_below new 0))) [
+    let runs : again.runs ≡ new.runs = same_rows again.runs new.runs (fine.once.runs_each ∙ long ∙ sym good.once.runs_each) (λ n. elim (cases_Bool (is_member n (descendants_in_order new 0))) [
       | inr out ↦ second.beside n out
       | inl s ↦ run_same again fine n (parent new n) refl (parents n) s
     ]) in
     same_forest again new contents rows runs
   where
-    run_same : (again : Forest) → IsForest again → (n : ℕ) (o : Option ℕ) → parent new n ≡ o → parent again n ≡ parent new n → stands_in n (walk_below new 0) ≡ true → run_of again n ≡ run_of new n
-    run_same again fine n None e same s = absurd (true≢false (sym s ∙ lines.below_above 0 n ∙ ap (stands_in 0) (lines.top n e)))
+    run_same : (again : Forest) → IsForest again → (n : ℕ) (o : Option ℕ) → parent new n ≡ o → parent again n ≡ parent new n → is_member n (descendants_in_order new 0) ≡ true → run_of again n ≡ run_of new n
+    run_same again fine n None e same s = absurd (true≢false (sym s ∙ lines.below_above 0 n ∙ ap (is_member 0) (lines.top n e)))
     run_same again fine n (Some p) e same s = fine.once.no_run p n (same ∙ e) ∙ sym (good.once.no_run p n e)

@@ -4,14 +4,14 @@ use Rattle.std.specs.Prelude.{◌==◌, ◌||◌, ◌&&◌, ◌⊎◌, is_some}
 use Rattle.std.proofs.lemmas.Bool.{cases_Bool, or_parts, true≢false, or_right, or_left}
 use Rattle.dom_links.specs.Forest.{Forest, children_of}
 use Rattle.dom_links.specs.Laws.{AreTrees}
-use Rattle.dom_links.specs.Lists.{stands_in}
+use Rattle.dom_links.specs.Lists.{is_member}
 use Rattle.dom_links.specs.Trees.{Trees, NoTrees, Tree, contents_list, trees, walk}
 use Rattle.dom_sanitize.specs.Clean.{Lists, fate_at}
 use Rattle.dom_sanitize.specs.Plan.{home_of, homed, ids, is_home, planned, staying, steps_under}
 use Rattle.dom_sanitize.specs.declared.plan.Fate.{Fate}
 use Rattle.dom_sanitize.specs.declared.plan.Fate.TheVariants.{Stay, Unwrap, Vanish}
 use Rattle.dom_sanitize.specs.declared.plan.Step.{Step}
-use Rattle.dom_links.proofs.forest.Neighbours.{stands_in-append}
+use Rattle.dom_links.proofs.forest.Neighbours.{is_member-append}
 use Rattle.dom_sanitize.proofs.NumberLists.{in_back, out_of_both, out_parts}
 
 pub cases_Fate : (f : Fate) → (f ≡ Stay) ⊎ ((f ≡ Unwrap) ⊎ (f ≡ Vanish))
@@ -39,7 +39,7 @@ staying-append n (s ∷ ss) ts =
 -- no step is of the node, and none puts a node below it
 pub record Absent (n : ℕ) (steps : List Step) : Type 0 where
   pub not_home : homed n steps ≡ []
-  pub not_id : stands_in n (ids steps) ≡ false
+  pub not_id : is_member n (ids steps) ≡ false
 
 pub absent-nothing : (n : ℕ) → Absent n []
 absent-nothing n = record { not_home = refl; not_id = refl }
@@ -47,7 +47,7 @@ absent-nothing n = record { not_home = refl; not_id = refl }
 pub absent-append : (n : ℕ) (ss ts : List Step) → Absent n ss → Absent n ts → Absent n (ss ++ ts)
 absent-append n ss ts one two = record {
   not_home = homed-append n ss ts ∙ rw (one.not_home, two.not_home) refl;
-  not_id = ap (stands_in n) (ids-append ss ts) ∙ out_of_both (ids ss) (ids ts) n one.not_id two.not_id;
+  not_id = ap (is_member n) (ids-append ss ts) ∙ out_of_both (ids ss) (ids ts) n one.not_id two.not_id;
 }
 
 pub absent-under : (n : ℕ) (f : Fate) (ss ts : List Step) → Absent n ss → Absent n ts → Absent n (steps_under f ss ts)
@@ -67,10 +67,10 @@ absent-cons n s ss one two rest = record {
 }
 
 -- a node that isn't in the walk, and isn't the home
-pub absent-planned : (allow : Lists) (forest : Forest) (t : Trees) (h n : ℕ) → (h == n) ≡ false → stands_in n (walk t) ≡ false → Absent n (planned allow forest h t)
+pub absent-planned : (allow : Lists) (forest : Forest) (t : Trees) (h n : ℕ) → (h == n) ≡ false → is_member n (walk t) ≡ false → Absent n (planned allow forest h t)
 absent-planned allow forest NoTrees h n off out = absent-nothing n
 absent-planned allow forest (Tree r c k l) h n off out =
-    let two = or_parts (r == n) (stands_in n (walk k ++ walk l)) out in
+    let two = or_parts (r == n) (is_member n (walk k ++ walk l)) out in
     let parts = out_parts (walk k) (walk l) n two.1 in
     let f = fate_at allow forest r in
     absent-cons n _ _ (other_home f h n off) two.0
@@ -78,14 +78,14 @@ absent-planned allow forest (Tree r c k l) h n off out =
     (absent-under n f _ _ (absent-planned allow forest k r n two.0 parts.0) (absent-planned allow forest k h n off parts.0))
     (absent-planned allow forest l h n off parts.1))
 
-pub not_staying : (n : ℕ) (ss : List Step) → stands_in n (ids ss) ≡ false → staying n ss ≡ false
+pub not_staying : (n : ℕ) (ss : List Step) → is_member n (ids ss) ≡ false → staying n ss ≡ false
 not_staying n [] out = refl
-not_staying n (s ∷ ss) out = let two = or_parts (s.id == n) (stands_in n (ids ss)) out in rw two.0 (not_staying n ss two.1)
+not_staying n (s ∷ ss) out = let two = or_parts (s.id == n) (is_member n (ids ss)) out in rw two.0 (not_staying n ss two.1)
 
 -- the steps say the same of the node
 pub record Alike (n : ℕ) (ss ts : List Step) : Type 0 where
   pub homes : homed n ss ≡ homed n ts
-  pub stands : stands_in n (ids ss) ≡ stands_in n (ids ts)
+  pub stands : is_member n (ids ss) ≡ is_member n (ids ts)
   pub stays : staying n ss ≡ staying n ts
 
 pub alike-self : (n : ℕ) (ss : List Step) → Alike n ss ss
@@ -106,7 +106,7 @@ append-nothing (n ∷ ns) = ap (λ ms. n ∷ ms) (append-nothing ns)
 pub alike-front : (n : ℕ) (s : Step) (ss ts : List Step) → is_home s.home n ≡ false → (s.id == n) ≡ false → Absent n ts → Alike n (s ∷ ss ++ ts) ss
 alike-front n s ss ts one two none = record {
   homes = rw one (homed-append n ss ts ∙ rw none.not_home (append-nothing (homed n ss)));
-  stands = rw two (ap (stands_in n) (ids-append ss ts) ∙ stands_in-append (ids ss) (ids ts) n ∙ rw none.not_id (or-false (stands_in n (ids ss))));
+  stands = rw two (ap (is_member n) (ids-append ss ts) ∙ is_member-append (ids ss) (ids ts) n ∙ rw none.not_id (or-false (is_member n (ids ss))));
   stays = rw two (staying-append n ss ts ∙ rw (not_staying n ts none.not_id) (or-false (staying n ss)));
 }
 
@@ -114,13 +114,13 @@ alike-front n s ss ts one two none = record {
 pub alike-back : (n : ℕ) (s : Step) (ss ts : List Step) → is_home s.home n ≡ false → (s.id == n) ≡ false → Absent n ss → Alike n (s ∷ ss ++ ts) ts
 alike-back n s ss ts one two none = record {
   homes = rw one (homed-append n ss ts ∙ rw none.not_home refl);
-  stands = rw two (ap (stands_in n) (ids-append ss ts) ∙ stands_in-append (ids ss) (ids ts) n ∙ rw none.not_id refl);
+  stands = rw two (ap (is_member n) (ids-append ss ts) ∙ is_member-append (ids ss) (ids ts) n ∙ rw none.not_id refl);
   stays = rw two (staying-append n ss ts ∙ rw (not_staying n ss none.not_id) refl);
 }
 
 -- all numbers of the list are the forest's
 abbrev pub AreInside : Forest → List ℕ → Type 0
-AreInside forest ns = (m : ℕ) → stands_in m ns ≡ true → m < length forest.content
+AreInside forest ns = (m : ℕ) → is_member m ns ≡ true → m < length forest.content
 
 -- the trees of a list that begins with n
 pub record Parts (forest : Forest) (n : ℕ) (ns : List ℕ) (r : ℕ) (k l : Trees) : Type 0 where
@@ -134,7 +134,7 @@ parts forest n ns r c k l are known e =
     record { root = cc; children = cc; later = cc }
 
 pub inside_rest : (forest : Forest) (n : ℕ) (ns : List ℕ) → AreInside forest (n ∷ ns) → AreInside forest ns
-inside_rest forest n ns known = λ m s. known m (or_right (n == m) (stands_in m ns) s)
+inside_rest forest n ns known = λ m s. known m (or_right (n == m) (is_member m ns) s)
 
 pub no_parts : (forest : Forest) (n : ℕ) (ns : List ℕ) → AreTrees forest → AreInside forest (n ∷ ns) → NoTrees ≡ trees forest (n ∷ ns) → ⊥
 no_parts forest n ns are known e = let no = e ∙ are.a_tree n ns known in cc
@@ -143,7 +143,7 @@ pub no_trees : (forest : Forest) (r : ℕ) (c k l : Trees) → AreTrees forest �
 no_trees forest r c k l are e = let no = e ∙ are.no_trees in cc
 
 -- the roots are in the walk
-pub root_walked : (forest : Forest) (t : Trees) (ns : List ℕ) (n : ℕ) → AreTrees forest → AreInside forest ns → t ≡ trees forest ns → stands_in n ns ≡ true → stands_in n (walk t) ≡ true
+pub root_walked : (forest : Forest) (t : Trees) (ns : List ℕ) (n : ℕ) → AreTrees forest → AreInside forest ns → t ≡ trees forest ns → is_member n ns ≡ true → is_member n (walk t) ≡ true
 root_walked forest t [] n are known e s = absurd (true≢false (sym s))
 root_walked forest NoTrees (m ∷ ns) n are known e s = absurd (no_parts forest m ns are known e)
 root_walked forest (Tree r c k l) (m ∷ ns) n are known e s =
@@ -154,7 +154,7 @@ root_walked forest (Tree r c k l) (m ∷ ns) n are known e s =
     ]
 
 -- each root has a step
-pub root_planned : (allow : Lists) (forest : Forest) (t : Trees) (ns : List ℕ) (h n : ℕ) → AreTrees forest → AreInside forest ns → t ≡ trees forest ns → stands_in n ns ≡ true → stands_in n (ids (planned allow forest h t)) ≡ true
+pub root_planned : (allow : Lists) (forest : Forest) (t : Trees) (ns : List ℕ) (h n : ℕ) → AreTrees forest → AreInside forest ns → t ≡ trees forest ns → is_member n ns ≡ true → is_member n (ids (planned allow forest h t)) ≡ true
 root_planned allow forest t [] h n are known e s = absurd (true≢false (sym s))
 root_planned allow forest NoTrees (m ∷ ns) h n are known e s = absurd (no_parts forest m ns are known e)
 root_planned allow forest (Tree r c k l) (m ∷ ns) h n are known e s =
@@ -162,6 +162,6 @@ root_planned allow forest (Tree r c k l) (m ∷ ns) h n are known e s =
     let under = steps_under (fate_at allow forest r) (planned allow forest r k) (planned allow forest h k) in
     elim (cases_Bool (m == n)) [
       | inl t ↦ or_left (r == n) _ (ap (λ i. i == n) p.root ∙ t)
-      | inr f ↦ or_right (r == n) _ (ap (stands_in n) (ids-append under (planned allow forest h l)) ∙ in_back (ids under) _ n
+      | inr f ↦ or_right (r == n) _ (ap (is_member n) (ids-append under (planned allow forest h l)) ∙ in_back (ids under) _ n
           (root_planned allow forest l ns h n are (inside_rest forest m ns known) p.later (rw f at s)))
     ]

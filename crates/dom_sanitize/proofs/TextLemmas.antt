@@ -11,7 +11,7 @@ use Rattle.dom_links.specs.Forest.{Forest, children_of}
 use Rattle.dom_links.specs.Laws.{AreTrees}
 use Rattle.dom_links.specs.Sound.{IsForest}
 use Rattle.dom_links.specs.Texts.{text_at, text_in}
-use Rattle.dom_links.specs.Trees.{trees, walk, walk_below}
+use Rattle.dom_links.specs.Trees.{trees, walk, descendants_in_order}
 use Rattle.dom_sanitize.specs.Clean.{Clean, nothing, stays, is_unwrapped, vanishes, Cleaned, Lists, fate_at, fate_of, is_template, kept}
 use Rattle.dom_sanitize.specs.Laws.{HoldsTextsAlone, KeepsText, if_left, left_text}
 use Rattle.dom_sanitize.specs.declared.plan.Fate.TheVariants.{Stay, Unwrap, Vanish}
@@ -52,9 +52,9 @@ module _ (allow : Lists) (old new : Forest) (was : IsForest old) (were : AreTree
       let under = kept_in (children_of old n) (children_of new n) inner (children_inside old was n) (children_inside new good n) in
       let rest = kept_in ns ms later (inside_rest old n ns there) (inside_rest new n ms known) in
       ap (flat_map (text_at new)) (walk-cons new are n ms known)
-      ∙ ap (λ t. text_at new n ++ t) (flat_map-append (text_at new) (walk_below new n) (walk (trees new ms)))
-      ∙ sym (append_assoc (text_at new n) (flat_map (text_at new) (walk_below new n)) (flat_map (text_at new) (walk (trees new ms))))
-      ∙ ap (λ t. (t ++ flat_map (text_at new) (walk_below new n)) ++ flat_map (text_at new) (walk (trees new ms))) here
+      ∙ ap (λ t. text_at new n ++ t) (flat_map-append (text_at new) (descendants_in_order new n) (walk (trees new ms)))
+      ∙ sym (append_assoc (text_at new n) (flat_map (text_at new) (descendants_in_order new n)) (flat_map (text_at new) (walk (trees new ms))))
+      ∙ ap (λ t. (t ++ flat_map (text_at new) (descendants_in_order new n)) ++ flat_map (text_at new) (walk (trees new ms))) here
       ∙ ap (λ t. (text_at old n ++ t) ++ flat_map (text_at new) (walk (trees new ms))) under
       ∙ ap (λ t. (text_at old n ++ left_text allow old (trees old (children_of old n))) ++ t) rest
       ∙ ap (λ f. if_left f (text_at old n ++ left_text allow old (trees old (children_of old n))) ++ left_text allow old (trees old ns)) (sym fate)
@@ -78,7 +78,7 @@ module _ (allow : Lists) (old new : Forest) (was : IsForest old) (were : AreTree
   pub text_kept : Cleaned allow old new → KeepsText allow old new
   text_kept cleaned =
       let here : text_at new 0 ≡ text_at old 0 = ap (λ o. option_map_or text_in o []) cleaned.root in
-      ap (λ t. t ++ flat_map (text_at new) (walk_below new 0)) here
+      ap (λ t. t ++ flat_map (text_at new) (descendants_in_order new 0)) here
       ∙ ap (λ t. text_at old 0 ++ t) (kept_in (children_of old 0) (children_of new 0) cleaned.below (children_inside old was 0) (children_inside new good 0))
 
 -- ---- where no element is allowed

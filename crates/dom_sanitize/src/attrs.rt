@@ -1,4 +1,4 @@
-//! The attributes of the elements that stay.
+//! The removal of attributes that aren't allowed.
 
 ghost use Rattle.std.specs.Prelude.{◌≡◌};
 ghost use Rattle.dom_sanitize.specs.Clean.{listed};
@@ -20,7 +20,7 @@ pub(crate) fn clear_attrs(tree: &mut Tree, steps: &[Step], names: &[&str])
     }
 }
 
-/// Removes the attributes that aren't allowed from an element that stays.
+/// Removes the attributes that aren't allowed from the element of this step, if it stays.
 fn clear_one(tree: &mut Tree, step: Step, names: &[&str])
     requires { IsKnown tree.old step }
     ensures { tree.new ≡ clear_one (listed names.entry) step tree.old }

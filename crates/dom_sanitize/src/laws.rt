@@ -1,4 +1,6 @@
-//! What is true of every tree that was cleaned. The functions do nothing.
+//! Facts about every sanitized tree, which the crates above use in their proofs. Each function does
+//! nothing at run time: a call of it brings its `ensures` clauses into the caller's proof. The
+//! calls in the bodies are of the same kind.
 
 ghost use Rattle.std.specs.Prelude.{◌≡◌, []};
 ghost use Rattle.dom_links.specs.Forest.{Forest};
@@ -15,14 +17,16 @@ use dom_markup::laws::plain::{
     plain_reads_back,
 };
 
-/// Below the root of a cleaned tree stand texts and allowed elements, with allowed attributes.
+/// Below the root of a sanitized tree there are only texts and allowed elements, with allowed
+/// attributes.
 pub fn what_is_left_is_allowed()
     ensures { (a : Lists) (old new : Forest) → IsForest new → Cleaned a old new → AreAllowed a new }
 {
+    // Called for its contract, as the calls below are: they do nothing at run time.
     trees_of_a_forest();
 }
 
-/// Each node below the root of a cleaned tree was below it before.
+/// Each node below the root of a sanitized tree was below the root before.
 pub fn nothing_new_appears()
     ensures { (allow : Lists) (old new : Forest) → OnceCleaned allow old new
         (NothingAppears old new) }
@@ -30,7 +34,7 @@ pub fn nothing_new_appears()
     trees_of_a_forest();
 }
 
-/// To clean a cleaned tree again changes nothing.
+/// Sanitizing is idempotent.
 pub fn cleaning_twice_is_once()
     ensures { (a : Lists) (old new : Forest) → IsForest new → Cleaned a old new → StaysClean a new }
 {
@@ -38,14 +42,15 @@ pub fn cleaning_twice_is_once()
     lines_of_a_forest();
 }
 
-/// What is left of a forest by the same lists is one forest.
+/// The result of sanitizing a forest by some lists is determined: the definition allows only one.
 pub fn one_clean()
     ensures { (allow : Lists) (forest : Forest) → IsForest forest → HasOneClean allow forest }
 {
     trees_of_a_forest();
 }
 
-/// The text of a cleaned tree is what it was, but for the text of what vanished.
+/// The text of a sanitized tree is what it was, without the text of the nodes that were removed
+/// with everything below them.
 pub fn text_is_kept()
     ensures { (allow : Lists) (old new : Forest) → OnceCleaned allow old new
         (KeepsText allow old new) }
@@ -53,7 +58,7 @@ pub fn text_is_kept()
     trees_of_a_forest();
 }
 
-/// Where no element is allowed, texts alone are left.
+/// If no element is allowed, only texts are left below the root.
 pub fn cleaning_by_nothing_leaves_texts()
     ensures { (allow : Lists) (old new : Forest) → IsForest new → Cleaned allow old new
         → allow.elements ≡ [] → HoldsTextsAlone new }
@@ -61,8 +66,9 @@ pub fn cleaning_by_nothing_leaves_texts()
     trees_of_a_forest();
 }
 
-/// What is written of the clean of a plain document spells what is left of its trees, texts side by
-/// side as one, where no raw element is allowed and neither `title` nor `textarea`.
+/// If a plain document (see `IsPlain` in dom_markup) is sanitized, written and parsed again, the
+/// result is the trees that were left, with adjacent texts joined. This needs lists that allow
+/// neither a raw text element (such as `script`) nor `title` nor `textarea`.
 pub fn what_is_written_reads_back()
     ensures { (allow : Lists) (old new : Forest) → IsForest new → (plain : IsPlain old)
         → Cleaned allow old new → AllowsNoText allow → ReadsBackClean allow old new plain }

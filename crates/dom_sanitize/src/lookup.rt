@@ -1,5 +1,5 @@
-//! The names of elements of an allow-list, in sets: a list may be long, and each element is looked
-//! up.
+//! Looking up names of an allow-list. The names of elements are put into sets, since a list may be
+//! long and each element is looked up.
 
 ghost use Rattle.std.specs.Prelude.{◌≡◌, IfOk, OnOk};
 ghost use Rattle.dom_nodes.specs.Words.{is_among};
@@ -12,7 +12,7 @@ use std::alloc::Global;
 use std::collections::BTreeSet;
 use std::marker::Model;
 
-/// An allow-list, with the names of elements in sets.
+/// An allow-list, with sets of the names of elements. In a contract it is the three lists.
 #[derive(Drop)]
 pub(crate) struct Lookup<'a> {
     allow: Allow<'a>,
@@ -32,7 +32,7 @@ impl<'a> Model for Lookup<'a> {
 }
 
 impl<'a> Lookup<'a> {
-    /// The same list.
+    /// Returns the lookup of an allow-list. It fails with `OutOfMemory` when memory is refused.
     pub(crate) fn new(alloc: Global, allow: Allow<'a>) -> Result<Lookup<'a>, OutOfMemory>
         ensures { IfOk result (λ lookup. lookup ≡ lists_of allow.entry) }
     {
@@ -45,14 +45,14 @@ impl<'a> Lookup<'a> {
         })
     }
 
-    /// Whether elements of the name are allowed.
+    /// Returns whether elements with this local name are allowed.
     pub(crate) fn allows(&self, name: &str) -> bool
         ensures { result ≡ is_among name.now self.now.elements }
     {
         self.elements.contains(name)
     }
 
-    /// Whether elements of the name are dropped.
+    /// Returns whether elements with this local name are dropped.
     pub(crate) fn drops(&self, name: &str) -> bool
         ensures { result ≡ is_among name.now self.now.drop }
     {
@@ -60,7 +60,7 @@ impl<'a> Lookup<'a> {
     }
 }
 
-/// The set of these names.
+/// Returns the set of these names.
 fn set_of(alloc: Global, names: &[&str]) -> Result<BTreeSet<String>, OutOfMemory>
     ensures { IfOk result (λ set. IsSetOf set (listed names.entry)) }
 {
@@ -71,7 +71,7 @@ fn set_of(alloc: Global, names: &[&str]) -> Result<BTreeSet<String>, OutOfMemory
     Ok(set)
 }
 
-/// Puts a name into a set.
+/// Inserts a name into a set.
 fn add(alloc: Global, set: &mut BTreeSet<String>, name: &str) -> Result<(), OutOfMemory>
     ensures { OnOk result (Gains name.now set.old set.new) }
 {

@@ -1,4 +1,4 @@
-//! The moves: all nodes are cut out first, then those that stay are put back.
+//! The moves: all nodes are detached first, then those that stay are put back.
 
 ghost use Rattle.std.specs.Prelude.{◌≡◌};
 ghost use Rattle.dom_sanitize.specs.Plan.{EachStep, IsKnown, MayPut, MayPutAll};
@@ -7,7 +7,7 @@ ghost use Rattle.dom_sanitize.specs.Plan.{all_done, cut_one, put_one};
 use crate::plan::Step;
 use dom_trees::tree::Tree;
 
-/// Cuts out each node.
+/// Detaches the node of each step.
 pub(crate) fn cut_out(tree: &mut Tree, steps: &[Step])
     requires { EachStep (IsKnown tree.old) steps.now }
     ensures { tree.new ≡ all_done cut_one steps.now tree.old }
@@ -19,7 +19,7 @@ pub(crate) fn cut_out(tree: &mut Tree, steps: &[Step])
     }
 }
 
-/// Cuts out a node.
+/// Detaches the node of a step.
 fn cut_one(tree: &mut Tree, step: Step)
     requires { IsKnown tree.old step }
     ensures { tree.new ≡ cut_one step tree.old }
@@ -27,8 +27,8 @@ fn cut_one(tree: &mut Tree, step: Step)
     let _ = tree.remove_from_parent(&step.id);
 }
 
-/// Puts the nodes that stay back, the last one first: so a node gets its children before it is put
-/// below another.
+/// Puts back the nodes that stay, from the last one to the first, so that a node has its children
+/// before it is put below another node.
 pub(crate) fn put_back(tree: &mut Tree, steps: &[Step])
     requires { MayPutAll tree.old steps.now }
     ensures { tree.new ≡ all_done put_one steps.now tree.old }
@@ -40,7 +40,7 @@ pub(crate) fn put_back(tree: &mut Tree, steps: &[Step])
     }
 }
 
-/// Puts a node that stays to the front of its new siblings.
+/// Puts a node that stays before the other children of its new parent.
 fn put_one(tree: &mut Tree, step: Step)
     requires { MayPut tree.old step }
     ensures { tree.new ≡ put_one step tree.old }

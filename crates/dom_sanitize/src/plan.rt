@@ -1,4 +1,4 @@
-//! What becomes of each node, found before any node is moved.
+//! The plan: what becomes of each node. It is complete before any node is moved.
 
 ghost use Rattle.std.specs.Prelude.{◌≡◌, ◌<◌, ◌++◌, ◌∷◌, [], length};
 ghost use Rattle.std.specs.Prelude.{IfOk, MatchOption, OnErr, OnOk};
@@ -23,29 +23,29 @@ use std::marker::Model;
 /// What becomes of a node.
 #[derive(Clone, Copy)]
 pub(crate) enum Fate {
-    /// It stays, over what is left of its children.
+    /// It stays, with what is left of its children.
     Stay,
-    /// What is left of its children stands in its place.
+    /// It is removed, and what is left of its children takes its place.
     Unwrap,
-    /// It vanishes with all that is below it.
+    /// It is removed with everything below it.
     Vanish,
 }
 
-/// A node that is cut out, and the node below which it is put again, if it stays.
+/// A node that is detached. If it stays, `home` is the node that it becomes a child of.
 #[derive(Clone, Copy, Drop)]
 pub(crate) struct Step {
     pub(crate) id: NodeId,
     pub(crate) home: Option<NodeId>,
 }
 
-/// A node and its later siblings, and the node below which they are put again, if they stay.
+/// A node and its later siblings. Those that stay become children of `home`.
 #[derive(Clone, Copy, Drop)]
 struct Row {
     first: NodeId,
     home: NodeId,
 }
 
-/// The rows that are still to be looked at, the next one first.
+/// A stack of rows that are still to be planned. In a contract the top comes first.
 #[derive(Drop)]
 struct Rows {
     items: Vec<Row>,
@@ -61,6 +61,7 @@ impl Model for Rows {
 }
 
 impl Rows {
+    /// Returns an empty stack. It allocates no memory.
     fn new(alloc: Global) -> Rows
         ensures { result ≡ [] }
     {
@@ -69,7 +70,7 @@ impl Rows {
         }
     }
 
-    /// Puts a row before all others.
+    /// Pushes a row. It fails with `OutOfMemory`, and the stack is then unchanged.
     fn push(&mut self, row: Row) -> Result<(), OutOfMemory>
         ensures ok { OnOk result (self.new ≡ row ∷ self.old) }
         ensures err { OnErr result (self.new ≡ self.old) }
@@ -80,7 +81,7 @@ impl Rows {
         }
     }
 
-    /// Takes the next row off.
+    /// Pops the top row, or returns `None` when the stack is empty.
     fn pop(&mut self) -> Option<Row>
         ensures { MatchOption result (self.old ≡ []) (λ row. self.old ≡ row ∷ self.new) }
     {
@@ -88,7 +89,7 @@ impl Rows {
     }
 }
 
-/// What becomes of an element.
+/// Returns what becomes of an element.
 fn element_fate(allow: &Lookup<'_>, element: &Element) -> Fate
     ensures { result ≡ element_fate allow.now element.now }
 {
@@ -102,7 +103,7 @@ fn element_fate(allow: &Lookup<'_>, element: &Element) -> Fate
     Fate::Unwrap
 }
 
-/// What becomes of a node.
+/// Returns what becomes of a node.
 fn fate_of(allow: &Lookup<'_>, content: &NodeData) -> Fate
     ensures { result ≡ fate_of allow.now content.now }
 {
@@ -113,12 +114,14 @@ fn fate_of(allow: &Lookup<'_>, content: &NodeData) -> Fate
     }
 }
 
-/// What becomes of the nodes below the root, each before what is below it. What is below a node
-/// that vanishes isn't looked at.
+/// Returns the plan for all nodes below the root, in document order. Nodes below one that is
+/// removed with everything below it have no step. It fails with `OutOfMemory` when memory is
+/// refused.
 pub(crate) fn plan(tree: &Tree, allow: &Allow<'_>) -> Result<Vec<Step>, OutOfMemory>
     requires { IsForest tree.now }
     ensures { IfOk result (λ steps. steps.items ≡ plan_of (lists_of allow.now) tree.now) }
 {
+    // Called for their contracts; the functions have empty bodies, so the calls cost nothing.
     trees_of_a_forest();
     lines_of_a_forest();
     let root = tree.root_id();
@@ -133,14 +136,14 @@ pub(crate) fn plan(tree: &Tree, allow: &Allow<'_>) -> Result<Vec<Step>, OutOfMem
     Ok(steps)
 }
 
-/// The first child of a node.
+/// Returns the first child of a node.
 fn first_below(tree: &Tree, id: &NodeId) -> Option<NodeId>
     ensures { result ≡ first (children_of tree.now id.now) }
 {
     first_child_id(tree.nodes(), id)
 }
 
-/// Adds what becomes of the first node of a row, and the rows that are to be looked at then.
+/// Plans the first node of a row, and pushes the rows that come next.
 fn plan_node(
     tree: &Tree,
     allow: &Lookup<'_>,
@@ -154,6 +157,7 @@ fn plan_node(
     ensures { OnOk result (LooksAt allow.now tree.now row
         rows.old rows.new steps.old.items steps.new.items) }
 {
+    // Called for their contracts; the functions have empty bodies, so the calls cost nothing.
     trees_of_a_forest();
     lines_of_a_forest();
     let Some(node) = tree.tree_node(&row.first) else {
@@ -165,7 +169,7 @@ fn plan_node(
     push_step(steps, row.first, home_of(fate, row.home))
 }
 
-/// Where a node is put again that has this home, if it stays.
+/// Returns the new parent of a node if it stays.
 fn home_of(fate: Fate, home: NodeId) -> Option<NodeId>
     ensures { result ≡ home_of fate home }
 {
@@ -175,7 +179,7 @@ fn home_of(fate: Fate, home: NodeId) -> Option<NodeId>
     }
 }
 
-/// Adds the children of the first node of a row, unless it vanishes.
+/// Pushes the children of the first node of a row, unless they are removed with it.
 fn push_below(
     rows: &mut Rows,
     fate: Fate,
@@ -191,7 +195,7 @@ fn push_below(
     }
 }
 
-/// Adds a row, if there is a node in it.
+/// Pushes the row that begins at `first`, if there is one.
 fn push_row(rows: &mut Rows, first: Option<NodeId>, home: NodeId) -> Result<(), OutOfMemory>
     ensures { OnOk result (rows.new ≡ with_row first home rows.old) }
 {
@@ -201,7 +205,7 @@ fn push_row(rows: &mut Rows, first: Option<NodeId>, home: NodeId) -> Result<(), 
     Ok(())
 }
 
-/// Adds what becomes of a node.
+/// Appends a step.
 fn push_step(steps: &mut Vec<Step>, id: NodeId, home: Option<NodeId>) -> Result<(), OutOfMemory>
     ensures { OnOk result (steps.new.items
         ≡ steps.old.items ++ record { id = id; home = home } ∷ []) }

@@ -1,4 +1,4 @@
-//! What is allowed, and the call that cleans a document.
+//! The lists of allowed names, and the call that sanitizes a document.
 
 ghost use Rattle.std.specs.Prelude.{◌≡◌, IfOk, OnErr, OnOk};
 ghost use Rattle.dom_links.specs.Sound.{IsForest};
@@ -12,9 +12,9 @@ use dom_markup::document::Document;
 use dom_nodes::fault::OutOfMemory;
 use dom_trees::tree::Tree;
 
-/// Lists of local names, compared exactly: the elements and the attributes that stay, and the
-/// elements that are dropped with all that is below them. A name on both lists of elements is
-/// dropped.
+/// The lists of a sanitizer: local names of elements that stay, of attributes that stay, and of
+/// elements that are dropped with everything below them. Names are compared byte by byte and
+/// without namespaces. An element that is in both lists of elements is dropped.
 #[derive(Clone, Copy, Debug, Drop)]
 pub struct Allow<'a> {
     pub elements: &'a [&'a str],
@@ -22,12 +22,13 @@ pub struct Allow<'a> {
     pub drop: &'a [&'a str],
 }
 
-/// Cleans what is below the root of the document. Texts stay. Comments, doctypes, instructions,
-/// dropped elements and templates are cut out with all that is below them. Allowed elements stay,
-/// with their allowed attributes alone. Any other element is cut out, and what is left of its
-/// children stands in its place.
+/// Sanitizes the document below its root. Texts stay. Allowed elements stay, with their allowed
+/// attributes only. Comments, doctypes, processing instructions, dropped elements and templates are
+/// detached with everything below them. Any other element is detached, and what is left of its
+/// children takes its place. Attribute values aren't looked at.
 ///
-/// What is cut out stays a node of the tree. After a refusal nothing has changed.
+/// Nodes that are detached still exist in the tree. The call is idempotent. It fails with
+/// `OutOfMemory` when memory is refused, and then nothing has changed.
 pub fn sanitize(document: &mut Document, allow: &Allow<'_>) -> Result<(), OutOfMemory>
     ensures ok { OnOk result (Cleaned (lists_of allow.now) document.old.tree document.new.tree) }
     ensures err { OnErr result (document.new.tree ≡ document.old.tree) }
@@ -37,11 +38,14 @@ pub fn sanitize(document: &mut Document, allow: &Allow<'_>) -> Result<(), OutOfM
     sanitize_tree(&mut document.tree, allow)
 }
 
-/// The same of a tree.
+/// Sanitizes a tree below its root, as `sanitize` does for a document. It fails with `OutOfMemory`
+/// when memory is refused, and then nothing has changed.
 pub fn sanitize_tree(tree: &mut Tree, allow: &Allow<'_>) -> Result<(), OutOfMemory>
     ensures ok { OnOk result (Cleaned (lists_of allow.now) tree.old tree.new) }
     ensures err { OnErr result (tree.new ≡ tree.old) }
 {
+    // Called for their contracts: the laws have empty bodies and cost nothing; `nodes` only borrows
+    // the nodes, and its contract says that they are a sound arena.
     trees_of_a_forest();
     lines_of_a_forest();
     changes_of_data();
@@ -50,6 +54,7 @@ pub fn sanitize_tree(tree: &mut Tree, allow: &Allow<'_>) -> Result<(), OutOfMemo
     cut_out(tree, &steps);
     put_back(tree, &steps);
     clear_attrs(tree, &steps, allow.attrs);
+    // For its contract again, now of the edited tree.
     let _ = tree.nodes();
     Ok(())
 }

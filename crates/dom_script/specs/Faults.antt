@@ -1,4 +1,4 @@
--- Why a line or a text was not read.
+-- When parsing a line or a script may fail.
 use Rattle.std.specs.Prelude.{ℕ, List}
 use Rattle.dom_markup.specs.Refusals.{BeginsTooManyNodes}
 use Rattle.dom_script.specs.declared.script.ScriptFault.{ScriptFault}
@@ -6,19 +6,20 @@ use Rattle.dom_script.specs.declared.script.ScriptFault.TheVariants.{BadLine, Me
 use Rattle.dom_script.specs.EditLine.{HasLargeMarkup}
 use Rattle.dom_script.specs.Script.{HasLargeLine, IsNoScript}
 
--- a limit that was met where the markup of a line was read
+-- When parsing the markup in a line may fail: it has more nodes than there are ids, or memory is
+-- refused.
 abbrev pub MarkupLimit : List ℕ → ScriptFault → Type 0
 MarkupLimit text NoNumbers = BeginsTooManyNodes text
 MarkupLimit text NoMemory = Unit {0}
 MarkupLimit text (BadLine number) = ⊥
 
--- why a line was not read
+-- When parsing a line may fail.
 abbrev pub LineRefused : List ℕ → ScriptFault → Type 0
 LineRefused line NoNumbers = HasLargeMarkup line
 LineRefused line NoMemory = Unit {0}
 LineRefused line (BadLine number) = ⊥
 
--- why a text was not read as a script
+-- When parsing a script may fail.
 abbrev pub ScriptRefused : List ℕ → ScriptFault → Type 0
 ScriptRefused script (BadLine line) = IsNoScript script line
 ScriptRefused script NoNumbers = HasLargeLine script

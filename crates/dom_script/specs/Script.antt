@@ -16,14 +16,15 @@ use Rattle.dom_script.specs.NameLists.{IsSanitize}
 use Rattle.dom_script.specs.EditLine.{HasLargeMarkup, IsEdit}
 use Rattle.dom_script.specs.Words.{HasArgument, HasName}
 
--- the line is the word and a selector
+-- The line is the word and a selector list.
 abbrev pub HasSelector : List ℕ → List ℕ → SelectorList → Type 0
 HasSelector line word selector = (argument : List ℕ) × HasArgument line word argument × StandsFor (chars argument) selector
 
+-- The line isn't the word and a selector list.
 abbrev pub HasNoSelector : List ℕ → List ℕ → Type 0
 HasNoSelector line word = (selector : SelectorList) → HasSelector line word selector → ⊥
 
--- the words of lines
+-- The first words of lines.
 abbrev pub query_word : QueryKind → List ℕ
 query_word Select = codes "select"
 query_word Find = codes "find"
@@ -36,14 +37,15 @@ navigation_word navigation = elim navigation [ Parent ↦ codes "parent" | Child
 abbrev pub rendering_word : Rendering → List ℕ
 rendering_word rendering = elim rendering [ Count ↦ codes "count" | Text ↦ codes "text" | Formatted ↦ codes "formatted" | Html ↦ codes "html" | InnerHtml ↦ codes "inner-html" | Document ↦ codes "document" ]
 
--- the line asks for this query; for none
+-- The line is this query.
 abbrev pub IsQuery : List ℕ → QueryKind → SelectorList → Type 0
 IsQuery line kind selector = HasSelector line (query_word kind) selector
 
+-- The line is no query.
 abbrev pub IsNoQuery : List ℕ → Type 0
 IsNoQuery line = (kind : QueryKind) → HasNoSelector line (query_word kind)
 
--- the line asks for this command
+-- The line is this command.
 abbrev pub IsCommand : List ℕ → Command → Type 0
 IsCommand line Nothing = line ≡ []
 IsCommand line (Query kind selector) = IsQuery line kind selector
@@ -53,22 +55,22 @@ IsCommand line (Attr name) = HasName line (codes "attr") name
 IsCommand line (Edit edit) = IsEdit line edit
 IsCommand line (Sanitize lists) = IsSanitize line lists
 
--- the line asks for no command
+-- The line is no command.
 abbrev pub IsBad : List ℕ → Type 0
 IsBad line = (command : Command) → IsCommand line command → ⊥
 
--- the pieces between line feeds
+-- The lines of the script, which line feeds separate.
 abbrev pub lines_of : List ℕ → List (List ℕ)
 lines_of script = slice_split (λ b. b == 10) script
 
--- the lines ask for these commands, one by one
+-- The lines are these commands, one by one.
 abbrev pub AreCommands : List (List ℕ) → List Command → Type 0
 AreCommands [] [] = Unit {0}
 AreCommands (line ∷ lines) (command ∷ commands) = IsCommand line command × AreCommands lines commands
 AreCommands [] (command ∷ commands) = ⊥
 AreCommands (line ∷ lines) [] = ⊥
 
--- the lines before it ask for commands, and the line of this number, counted from 1, asks for none
+-- The lines before line `number`, counted from 1, are commands, and that line is none.
 pub record FirstBad (lines : List (List ℕ)) (number : ℕ) : Type 0 where
   pub good : List (List ℕ)
   pub commands : List Command
@@ -79,16 +81,16 @@ pub record FirstBad (lines : List (List ℕ)) (number : ℕ) : Type 0 where
   pub is_bad : IsBad bad
   pub counted : number ≡ length good + 1
 
--- the text is a script of these commands
+-- The text is a script of these commands.
 pub record IsScript (script : List ℕ) (commands : List Command) : Type 0 where
   pub utf8 : IsUtf8 script
   pub are_commands : AreCommands (lines_of script) commands
 
--- the text is no script: this is its first bad line, or 0 where the text isn't UTF-8
+-- The text is no script. The number is that of the first bad line, or 0 if the text isn't UTF-8.
 abbrev pub IsNoScript : List ℕ → ℕ → Type 0
 IsNoScript script zero = IsUtf8 script → ⊥
 IsNoScript script (suc n) = IsUtf8 script × FirstBad (lines_of script) (suc n)
 
--- a line of the script has markup of more nodes than there are numbers
+-- The markup in a line of the script has more nodes than there are ids.
 abbrev pub HasLargeLine : List ℕ → Type 0
 HasLargeLine script = (line : List ℕ) × ((n : ℕ) × (slice_get (lines_of script) n ≡ Some line)) × HasLargeMarkup line

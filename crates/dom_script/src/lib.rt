@@ -1,4 +1,4 @@
-//! What the lines of a script ask for.
+//! The grammar of scripts: it parses each line of a script to a command. Start at `script`.
 #![tactic(auto)]
 
 pub mod script;

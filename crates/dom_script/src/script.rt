@@ -1,4 +1,4 @@
-//! The lines of a script, and the commands that they ask for.
+//! Parsing a script to commands, one for each line.
 
 ghost use Rattle.std.specs.Prelude.{◌≡◌, ◌∷◌, ◌++◌, [], IfErr, IfOk, OnOk};
 ghost use Rattle.dom_script.specs.Faults.{LineRefused, ScriptRefused};
@@ -20,20 +20,20 @@ use dom_nodes::text::Text;
 use dom_select::matcher::Matcher;
 use std::alloc::Global;
 
-/// Which nodes a selector selects from.
+/// Which nodes a line with a selector selects.
 #[derive(Clone, Copy, Drop)]
 pub enum QueryKind {
     /// The matches below the root.
     Select,
     /// The matches below the selected nodes.
     Find,
-    /// Those of the selected nodes that it means.
+    /// Those of the selected nodes that match.
     Filter,
-    /// The selected nodes, and then the matches below the root that aren't among them.
+    /// The selected nodes, then the matches below the root that aren't among them.
     Add,
 }
 
-/// The nodes that are selected next, relative to the selected ones.
+/// Which nodes a line selects next, relative to the selected ones.
 #[derive(Clone, Copy, Drop)]
 pub enum Navigation {
     /// Their parents.
@@ -42,26 +42,26 @@ pub enum Navigation {
     Children,
     /// Their ancestor elements.
     Ancestors,
-    /// The nearest elements after them.
+    /// The nearest element among the later siblings of each.
     Next,
-    /// The nearest elements before them.
+    /// The nearest element among the earlier siblings of each.
     Prev,
-    /// The first of them.
+    /// The first one of them.
     First,
-    /// The last of them.
+    /// The last one of them.
     Last,
 }
 
-/// What of the selected nodes is written.
+/// What a line writes about the selected nodes.
 #[derive(Clone, Copy, Drop)]
 pub enum Rendering {
-    /// Their number.
+    /// The number of nodes.
     Count,
     /// Their texts.
     Text,
     /// Their formatted texts.
     Formatted,
-    /// The HTML of the first.
+    /// The HTML of the first one.
     Html,
     /// The HTML of the first one's children.
     InnerHtml,
@@ -69,33 +69,33 @@ pub enum Rendering {
     Document,
 }
 
-/// What a line asks for. The texts are its own, so that two readings of a line can be compared.
+/// The command of a line. The texts in it are copies, so a command doesn't borrow from the script.
 #[derive(Drop)]
 pub enum Command {
-    /// The line is empty.
+    /// An empty line, which does nothing.
     Nothing,
-    /// Nodes are selected by a selector.
+    /// Selects nodes by a selector.
     Query(QueryKind, Matcher),
-    /// Nodes are selected relative to the selected ones.
+    /// Selects nodes relative to the selected ones.
     Navigate(Navigation),
-    /// Something is written.
+    /// Writes something about the selected nodes.
     Render(Rendering),
-    /// The first node's attribute of this local name is written.
+    /// Writes the value of the first node's attribute with this local name.
     Attr(Text),
-    /// The tree is changed.
+    /// Edits the tree.
     Edit(EditLine),
-    /// The tree is cleaned by three lists of names, which a semicolon parts.
+    /// Sanitizes the tree by three lists of names, separated by semicolons.
     Sanitize(Text),
 }
 
-/// Why a text was not read as a script.
+/// Why parsing a script failed.
 #[derive(Drop)]
 pub enum ScriptFault {
-    /// The first bad line, counted from 1; 0 where the text isn't UTF-8.
+    /// The first bad line, counted from 1; 0 if the script isn't UTF-8.
     BadLine(usize),
-    /// The markup of a line has more nodes than there are numbers.
+    /// The markup in a line has more nodes than there are ids.
     TooManyNodes,
-    /// Memory was refused.
+    /// A request for memory was refused.
     Memory,
 }
 
@@ -107,7 +107,7 @@ impl From<OutOfMemory> for ScriptFault {
     }
 }
 
-/// The query that the line asks for, if it asks for one.
+/// Returns the query of the line, or `None` if the line isn't one.
 fn query_of(alloc: Global, line: &str) -> Result<Option<(QueryKind, Matcher)>, OutOfMemory>
     ensures { Finds result (IsNoQuery line.now) (λ query. IsQuery line.now query.0 query.1) }
 {
@@ -126,7 +126,8 @@ fn query_of(alloc: Global, line: &str) -> Result<Option<(QueryKind, Matcher)>, O
     Ok(None)
 }
 
-/// What the line asks for, if it asks for a command.
+/// Returns the command of the line, or `None` if the line is bad. It fails with `TooManyNodes` or
+/// `Memory`.
 fn command_of(alloc: Global, line: &str) -> Result<Option<Command>, ScriptFault>
     ensures ok { Finds result (IsBad line.now) (IsCommand line.now) }
     ensures refused { IfErr result (LineRefused line.now) }
@@ -162,7 +163,9 @@ fn push_command(commands: &mut Vec<Command>, command: Command) -> Result<(), Out
     Ok(())
 }
 
-/// The commands of a script, one for each line.
+/// Parses a script: UTF-8 text, in lines separated by line feeds. Returns a command for each line.
+/// It fails with `BadLine` and the number of the first bad line, with `TooManyNodes` when the
+/// markup in a line has more nodes than there are ids, and with `Memory`.
 pub fn read_script(alloc: Global, script: &[u8]) -> Result<Vec<Command>, ScriptFault>
     ensures ok { IfOk result (λ commands. IsScript script.now commands.items) }
     ensures refused { IfErr result (ScriptRefused script.now) }

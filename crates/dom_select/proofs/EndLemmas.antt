@@ -17,7 +17,7 @@ use Rattle.dom_select.specs.declared.matcher.has.Start.{Start}
 use Rattle.dom_select.specs.declared.matcher.has.Start.TheVariants.{Absolute, Relative}
 use Rattle.dom_select.specs.Ends.{ImpliesType, SubjectImpliesType}
 use Rattle.dom_select.specs.Has.{Begins}
-use Rattle.dom_select.specs.Meaning.{Holds, MayBeOperand, Means, PartsHold, ChainMatches}
+use Rattle.dom_select.specs.Meaning.{Holds, MayBeOperand, MatchesNode, PartsHold, ChainMatches}
 use Rattle.dom_select.specs.Parts.{PartHolds}
 use Rattle.dom_select.proofs.FollowLemmas.{chain_end}
 
@@ -43,9 +43,9 @@ behind_as None first steps front last is h = h
 behind_as (Some name) first steps front last is h = λ start forest exempt n r. h forest n ((chain_end forest exempt (Begins start first forest) steps n r).behind front last is).1
 
 -- what the first selector means is what its compounds reach
-pub means_one : (s : Selector) (more : List Selector) (forest : Forest) (n : ℕ) → Means (read_list (s ∷ more)) forest n →
-    ChainMatches (Begins Absolute (read_compound (out-Selector s).first) forest) (steps_of (map read_step (out-Selector s).rest.items)) forest n n ⊎ Means (read_list more) forest n
-means_one s more forest n h = subst (λ (t : Combinator × CompoundSelector × _). Means (selector_list (t ∷ map read_selector more)) forest n) (read_selector_is s) h
+pub means_one : (s : Selector) (more : List Selector) (forest : Forest) (n : ℕ) → MatchesNode (read_list (s ∷ more)) forest n →
+    ChainMatches (Begins Absolute (read_compound (out-Selector s).first) forest) (steps_of (map read_step (out-Selector s).rest.items)) forest n n ⊎ MatchesNode (read_list more) forest n
+means_one s more forest n h = subst (λ (t : Combinator × CompoundSelector × _). MatchesNode (selector_list (t ∷ map read_selector more)) forest n) (read_selector_is s) h
 
 -- a node that is no candidate isn't reached
 pub not_reached : (found : Option (Bor (List ℕ))) (first : CompoundSelector) (steps : List (Combinator × CompoundSelector)) (k : Combinator) (forest : Forest) (exempt n : ℕ) (b : Bool) → IfSome found (λ name. SubjectImpliesType name.now first steps) →

@@ -6,7 +6,7 @@ use Rattle.std.specs.Option.{is_some}
 use Rattle.std.proofs.lemmas.Bool.{eqb-true}
 use Rattle.dom_links.specs.Forest.{Forest}
 use Rattle.dom_links.specs.Laws.{AreLines}
-use Rattle.dom_links.specs.Lists.{stands_in}
+use Rattle.dom_links.specs.Lists.{is_member}
 use Rattle.dom_links.specs.Trees.{ancestors}
 use Rattle.dom_selectors.specs.declared.syntax.Combinator.{Combinator}
 use Rattle.dom_selectors.specs.declared.syntax.Combinator.TheVariants.{Descendant, Child, Adjacent, Sibling}
@@ -39,15 +39,15 @@ pub precedes_from : (forest : Forest) (a b c : ℕ) → Precedes forest a b → 
 precedes_from forest a b c p (inl e) = subst (Precedes forest a) e p
 precedes_from forest a b c p (inr q) = precedes_then forest a b c p q
 
-some_stands : (ns : List ℕ) (n : ℕ) → stands_in n ns ≡ true → 0 < length ns
+some_stands : (ns : List ℕ) (n : ℕ) → is_member n ns ≡ true → 0 < length ns
 some_stands [] n s = cc
 some_stands (m ∷ ns) n s = omega arith
 
-shorter : (ns ms : List ℕ) (n t : ℕ) → stands_in n ns ≡ true → ms ≡ drop (suc t) ns → length ms < length ns
+shorter : (ns ms : List ℕ) (n t : ℕ) → is_member n ns ≡ true → ms ≡ drop (suc t) ns → length ms < length ns
 shorter ns ms n t s e = let some = some_stands ns n s in let same = ap length e ∙ length-drop (suc t) ns in omega arith
 
 module _ (forest : Forest) (lines : AreLines forest) where
-  earlier_precedes : (w n : ℕ) → stands_in w (earlier forest n) ≡ true → Precedes forest w n
+  earlier_precedes : (w n : ℕ) → is_member w (earlier forest n) ≡ true → Precedes forest w n
   earlier_precedes w n s = let far = on_earlier forest lines n w s in inr (ap length (same_above forest lines n w s), shorter (earlier forest n) (earlier forest w) w far.0 s far.1)
 
   pub stands_precedes : (k : Combinator) (w n : ℕ) → CombinatorHolds forest k w n → Precedes forest w n
@@ -134,18 +134,18 @@ module _ (forest : Forest) (exempt : ℕ) (lines : AreLines forest) where
   stands_row : (q : Combinator) (t u w x : ℕ) → 2 ≤ binding_level q → ancestors forest x ≡ ancestors forest w →
       elements_before forest lines x ≡ drop t (elements_before forest lines w) → IsOrPrecedes forest x exempt → MayBeOperand forest exempt q u → CombinatorHolds forest q u x → CombinatorHolds forest q u w
   unfolding CombinatorHolds
-  stands_row Descendant t u w x low above back at b s = subst (λ ns. stands_in u ns ≡ true) above s
+  stands_row Descendant t u w x low above back at b s = subst (λ ns. is_member u ns ≡ true) above s
   stands_row Child t u w x low above back at b s = parent_first forest lines w u (ancestors forest u) (sym above ∙ lines.up x u s)
   stands_row Adjacent t u w x low above back at b s = absurd (omega arith)
   stands_row Sibling t u w x low above back at b s =
       let e = beside_element u (precedes_from forest u x exempt (stands_precedes forest lines Sibling u x s) at) b in
       among_elements forest (earlier forest w) u (stands_farther t (elements_before forest lines w) u
-      (subst (λ ns. stands_in u ns ≡ true) back (element_among forest (earlier forest x) u s e)))
+      (subst (λ ns. is_member u ns ≡ true) back (element_among forest (earlier forest x) u s e)))
 
   -- the same where x is led to from farther up
   stands_up : (q : Combinator) (t u w x : ℕ) → 4 ≤ binding_level q → ancestors forest x ≡ drop t (ancestors forest w) → CombinatorHolds forest q u x → CombinatorHolds forest q u w
   unfolding CombinatorHolds
-  stands_up Descendant t u w x low above s = stands_farther t (ancestors forest w) u (subst (λ ns. stands_in u ns ≡ true) above s)
+  stands_up Descendant t u w x low above s = stands_farther t (ancestors forest w) u (subst (λ ns. is_member u ns ≡ true) above s)
   stands_up Child t u w x low above s = absurd (omega arith)
   stands_up Adjacent t u w x low above s = absurd (omega arith)
   stands_up Sibling t u w x low above s = absurd (omega arith)
@@ -220,7 +220,7 @@ module _ (forest : Forest) (exempt : ℕ) (first : ℕ → Type 0) where
 
   module _ (lines : AreLines forest) (left passed : Chain) (v w : ℕ) (at : IsOrPrecedes forest v exempt) (held : LastHolds forest exempt first left w) (led : StepsMatch (steps_of passed) forest exempt w v) where
     -- where the chain is followed from an element farther back, or from a node farther up, it does no better
-    row_better : (y x : ℕ) → AreTighter 2 passed → EndsLoosely 2 left → stands_in y (earlier forest v) ≡ true → element_at forest y ≡ true
+    row_better : (y x : ℕ) → AreTighter 2 passed → EndsLoosely 2 left → is_member y (earlier forest v) ≡ true → element_at forest y ≡ true
         → StepsMatch (steps_of passed) forest exempt x y → ChainMatches first (steps_of left) forest exempt x → ChainMatches first (steps_of left) forest exempt w
     row_better y x tight loose s e led_y r =
         let before_v = earlier_precedes forest lines y v s in
@@ -237,7 +237,7 @@ module _ (forest : Forest) (exempt : ℕ) (first : ℕ → Type 0) where
         other.back tight ∙ (ap (drop (length passed)) far.1 ∙ (drop_swap (length passed) (suc far.0) (elements_before forest lines v) ∙ sym (ap (drop (suc far.0)) (one.back tight)))) in
         moved_over left w x held (λ front last u is b. stands_row forest exempt lines last.0 (suc far.0) u w x (loose front last is) above back other.at b) r
 
-    up_better : (y x : ℕ) → AreTighter 4 passed → EndsLoosely 4 left → stands_in y (ancestors forest v) ≡ true
+    up_better : (y x : ℕ) → AreTighter 4 passed → EndsLoosely 4 left → is_member y (ancestors forest v) ≡ true
         → StepsMatch (steps_of passed) forest exempt x y → ChainMatches first (steps_of left) forest exempt x → ChainMatches first (steps_of left) forest exempt w
     unfolding CombinatorHolds
     up_better y x tight loose s led_y r =
@@ -256,7 +256,7 @@ module _ (forest : Forest) (exempt : ℕ) (first : ℕ → Type 0) (lines : AreL
   Meant ss k = IsMeant forest exempt first (steps_of ss) k
 
   farther : (k : Combinator) (ss left : Chain) (v w : ℕ) → IsOrPrecedes forest v exempt → SuffixMatches forest exempt first (binding_level k) ss left v w
-      → (y : ℕ) → stands_in y (line forest k v) ≡ true → Meant ss k y → (k ≡ Sibling) ⊎ (k ≡ Descendant) → ChainMatches first (steps_of left) forest exempt w
+      → (y : ℕ) → is_member y (line forest k v) ≡ true → Meant ss k y → (k ≡ Sibling) ⊎ (k ≡ Descendant) → ChainMatches first (steps_of left) forest exempt w
   unfolding CombinatorHolds
   farther Descendant ss left v w at followed y s q which =
       let cut = chain_cut forest exempt first ss left followed.passed y followed.split q.1 in

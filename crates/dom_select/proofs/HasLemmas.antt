@@ -13,8 +13,8 @@ use Rattle.dom_selectors.proofs.Layers.{read_selector_is}
 use Rattle.dom_selectors.proofs.Weights.{selectors_weight}
 use Rattle.dom_links.specs.Forest.{Forest, siblings}
 use Rattle.dom_links.specs.Laws.{AreLines}
-use Rattle.dom_links.specs.Lists.{stands_in, after}
-use Rattle.dom_links.specs.Trees.{ancestors, walk_below}
+use Rattle.dom_links.specs.Lists.{is_member, after}
+use Rattle.dom_links.specs.Trees.{ancestors, descendants_in_order}
 use Rattle.dom_links.specs.Walk.{later, row_on}
 use Rattle.dom_selectors.specs.declared.syntax.Combinator.{Combinator}
 use Rattle.dom_selectors.specs.declared.syntax.Combinator.TheVariants.{Descendant, Child, Adjacent, Sibling}
@@ -22,7 +22,7 @@ use Rattle.dom_select.specs.declared.matcher.has.Start.{Start}
 use Rattle.dom_select.specs.declared.matcher.has.Start.TheVariants.{Absolute, Relative}
 use Rattle.dom_links.specs.ListMoves.{element_at}
 use Rattle.dom_select.specs.Leftward.{earlier, ends_at, left_of, line}
-use Rattle.dom_select.specs.Meaning.{IsJoined, StepsMatch, HasHolds, RelativeMatches, MayBeOperand, ChainMatches, CombinatorHolds, Holds, Means}
+use Rattle.dom_select.specs.Meaning.{IsJoined, StepsMatch, HasHolds, RelativeMatches, MayBeOperand, ChainMatches, CombinatorHolds, Holds, MatchesNode}
 use Rattle.dom_selectors.specs.Syntax.{CompoundSelector, Steps, no_steps, step, alternative}
 use Rattle.dom_select.specs.Chains.{Precedes}
 use Rattle.dom_select.specs.Has.{Begins, CompoundsMatch, SelectorMatches, MatchesWithin, is_sideways, may_be_subject, search_roots, search_roots_from}
@@ -64,31 +64,31 @@ module _ (forest : Forest) (lines : AreLines forest) where
 
   -- what lies to the right of a node
 
-  goes_below : (k : Combinator) (x w v : ℕ) → CombinatorHolds forest k w v → stands_in x (ancestors forest w) ≡ true → stands_in x (ancestors forest v) ≡ true
+  goes_below : (k : Combinator) (x w v : ℕ) → CombinatorHolds forest k w v → is_member x (ancestors forest w) ≡ true → is_member x (ancestors forest v) ≡ true
   unfolding CombinatorHolds
-  goes_below Descendant x w v s a = let far = on_above forest lines v w s in stands_farther (suc far.0) (ancestors forest v) x (ap (stands_in x) (sym far.1) ∙ a)
-  goes_below Child x w v s a = ap (stands_in x) (lines.up v w s) ∙ or_right (w == x) (stands_in x (ancestors forest w)) a
-  goes_below Adjacent x w v s a = ap (stands_in x) (sym (same_above forest lines v w (first_stands forest (earlier forest v) w s))) ∙ a
-  goes_below Sibling x w v s a = ap (stands_in x) (sym (same_above forest lines v w s)) ∙ a
+  goes_below Descendant x w v s a = let far = on_above forest lines v w s in stands_farther (suc far.0) (ancestors forest v) x (ap (is_member x) (sym far.1) ∙ a)
+  goes_below Child x w v s a = ap (is_member x) (lines.up v w s) ∙ or_right (w == x) (is_member x (ancestors forest w)) a
+  goes_below Adjacent x w v s a = ap (is_member x) (sym (same_above forest lines v w (first_stands forest (earlier forest v) w s))) ∙ a
+  goes_below Sibling x w v s a = ap (is_member x) (sym (same_above forest lines v w s)) ∙ a
 
-  led_below : (steps : Steps) (exempt x w y : ℕ) → StepsMatch steps forest exempt w y → stands_in x (ancestors forest w) ≡ true → stands_in x (ancestors forest y) ≡ true
-  led_below no_steps exempt x w y e a = ap (λ m. stands_in x (ancestors forest m)) (sym e) ∙ a
+  led_below : (steps : Steps) (exempt x w y : ℕ) → StepsMatch steps forest exempt w y → is_member x (ancestors forest w) ≡ true → is_member x (ancestors forest y) ≡ true
+  led_below no_steps exempt x w y e a = ap (λ m. is_member x (ancestors forest m)) (sym e) ∙ a
   led_below (step k c more) exempt x w y (v, joined, holds, rest) a = led_below more exempt x v y rest (goes_below k x w v joined.0 a)
 
   -- at or below a later sibling of x
   abbrev Beyond : ℕ → ℕ → Type 0
-  Beyond x w = (t : ℕ) × (stands_in t (later forest false x) ≡ true) × ((w ≡ t) ⊎ (stands_in t (ancestors forest w) ≡ true))
+  Beyond x w = (t : ℕ) × (is_member t (later forest false x) ≡ true) × ((w ≡ t) ⊎ (is_member t (ancestors forest w) ≡ true))
 
-  along : (x t w v : ℕ) → stands_in t (later forest false x) ≡ true → w ≡ t → stands_in w (earlier forest v) ≡ true → stands_in v (later forest false x) ≡ true
+  along : (x t w v : ℕ) → is_member t (later forest false x) ≡ true → w ≡ t → is_member w (earlier forest v) ≡ true → is_member v (later forest false x) ≡ true
   along x t w v s e before =
-      let x_before : stands_in x (earlier forest w) ≡ true = ap (λ m. stands_in x (earlier forest m)) e ∙ sym (lines.after_before x t) ∙ s in
+      let x_before : is_member x (earlier forest w) ≡ true = ap (λ m. is_member x (earlier forest m)) e ∙ sym (lines.after_before x t) ∙ s in
       let far = on_earlier forest lines v w before in
-      lines.after_before x v ∙ stands_farther (suc far.0) (earlier forest v) x (ap (stands_in x) (sym far.1) ∙ x_before)
+      lines.after_before x v ∙ stands_farther (suc far.0) (earlier forest v) x (ap (is_member x) (sym far.1) ∙ x_before)
 
   goes_beyond : (k : Combinator) (x w v : ℕ) → CombinatorHolds forest k w v → Beyond x w → Beyond x v
   unfolding CombinatorHolds
-  goes_beyond Descendant x w v s (t, there, inl e) = (t, there, inr (ap (λ m. stands_in m (ancestors forest v)) (sym e) ∙ s))
-  goes_beyond Child x w v s (t, there, inl e) = (t, there, inr (ap (stands_in t) (lines.up v w s) ∙ or_left (w == t) (stands_in t (ancestors forest w)) (eq-eqb w t e)))
+  goes_beyond Descendant x w v s (t, there, inl e) = (t, there, inr (ap (λ m. is_member m (ancestors forest v)) (sym e) ∙ s))
+  goes_beyond Child x w v s (t, there, inl e) = (t, there, inr (ap (is_member t) (lines.up v w s) ∙ or_left (w == t) (is_member t (ancestors forest w)) (eq-eqb w t e)))
   goes_beyond Adjacent x w v s (t, there, inl e) = (v, along x t w v there e (first_stands forest (earlier forest v) w s), inl refl)
   goes_beyond Sibling x w v s (t, there, inl e) = (v, along x t w v there e s, inl refl)
   goes_beyond Descendant x w v s (t, there, inr a) = (t, there, inr (goes_below Descendant t w v s a))
@@ -102,22 +102,22 @@ module _ (forest : Forest) (lines : AreLines forest) where
 
   -- at or below one of the search_roots
   abbrev AtTop : Combinator → ℕ → ℕ → Type 0
-  AtTop lead x y = (t : ℕ) × (stands_in t (search_roots forest lead x) ≡ true) × ((y ≡ t) ⊎ (stands_in y (walk_below forest t) ≡ true))
+  AtTop lead x y = (t : ℕ) × (is_member t (search_roots forest lead x) ≡ true) × ((y ≡ t) ⊎ (is_member y (descendants_in_order forest t) ≡ true))
 
-  below_top : (x y : ℕ) → stands_in x (ancestors forest y) ≡ true → stands_in y (walk_below forest x) ≡ true
+  below_top : (x y : ℕ) → is_member x (ancestors forest y) ≡ true → is_member y (descendants_in_order forest x) ≡ true
   below_top x y a = lines.below_above x y ∙ a
 
-  itself_in : (x : ℕ) → stands_in x (x ∷ []) ≡ true
+  itself_in : (x : ℕ) → is_member x (x ∷ []) ≡ true
   itself_in x = or_left (x == x) false (eq-eqb x x refl)
 
-  beyond_top : (x y : ℕ) → Beyond x y → (t : ℕ) × (stands_in t (later forest false x) ≡ true) × ((y ≡ t) ⊎ (stands_in y (walk_below forest t) ≡ true))
+  beyond_top : (x y : ℕ) → Beyond x y → (t : ℕ) × (is_member t (later forest false x) ≡ true) × ((y ≡ t) ⊎ (is_member y (descendants_in_order forest t) ≡ true))
   beyond_top x y (t, there, inl e) = (t, there, inl e)
   beyond_top x y (t, there, inr a) = (t, there, inr (below_top t y a))
 
   at_top : (lead : Combinator) (steps : Steps) (x w y : ℕ) → CombinatorHolds forest lead x w → StepsMatch steps forest x w y → AtTop lead x y
   unfolding CombinatorHolds
   at_top Descendant steps x w y s l = (x, itself_in x, inr (below_top x y (led_below steps x x w y l s)))
-  at_top Child steps x w y s l = (x, itself_in x, inr (below_top x y (led_below steps x x w y l (ap (stands_in x) (lines.up w x s) ∙ or_left (x == x) _ (eq-eqb x x refl)))))
+  at_top Child steps x w y s l = (x, itself_in x, inr (below_top x y (led_below steps x x w y l (ap (is_member x) (lines.up w x s) ∙ or_left (x == x) _ (eq-eqb x x refl)))))
   at_top Adjacent steps x w y s l = beyond_top x y (led_beyond steps x x w y l (w, lines.after_before x w ∙ first_stands forest (earlier forest w) x s, inl refl))
   at_top Sibling steps x w y s l = beyond_top x y (led_beyond steps x x w y l (w, lines.after_before x w ∙ s, inl refl))
 
@@ -127,7 +127,7 @@ module _ (forest : Forest) (lines : AreLines forest) where
     led_to t (y, there, (el, (w, begins, leads))) = (w, y, begins.0, begins.1, exempt_first steps x w y el leads, el)
 
     -- and what is led to is reached within one of the search_roots
-    pub reached_from : RelativeMatches lead first steps forest x → (t : ℕ) × (stands_in t (search_roots forest lead x) ≡ true) × MatchesWithin (Relative lead x) first steps forest t
+    pub reached_from : RelativeMatches lead first steps forest x → (t : ℕ) × (is_member t (search_roots forest lead x) ≡ true) × MatchesWithin (Relative lead x) first steps forest t
     reached_from (w, y, joined, holds, leads, el) =
         let top = at_top lead steps x w y joined.0 leads in
         (top.0, top.1, (y, top.2, (el, (w, (joined, holds), exempt_last steps x w y (stands_precedes forest lines lead x w joined.0) leads))))
@@ -154,8 +154,8 @@ module _ (forest : Forest) (lines : AreLines forest) (k : Combinator) where
   tops_last at e = ap (λ (b : Bool). at ∷ (if b then later forest false at else [])) e
 
 -- who stands in the list, but isn't the first, stands in the rest
-pub stands_on : (all rest : List ℕ) (at t : ℕ) → all ≡ at ∷ rest → stands_in t all ≡ true → (t ≡ at → ⊥) → stands_in t rest ≡ true
-stands_on all rest at t e s other = elim (or_cases (at == t) (stands_in t rest) (sym (ap (stands_in t) e) ∙ s)) [
+pub stands_on : (all rest : List ℕ) (at t : ℕ) → all ≡ at ∷ rest → is_member t all ≡ true → (t ≡ at → ⊥) → is_member t rest ≡ true
+stands_on all rest at t e s other = elim (or_cases (at == t) (is_member t rest) (sym (ap (is_member t) e) ∙ s)) [
   | inl here ↦ absurd (other (sym (eqb-true at t here)))
   | inr there ↦ there
 ]
@@ -208,8 +208,8 @@ module _ (forest : Forest) (lines : AreLines forest) (k : Combinator) (x : ℕ) 
   pub meets_farther : (at v : ℕ) → left_of forest k at ≡ Some v → (v ≡ x → ⊥) → ends_at forest k v ≡ false → Meets at ↔ Meets v
   meets_farther at v link other goes = left_farther forest k (λ m. m ≡ x) lines at v link other goes
 
-pub stands_first : (n : ℕ) (ns : List ℕ) → stands_in n (n ∷ ns) ≡ true
-stands_first n ns = or_left (n == n) (stands_in n ns) (eq-eqb n n refl)
+pub stands_first : (n : ℕ) (ns : List ℕ) → is_member n (n ∷ ns) ≡ true
+stands_first n ns = or_left (n == n) (is_member n ns) (eq-eqb n n refl)
 
 -- the selectors of a list, one after the other
 
@@ -241,9 +241,9 @@ module _ (selectors : List Selector) (i : ℕ) (s : Selector) (rest : List Step)
   one : IsTrue b ↔ ChainMatches (Holds (read_compound (out-Selector s).first) forest) (steps_of (map read_step (out-Selector s).rest.items)) forest n n
   one = subst (λ r. IsTrue b ↔ ChainMatches (Holds (read_compound (out-Selector s).first) forest) (steps_of (map read_step r)) forest n n) steps fact
 
-  pub means_later : b ≡ false → Means (read_list (drop (i + 1) selectors)) forest n ↔ Means (read_list (drop i selectors)) forest n
-  means_later e = (λ h. subst (λ l. Means l forest n) (sym (list_from selectors i s within is)) (inr h), λ h. others (subst (λ l. Means l forest n) (list_from selectors i s within is) h))
+  pub means_later : b ≡ false → MatchesNode (read_list (drop (i + 1) selectors)) forest n ↔ MatchesNode (read_list (drop i selectors)) forest n
+  means_later e = (λ h. subst (λ l. MatchesNode l forest n) (sym (list_from selectors i s within is)) (inr h), λ h. others (subst (λ l. MatchesNode l forest n) (list_from selectors i s within is) h))
     where
-      others : ChainMatches (Holds (read_compound (out-Selector s).first) forest) (steps_of (map read_step (out-Selector s).rest.items)) forest n n ⊎ Means (read_list (drop (i + 1) selectors)) forest n → Means (read_list (drop (i + 1) selectors)) forest n
+      others : ChainMatches (Holds (read_compound (out-Selector s).first) forest) (steps_of (map read_step (out-Selector s).rest.items)) forest n n ⊎ MatchesNode (read_list (drop (i + 1) selectors)) forest n → MatchesNode (read_list (drop (i + 1) selectors)) forest n
       others (inl here) = absurd (true≢false (sym (one.1 here) ∙ e))
       others (inr h) = h

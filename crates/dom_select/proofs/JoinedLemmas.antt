@@ -8,7 +8,7 @@ use Rattle.dom_nodes.specs.declared.case_sensitivity.CaseSensitivity.{CaseSensit
 use Rattle.dom_nodes.specs.declared.case_sensitivity.CaseSensitivity.TheVariants.{CaseSensitive}
 use Rattle.dom_links.specs.Forest.{Forest}
 use Rattle.dom_links.specs.Texts.{text_at, text_in, text_of}
-use Rattle.dom_links.specs.Trees.{walk_below}
+use Rattle.dom_links.specs.Trees.{descendants_in_order}
 use Rattle.dom_nodes.specs.declared.node_data.NodeData.{NodeData}
 use Rattle.dom_nodes.specs.declared.node_data.NodeData.TheVariants.{Text}
 use Rattle.std.specs.Option.{option_map_or}
@@ -112,7 +112,7 @@ module _ (forest : Forest) (inner text : List ℕ) (n : ℕ) (ns ms : List ℕ) 
   pub passed_first : begins ≡ false → has_within CaseSensitive (flat_map (text_at forest) ns) inner ≡ has_within CaseSensitive (flat_map (text_at forest) ms) inner
   passed_first f = within_first forest inner text n ns ms is step ∙ ap (λ b. b || has_within CaseSensitive (flat_map (text_at forest) ms) inner) (sym asked ∙ f)
 
-pub in_all : (forest : Forest) (n : ℕ) (wanted inner left : List ℕ) → left ≡ walk_below forest n → wanted ≡ inner →
+pub in_all : (forest : Forest) (n : ℕ) (wanted inner left : List ℕ) → left ≡ descendants_in_order forest n → wanted ≡ inner →
     has_within CaseSensitive (flat_map (text_at forest) (n ∷ left)) wanted ≡ joined_contains_at forest inner n
 in_all forest n wanted inner left e w =
     ap (λ ks. has_within CaseSensitive (flat_map (text_at forest) (n ∷ ks)) wanted) e ∙ ap (has_within CaseSensitive (text_of forest n)) w
@@ -159,4 +159,4 @@ some_within forest inner (n ∷ ns) h =
     ]
 
 pub joined_if_one : (forest : Forest) (inner : List ℕ) (n : ℕ) → has_text_at forest inner n ≡ true → joined_contains_at forest inner n ≡ true
-joined_if_one forest inner n h = some_within forest inner (n ∷ walk_below forest n) h
+joined_if_one forest inner n h = some_within forest inner (n ∷ descendants_in_order forest n) h

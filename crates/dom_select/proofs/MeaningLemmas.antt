@@ -12,7 +12,7 @@ use Rattle.dom_selectors.specs.ListsAsTrees.{lists_of}
 use Rattle.dom_selectors.specs.ValuesAsTrees.{read_compound, read_nested}
 use Rattle.dom_selectors.proofs.Layers.{read_compound_is}
 use Rattle.dom_selectors.specs.Syntax.{CompoundSelector, SelectorList, Steps, alternative, compound, no_selectors, no_steps, step}
-use Rattle.dom_select.specs.Meaning.{Holds, ListHolds, ListsHold, Means, PartsHold, StepsMatch}
+use Rattle.dom_select.specs.Meaning.{Holds, ListHolds, ListsHold, MatchesNode, PartsHold, StepsMatch}
 use Rattle.dom_select.specs.Parts.{EachHolds, PartHolds, node_passes, passes_at}
 
 -- a test as a decision, and back
@@ -51,7 +51,7 @@ known_last : (steps : Steps) (forest : Forest) (exempt w n : ℕ) → w < length
 known_last no_steps forest exempt w n known led = subst (λ m. m < length forest.content) led known
 known_last (step k c more) forest exempt w n known (v, joined, holds, led) = known_last more forest exempt v n (known_by c forest v holds) led
 
-pub means_unknown : (list : SelectorList) (forest : Forest) (n : ℕ) → length forest.content ≤ n → Means list forest n → ⊥
+pub means_unknown : (list : SelectorList) (forest : Forest) (n : ℕ) → length forest.content ≤ n → MatchesNode list forest n → ⊥
 means_unknown no_selectors forest n past m = m
 means_unknown (alternative lead first rest more) forest n past (inl (w, holds, led)) = let known = known_last rest forest n w n (known_by first forest w holds) led in omega arith
 means_unknown (alternative lead first rest more) forest n past (inr m) = means_unknown more forest n past m

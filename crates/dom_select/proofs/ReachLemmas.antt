@@ -4,7 +4,7 @@ use Rattle.std.specs.Prelude.{◌==◌, ◌||◌}
 use Rattle.std.proofs.lemmas.Bool.{eqb-true, eq-eqb, or_right, or_cases}
 use Rattle.dom_links.specs.Forest.{Forest, parent, siblings}
 use Rattle.dom_links.specs.Laws.{AreLines}
-use Rattle.dom_links.specs.Lists.{stands_in, before}
+use Rattle.dom_links.specs.Lists.{is_member, before}
 use Rattle.dom_links.specs.Trees.{ancestors}
 use Rattle.dom_links.specs.Walk.{row_on}
 use Rattle.dom_selectors.specs.declared.syntax.Combinator.{Combinator}
@@ -41,14 +41,14 @@ line_none forest Sibling n h e = earlier_none forest n h e
 
 module _ (Q : ℕ → Type 0) where
   -- where the way never ends early, any node on it will do
-  pub from_far : (ns : List ℕ) → SomeOnLine (λ v. false) Q ns → (v : ℕ) × (stands_in v ns ≡ true) × Q v
+  pub from_far : (ns : List ℕ) → SomeOnLine (λ v. false) Q ns → (v : ℕ) × (is_member v ns ≡ true) × Q v
   from_far [] h = absurd h
-  from_far (m ∷ ms) (inl q) = (m, ap (λ b. b || stands_in m ms) (eq-eqb m m refl), q)
-  from_far (m ∷ ms) (inr h) = let w = from_far ms h.1 in (w.0, or_right (m == w.0) (stands_in w.0 ms) w.1, w.2)
+  from_far (m ∷ ms) (inl q) = (m, ap (λ b. b || is_member m ms) (eq-eqb m m refl), q)
+  from_far (m ∷ ms) (inr h) = let w = from_far ms h.1 in (w.0, or_right (m == w.0) (is_member w.0 ms) w.1, w.2)
 
-  pub to_far : (ns : List ℕ) (v : ℕ) → stands_in v ns ≡ true → Q v → SomeOnLine (λ v. false) Q ns
+  pub to_far : (ns : List ℕ) (v : ℕ) → is_member v ns ≡ true → Q v → SomeOnLine (λ v. false) Q ns
   to_far [] v s q = absurd (true≢false (sym s))
-  to_far (m ∷ ms) v s q = elim (or_cases (m == v) (stands_in v ms) s) [
+  to_far (m ∷ ms) v s q = elim (or_cases (m == v) (is_member v ms) s) [
     | inl e ↦ inl (subst Q (sym (eqb-true m v e)) q)
     | inr t ↦ inr ((λ never. true≢false (sym never)), to_far ms v t q)
   ]

@@ -7,7 +7,7 @@ use Rattle.std.proofs.lemmas.Option.{none-some}
 use Rattle.dom_links.specs.Forest.{Forest, StandsOnce, children_of, parent, siblings}
 use Rattle.dom_links.specs.Laws.{AreLines}
 use Rattle.dom_links.specs.ListMoves.{SomeOf, element_at}
-use Rattle.dom_links.specs.Lists.{after, before, first, stands_in}
+use Rattle.dom_links.specs.Lists.{after, before, first, is_member}
 use Rattle.dom_links.specs.Trees.{ancestors}
 use Rattle.dom_links.specs.Walk.{later, row_on}
 use Rattle.dom_links.proofs.checks.Sounds.{after_before, before_after}
@@ -35,7 +35,7 @@ whole ends (n ∷ ns) on = ap (λ (b : Bool). n ∷ (if b then [] else row_to en
 module _ (forest : Forest) (lines : AreLines forest) (once : StandsOnce forest) where
   -- neighbours are so on the way to the right and on the way to the left
 
-  known : (n m : ℕ) (neighbour : List ℕ → ℕ → Option ℕ) → neighbour [] n ≡ None → neighbour (siblings forest n) n ≡ Some m → stands_in n (siblings forest n) ≡ true
+  known : (n m : ℕ) (neighbour : List ℕ → ℕ → Option ℕ) → neighbour [] n ≡ None → neighbour (siblings forest n) n ≡ Some m → is_member n (siblings forest n) ≡ true
   known n m neighbour alone e = elim (cases_lt n (length forest.content)) [
     | inl within ↦ once.placed n within
     | inr past ↦ absurd (none-some m (sym alone ∙ ap (λ ns. neighbour ns n) (sym (lines.unknown_alone n past).1) ∙ e))
@@ -71,12 +71,12 @@ module _ (forest : Forest) (lines : AreLines forest) (once : StandsOnce forest) 
   abbrev near : List ℕ → List ℕ
   near ns = row_to (ends_right forest Adjacent) ns
 
-  to_right : (x w : ℕ) (ns : List ℕ) (n : ℕ) → later forest false n ≡ ns → ComesFirst forest x (n ∷ earlier forest n) → stands_in w (near ns) ≡ true → ComesFirst forest x (earlier forest w)
+  to_right : (x w : ℕ) (ns : List ℕ) (n : ℕ) → later forest false n ≡ ns → ComesFirst forest x (n ∷ earlier forest n) → is_member w (near ns) ≡ true → ComesFirst forest x (earlier forest w)
   to_right x w [] n e h s = absurd (true≢false (sym s))
   to_right x w (m ∷ ms) n e h s =
       let step = next_from (after (siblings forest n) n) n m ms refl e in
       let here : ComesFirst forest x (earlier forest m) = subst (ComesFirst forest x) (sym step.0) h in
-      let cut = λ (b : Bool). stands_in w (if b then [] else near ms) in
+      let cut = λ (b : Bool). is_member w (if b then [] else near ms) in
       elim (or_cases (m == w) (cut (element_at forest m)) s) [
         | inl is ↦ subst (λ v. ComesFirst forest x (earlier forest v)) (eqb-true m w is) here
         | inr on ↦ elim (cases_Bool (element_at forest m)) [
@@ -85,22 +85,22 @@ module _ (forest : Forest) (lines : AreLines forest) (once : StandsOnce forest) 
         ]
       ]
 
-  to_left : (x w : ℕ) (ns : List ℕ) (n : ℕ) → earlier forest n ≡ ns → stands_in w (near (n ∷ later forest false n)) ≡ true → ComesFirst forest x ns → stands_in w (near (later forest false x)) ≡ true
+  to_left : (x w : ℕ) (ns : List ℕ) (n : ℕ) → earlier forest n ≡ ns → is_member w (near (n ∷ later forest false n)) ≡ true → ComesFirst forest x ns → is_member w (near (later forest false x)) ≡ true
   to_left x w [] n e s h = absurd h
   to_left x w (v ∷ vs) n e s (inl is) =
-      ap (λ m. stands_in w (near (later forest false m))) is ∙ ap (λ ns. stands_in w (near ns)) (before_from (before (siblings forest n) n) n v vs refl e).0 ∙ s
+      ap (λ m. is_member w (near (later forest false m))) is ∙ ap (λ ns. is_member w (near ns)) (before_from (before (siblings forest n) n) n v vs refl e).0 ∙ s
   to_left x w (v ∷ vs) n e s (inr h) =
       let step = before_from (before (siblings forest n) n) n v vs refl e in
-      let farther : stands_in w (near (later forest false v)) ≡ true = ap (λ ns. stands_in w (near ns)) step.0 ∙ s in
-      let cut = λ (b : Bool). stands_in w (if b then [] else near (later forest false v)) in
+      let farther : is_member w (near (later forest false v)) ≡ true = ap (λ ns. is_member w (near ns)) step.0 ∙ s in
+      let cut = λ (b : Bool). is_member w (if b then [] else near (later forest false v)) in
       elim (cases_Bool (element_at forest v)) [
         | inl t ↦ absurd (h.0 t)
         | inr f ↦ to_left x w vs v step.1 (or_right (v == w) (cut (element_at forest v)) (ap cut f ∙ farther)) h.1
       ]
 
-  child_stands : (x w : ℕ) → parent forest w ≡ Some x → stands_in w (children_of forest x) ≡ true
+  child_stands : (x w : ℕ) → parent forest w ≡ Some x → is_member w (children_of forest x) ≡ true
   child_stands x w e = elim (cases_lt w (length forest.content)) [
-    | inl within ↦ ap (stands_in w) (sym (siblings_child forest w x e)) ∙ once.placed w within
+    | inl within ↦ ap (is_member w) (sym (siblings_child forest w x e)) ∙ once.placed w within
     | inr past ↦ absurd (none-some x (sym (lines.unknown_alone w past).0 ∙ e))
   ]
 
@@ -109,23 +109,23 @@ module _ (forest : Forest) (lines : AreLines forest) (once : StandsOnce forest) 
   unfolding CombinatorHolds
   right_below x next link w el =
       let same : right_row forest Child next ≡ children_of forest x = whole (ends_right forest Child) (row_on forest false next) (λ n. refl) ∙ (ap (row_on forest false) link ∙ sym (lines.below false x)) in
-      ((λ s. (once.in_children x w (ap (stands_in w) (sym same) ∙ s)).1), λ e. ap (stands_in w) same ∙ child_stands x w e)
+      ((λ s. (once.in_children x w (ap (is_member w) (sym same) ∙ s)).1), λ e. ap (is_member w) same ∙ child_stands x w e)
 
   -- the later siblings, or the next element
   pub right_beside : (k : Combinator) (x : ℕ) (next : Option ℕ) → (k ≡ Adjacent) ⊎ (k ≡ Sibling) → next ≡ after (siblings forest x) x → AreRightOf forest k x (right_row forest k next)
   unfolding CombinatorHolds
   right_beside k x next (inl is) link w el =
       let row : row_on forest false next ≡ later forest false x = ap (row_on forest false) link ∙ sym (lines.beside false x) in
-      let same : stands_in w (right_row forest k next) ≡ stands_in w (near (later forest false x)) = ap (λ j. stands_in w (right_row forest j next)) is ∙ ap (λ ns. stands_in w (near ns)) row in
-      subst (λ j. (stands_in w (right_row forest k next) ≡ true) ↔ CombinatorHolds forest j x w) (sym is) (
+      let same : is_member w (right_row forest k next) ≡ is_member w (near (later forest false x)) = ap (λ j. is_member w (right_row forest j next)) is ∙ ap (λ ns. is_member w (near ns)) row in
+      subst (λ j. (is_member w (right_row forest k next) ≡ true) ↔ CombinatorHolds forest j x w) (sym is) (
         (λ s. to_right x w (later forest false x) x refl (inl refl) (sym same ∙ s)),
         λ h. same ∙ to_left x w (earlier forest w) w refl (or_left (w == w) _ (eq-eqb w w refl)) h,
       )
   right_beside k x next (inr is) link w el =
       let row : row_on forest false next ≡ later forest false x = ap (row_on forest false) link ∙ sym (lines.beside false x) in
       let all : row_to (ends_right forest Sibling) (row_on forest false next) ≡ row_on forest false next = whole (ends_right forest Sibling) (row_on forest false next) (λ n. refl) in
-      let same : stands_in w (right_row forest k next) ≡ stands_in x (earlier forest w) = ap (λ j. stands_in w (right_row forest j next)) is ∙ ap (stands_in w) (all ∙ row) ∙ lines.after_before x w in
-      subst (λ j. (stands_in w (right_row forest k next) ≡ true) ↔ CombinatorHolds forest j x w) (sym is) ((λ s. sym same ∙ s), λ h. same ∙ h)
+      let same : is_member w (right_row forest k next) ≡ is_member x (earlier forest w) = ap (λ j. is_member w (right_row forest j next)) is ∙ ap (is_member w) (all ∙ row) ∙ lines.after_before x w in
+      subst (λ j. (is_member w (right_row forest k next) ≡ true) ↔ CombinatorHolds forest j x w) (sym is) ((λ s. sym same ∙ s), λ h. same ∙ h)
 
 -- one more node of the row
 
@@ -151,7 +151,7 @@ module _ (first : CompoundSelector) (forest : Forest) where
   pub leads_beside : (k : Combinator) (x : ℕ) (ns : List ℕ) → AreRightOf forest k x ns → SomeOfRow ns ↔ RelativeMatches k first no_steps forest x
   leads_beside k x ns right = (λ some. to some.0 some.1 some.2.0 some.2.1, back)
     where
-      to : (w : ℕ) → stands_in w ns ≡ true → element_at forest w ≡ true → Holds first forest w → RelativeMatches k first no_steps forest x
+      to : (w : ℕ) → is_member w ns ≡ true → element_at forest w ≡ true → Holds first forest w → RelativeMatches k first no_steps forest x
       to w s el holds = (w, w, ((right w el).0 s, beside_itself forest k x, element_may forest k x w el), holds, refl, el)
 
       back : RelativeMatches k first no_steps forest x → SomeOfRow ns
@@ -160,16 +160,16 @@ module _ (first : CompoundSelector) (forest : Forest) where
           (w, (right w elw).1 joined.0, (elw, holds))
 
   pub row_here : (all rest : List ℕ) (n : ℕ) → all ≡ n ∷ rest → IsElementThat first forest n → SomeOfRow all
-  row_here all rest n e h = (n, ap (stands_in n) e ∙ stands_first n rest, h)
+  row_here all rest n e h = (n, ap (is_member n) e ∙ stands_first n rest, h)
 
   pub row_later : (all rest : List ℕ) (n : ℕ) → all ≡ n ∷ rest → (IsElementThat first forest n → ⊥) → SomeOfRow rest ↔ SomeOfRow all
   row_later all rest n e none = (
-    λ some. (some.0, ap (stands_in some.0) e ∙ or_right (n == some.0) (stands_in some.0 rest) some.1, some.2),
+    λ some. (some.0, ap (is_member some.0) e ∙ or_right (n == some.0) (is_member some.0 rest) some.1, some.2),
     λ some. (some.0, stands_on all rest n some.0 e some.1 (λ is. none (subst (IsElementThat first forest) is some.2)), some.2),
   )
 
   pub row_ends : (k : Combinator) (next : Option ℕ) → next ≡ None → SomeOfRow (right_row forest k next) → ⊥
-  row_ends k next none some = true≢false (sym some.1 ∙ ap (λ o. stands_in some.0 (right_row forest k o)) none)
+  row_ends k next none some = true≢false (sym some.1 ∙ ap (λ o. is_member some.0 (right_row forest k o)) none)
 
 -- which leads go to siblings
 
@@ -188,22 +188,22 @@ goes_below Sibling e other = absurd (true≢false e)
 -- a selector whose steps go to siblings reaches children or siblings alone
 
 module _ (forest : Forest) (lines : AreLines forest) where
-  earlier_by : (k : Combinator) (w v : ℕ) → is_sideways k ≡ true → CombinatorHolds forest k w v → stands_in w (earlier forest v) ≡ true
+  earlier_by : (k : Combinator) (w v : ℕ) → is_sideways k ≡ true → CombinatorHolds forest k w v → is_member w (earlier forest v) ≡ true
   unfolding CombinatorHolds
   earlier_by Descendant w v e h = absurd (true≢false (sym e))
   earlier_by Child w v e h = absurd (true≢false (sym e))
   earlier_by Adjacent w v e h = first_stands forest (earlier forest v) w h
   earlier_by Sibling w v e h = h
 
-  sibling_in_row : (x w v : ℕ) → stands_in w (earlier forest v) ≡ true → CombinatorHolds forest Sibling x w → CombinatorHolds forest Sibling x v
+  sibling_in_row : (x w v : ℕ) → is_member w (earlier forest v) ≡ true → CombinatorHolds forest Sibling x w → CombinatorHolds forest Sibling x v
   unfolding CombinatorHolds
-  sibling_in_row x w v s h = let far = on_earlier forest lines v w s in stands_farther (suc far.0) (earlier forest v) x (ap (stands_in x) (sym far.1) ∙ h)
+  sibling_in_row x w v s h = let far = on_earlier forest lines v w s in stands_farther (suc far.0) (earlier forest v) x (ap (is_member x) (sym far.1) ∙ h)
 
-  child_in_row : (x w v : ℕ) → stands_in w (earlier forest v) ≡ true → CombinatorHolds forest Child x w → CombinatorHolds forest Child x v
+  child_in_row : (x w v : ℕ) → is_member w (earlier forest v) ≡ true → CombinatorHolds forest Child x w → CombinatorHolds forest Child x v
   unfolding CombinatorHolds
   child_in_row x w v s h = parent_first forest lines v x (ancestors forest x) (sym (same_above forest lines v w s) ∙ lines.up w x h)
 
-  in_row : (k : Combinator) (x w v : ℕ) → stands_in w (earlier forest v) ≡ true → CombinatorHolds forest (row_combinator k) x w → CombinatorHolds forest (row_combinator k) x v
+  in_row : (k : Combinator) (x w v : ℕ) → is_member w (earlier forest v) ≡ true → CombinatorHolds forest (row_combinator k) x w → CombinatorHolds forest (row_combinator k) x v
   in_row Descendant x w v s h = sibling_in_row x w v s h
   in_row Child x w v s h = child_in_row x w v s h
   in_row Adjacent x w v s h = sibling_in_row x w v s h

@@ -1,4 +1,4 @@
--- Names that nodes bear which a selector reaches or means.
+-- The types of the nodes that a selector can match.
 use Rattle.std.specs.Prelude.{◌≡◌, ◌↔◌, ℕ, Bool, IsTrue, List, Some, map, slice_get}
 use Rattle.dom_nodes.specs.declared.node_data.NodeData.{NodeData}
 use Rattle.dom_links.specs.Forest.{Forest}
@@ -13,18 +13,18 @@ use Rattle.dom_select.specs.declared.matcher.has.Start.TheVariants.{Absolute}
 use Rattle.dom_select.specs.Has.{Begins, CompoundsMatch}
 use Rattle.dom_select.specs.Meaning.{ChainMatches, HasType, Holds}
 
--- the compound holds only of what bears the name as a type
+-- the compound selector matches only elements of this type
 abbrev pub ImpliesType : List ℕ → CompoundSelector → Type 0
 ImpliesType name c = (forest : Forest) (n : ℕ) → Holds c forest n → HasType name forest n
 
--- the compounds reach only what bears the name as a type
+-- the chain of compound selectors matches only elements of this type
 abbrev pub SubjectImpliesType : List ℕ → CompoundSelector → List (Combinator × CompoundSelector) → Type 0
 SubjectImpliesType name first steps = (start : Start) (forest : Forest) (exempt n : ℕ) → ChainMatches (Begins start first forest) (steps_of steps) forest exempt n → HasType name forest n
 
--- the same of compounds as the program has them
+-- a chain, in the program's representation, that matches only elements of this type
 abbrev pub IsSubjectType : Compound → List Step → List ℕ → Type 0
 IsSubjectType first steps name = SubjectImpliesType name (read_compound first) (map read_step steps)
 
--- this states whether the compounds match what is such a node
+-- the answer says whether the chain matches a node with this data
 abbrev pub AreDecided : Compound → List Step → NodeData → Bool → Type 0
 AreDecided first steps node answer = (forest : Forest) (n : ℕ) → slice_get forest.content n ≡ Some node → IsTrue answer ↔ CompoundsMatch Absolute first steps forest n

@@ -1,4 +1,4 @@
--- Of which nodes a mini selector is true.
+-- Which nodes a mini selector matches.
 use Rattle.std.specs.Prelude.{ℕ, Bool}
 use Rattle.dom_links.specs.Forest.{Forest}
 use Rattle.dom_trees.specs.Views.{node_is}

@@ -1,4 +1,4 @@
--- What a node answers that is asked by itself.
+-- The answers of `NodeSelect` about a single node.
 use Rattle.std.specs.Prelude.{ℕ, Bool, false, ◌&&◌, List, codes}
 use Rattle.std.specs.List.{list_any}
 use Rattle.std.specs.Option.{option_map_or}
@@ -16,18 +16,18 @@ use Rattle.dom_selectors.specs.declared.pseudo_class.NonTSPseudoClass.TheVariant
 use Rattle.dom_select.specs.Parts.{data_passes}
 use Rattle.dom_select.specs.Texts.{has_text_at, joined_contains_at, only_text_at}
 
--- whether a node is an element of that namespace
+-- whether a node is an element in this namespace
 abbrev pub has_namespace_at : Forest → ℕ → Namespace → Bool
 has_namespace_at forest n ns = option_map_or (λ name. same_namespace name.ns ns) (node_qual_name forest n) false
 
 abbrev pub is_id : CaseSensitivity → List ℕ → Attr → Bool
 is_id case id attr = bytes_eq attr.name.local (codes "id") && same_text case attr.value id
 
--- any attribute `id` of the node has that value
+-- whether any attribute `id` of the node has this value
 abbrev pub has_id_at : CaseSensitivity → Forest → ℕ → List ℕ → Bool
 has_id_at case forest n id = list_any (is_id case id) (node_attrs forest n)
 
--- the pseudo-class holds of the node: links by what it is, texts by those at it or below it, states never
+-- Whether a node matches a pseudo-class: links by the element's data, texts by those at or below the node, and states never.
 abbrev pub pseudo_holds_at : NonTSPseudoClass → Forest → ℕ → Bool
 pseudo_holds_at AnyLink forest n = data_passes a_link forest n
 pseudo_holds_at Link forest n = data_passes a_link forest n

@@ -1,4 +1,4 @@
--- When a part of a compound holds of a node.
+-- Which nodes a simple selector matches.
 use Rattle.std.specs.Prelude.{◌≡◌, ◌↔◌, ◌<◌, [], ◌∷◌, slice_get, ℕ, Bool, true, false, ◌&&◌, List, Option, None, Some, codes}
 use Rattle.std.specs.List.{list_any}
 use Rattle.std.specs.Option.{option_map_or}
@@ -22,7 +22,7 @@ use Rattle.dom_selectors.specs.declared.syntax.Comparison.{Comparison}
 use Rattle.dom_selectors.specs.declared.syntax.Part.{Part}
 use Rattle.dom_selectors.specs.declared.syntax.Part.TheVariants.{Universal, Id, Class, Attribute, Root, Link, Never, Position, Empty, OnlyText, HasText, Contains}
 
--- a name of a selector as the elements of a namespace bear it: with A to Z folded in HTML, as written in others
+-- the name to compare with: in lower case for HTML elements, as in the source for others
 abbrev pub name_within : Namespace → List ℕ → List ℕ
 name_within Html name = str_to_ascii_lowercase name
 name_within _ name = name
@@ -38,7 +38,7 @@ abbrev pub comparison_passes : Option Comparison → List ℕ → Bool
 comparison_passes None value = true
 comparison_passes (Some comparison) value = passes comparison value
 
--- the attribute stands in no namespace, bears the name, and its value is what it is asked for
+-- the attribute has no namespace, this name, and a value that passes the comparison
 abbrev pub attr_passes : Namespace → attributes.Attribute → Attr → Bool
 attr_passes ns asked attr = is_without attr.name.ns && bytes_eq attr.name.local (name_within ns asked.name) && comparison_passes asked.comparison attr.value
 
@@ -57,21 +57,21 @@ element_passes (HasText text) element = false
 element_passes (Contains text) element = false
 element_passes (Position position) element = false
 
--- `*` holds of every node, any other part of elements alone
+-- `*` matches every node, and any other simple selector only elements
 abbrev pub node_passes : Part → NodeData → Bool
 node_passes Universal node = true
 node_passes part (AnElement element) = element_passes part element
 node_passes part _ = false
 
--- the same of a node by its number
+-- the simple selector matches the data of the node with this id; false for an unknown id
 abbrev pub data_passes : Part → Forest → ℕ → Bool
 data_passes part forest n = option_map_or (node_passes part) (slice_get forest.content n) false
 
 abbrev pub passes_at : Part → Forest → ℕ → Type 0
 passes_at part forest n = data_passes part forest n ≡ true
 
--- The part holds of the node of that number: by where it stands, or by what it is. `:root` holds of an element whose parent
--- is node 0
+-- Whether the simple selector matches the node, by its data or its place in the tree. `:root` matches an element whose parent is
+-- node 0.
 abbrev pub PartHolds : Part → Forest → ℕ → Type 0
 PartHolds (Position position) forest n = IsNth position.nth (index_at position.kind forest n)
 PartHolds Empty forest n = empty_at forest n ≡ true
@@ -87,15 +87,15 @@ PartHolds Root forest n = root_element_at forest n ≡ true
 PartHolds Link forest n = passes_at Link forest n
 PartHolds Never forest n = passes_at Never forest n
 
--- each of the parts holds
+-- each of the simple selectors matches the node
 abbrev pub EachHolds : List Part → Forest → ℕ → Type 0
 EachHolds [] forest n = Unit {0}
 EachHolds (part ∷ parts) forest n = PartHolds part forest n × EachHolds parts forest n
 
--- where one text at a node or below it contains the other, the texts there contain it joined
+-- if one text at or below a node contains a text, then so do the concatenated texts
 abbrev pub ContainsWhatItHas : Type 0
 ContainsWhatItHas = (forest : Forest) (text : List ℕ) (n : ℕ) → PartHolds (HasText text) forest n → PartHolds (Contains text) forest n
 
--- of the indexes, which are above 0, this is the one that `an+b` stands for; it stands for none where this is 0
+-- An+B selects this index and no other; for 0 it selects none, since indexes start at 1
 abbrev pub AsksFor : Nth → ℕ → Type 0
 AsksFor nth index = (i : ℕ) → 0 < i → IsNth nth i ↔ (i ≡ index)

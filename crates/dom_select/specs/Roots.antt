@@ -1,4 +1,4 @@
--- The nodes below which is selected.
+-- The roots below which a selector selects.
 use Rattle.std.specs.Prelude.{ℕ, List, map}
 use Rattle.dom_trees.specs.declared.node_ref.NodeRef.{NodeRef}
 use Rattle.dom_select.specs.declared.matcher.roots.Roots.{Roots}
@@ -7,7 +7,7 @@ use Rattle.dom_select.specs.declared.matcher.roots.Roots.TheVariants.{Numbers, N
 abbrev pub node_ids : List NodeRef → List ℕ
 node_ids nodes = map (λ node. node.id) nodes
 
--- their numbers
+-- the ids of the roots
 abbrev pub root_ids : Roots → List ℕ
 root_ids (Numbers ids) = ids.now
 root_ids (Nodes nodes) = node_ids nodes.now

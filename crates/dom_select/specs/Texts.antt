@@ -1,4 +1,4 @@
--- What a node's children are, and the texts at and below it.
+-- Tests of a node's children, and of the texts at and below it.
 use Rattle.std.specs.Prelude.{◌≡◌, ℕ, Bool, true, false, ◌||◌, ◌&&◌, not, List, [], ◌∷◌, ◌++◌, MatchOption, Option, drop, length, slice_get, take}
 use Rattle.std.specs.Borrow.{Bor}
 use Rattle.std.specs.List.{flat_map, list_all, list_any}
@@ -7,17 +7,17 @@ use Rattle.dom_nodes.specs.declared.node_data.NodeData.{NodeData}
 use Rattle.dom_nodes.specs.declared.node_data.NodeData.TheVariants.{Text}
 use Rattle.dom_links.specs.Forest.{Forest, children_of}
 use Rattle.dom_links.specs.Texts.{text_at, text_of}
-use Rattle.dom_links.specs.Trees.{walk_below}
+use Rattle.dom_links.specs.Trees.{descendants_in_order}
 use Rattle.dom_trees.specs.Views.{is_filled_text}
 use Rattle.dom_selectors.specs.Comparisons.{begins_with, has_within}
 use Rattle.dom_nodes.specs.declared.case_sensitivity.CaseSensitivity.TheVariants.{CaseSensitive}
 use Rattle.dom_links.specs.ListMoves.{element_at}
 
--- a text that isn't blank
+-- the node is a text that isn't blank
 abbrev pub filled_at : Forest → ℕ → Bool
 filled_at forest n = option_map_or is_filled_text (slice_get forest.content n) false
 
--- an element none of whose children is an element or a text that isn't blank
+-- the node is an element without child elements and without a child text that isn't blank
 abbrev pub empty_at : Forest → ℕ → Bool
 empty_at forest n = element_at forest n && list_all (λ child. not (element_at forest child || filled_at forest child)) (children_of forest n)
 
@@ -26,7 +26,7 @@ is_lone p [] = false
 is_lone p (child ∷ []) = p child
 is_lone p (child ∷ other ∷ children) = false
 
--- exactly one child, a text that isn't blank
+-- the node has exactly one child, a text that isn't blank
 abbrev pub only_text_at : Forest → ℕ → Bool
 only_text_at forest n = is_lone (filled_at forest) (children_of forest n)
 
@@ -37,24 +37,24 @@ text_contains inner _ = false
 abbrev pub contains_at : Forest → List ℕ → ℕ → Bool
 contains_at forest inner n = option_map_or (text_contains inner) (slice_get forest.content n) false
 
--- one text at the node or below it contains the other
+-- one of the texts at or below the node contains the text
 abbrev pub has_text_at : Forest → List ℕ → ℕ → Bool
-has_text_at forest inner n = list_any (contains_at forest inner) (n ∷ walk_below forest n)
+has_text_at forest inner n = list_any (contains_at forest inner) (n ∷ descendants_in_order forest n)
 
--- the texts at the node and below it, joined, contain the other
+-- the texts at and below the node, concatenated, contain the text
 abbrev pub joined_contains_at : Forest → List ℕ → ℕ → Bool
 joined_contains_at forest inner n = has_within CaseSensitive (text_of forest n) inner
 
--- the other begins somewhere in the text, and may go on in what follows that
+-- an occurrence of `inner` starts in this text, and may continue in the text that follows
 abbrev pub begins_among : List ℕ → List ℕ → List ℕ → Bool
 begins_among [] next inner = false
 begins_among (a ∷ more) next inner = begins_with CaseSensitive (a ∷ (more ++ next)) inner || begins_among more next inner
 
--- the texts of the nodes, joined
+-- the texts of the nodes, concatenated
 abbrev pub texts_at : Forest → List ℕ → List ℕ
 texts_at forest ns = flat_map (text_at forest) ns
 
--- what is left of the other behind a text, where it goes as the text does as far as both go; none where it doesn't
+-- What is left of `inner` after this text, if the two agree as far as both go; `None` if they differ.
 abbrev pub IsLeftBehind : List ℕ → List ℕ → Option (Bor (List ℕ)) → Type 0
 IsLeftBehind text inner left = MatchOption left
     (begins_with CaseSensitive text (take (length text) inner) ≡ false)

@@ -1,4 +1,4 @@
--- How many elements of each type were passed.
+-- Counts of the elements of each type.
 use Rattle.std.specs.Prelude.{ℕ, ◌≡◌, ◌+◌, Bool, Option, Some, None, if◌then◌else◌}
 use Rattle.std.specs.declared.cmp.Ordering.{Ordering}
 use Rattle.std.specs.Option.{option_copied, unwrap_or}
@@ -14,11 +14,11 @@ use Rattle.dom_select.specs.declared.matcher.type_counts.TypeName.{TypeName}
 use Rattle.dom_select.specs.declared.matcher.type_counts.TypeNamespace.{TypeNamespace}
 use Rattle.dom_select.specs.declared.matcher.type_counts.TypeNamespace.TheVariants as lent
 
--- the index by type that is counted from the first sibling, or from the last
+-- the kind of an index by type, counted from the first sibling or from the last
 abbrev pub type_kind : Bool → IndexKind
 type_kind from_first = if from_first then OfType else LastOfType
 
--- the namespace that is lent
+-- the namespace that is borrowed
 abbrev pub namespace_in : TypeNamespace → Namespace
 namespace_in lent.None = Namespace.None
 namespace_in lent.Html = Html
@@ -29,7 +29,7 @@ namespace_in lent.Xml = Xml
 namespace_in lent.XmlNs = XmlNs
 namespace_in (lent.Other name) = Other name.now
 
--- the name that is lent
+-- the name that is borrowed
 abbrev pub name_of : TypeName → NameParts
 name_of name = record { prefix = option_copied name.prefix; ns = namespace_in name.namespace; local = name.local.now }
 
@@ -40,7 +40,7 @@ type_cmp = cmp-value.it
 abbrev pub count_of : BTreeMap TypeName ℕ → TypeName → ℕ
 count_of counts name = unwrap_or (get type_cmp counts name) 0
 
--- one more is counted under the name, and under each that is the same
+-- the count of the name, and of every equal name, is increased by one
 abbrev pub CountsOne : BTreeMap TypeName ℕ → BTreeMap TypeName ℕ → TypeName → Option ℕ → Type 0
 CountsOne old new name None = Unit {0}
 CountsOne old new name (Some count) =

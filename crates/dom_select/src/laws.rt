@@ -1,21 +1,22 @@
-//! What is true of every selector. The functions do nothing.
+//! Laws about selectors. The functions do nothing; their contracts are the theorems.
 
 ghost use Rattle.dom_select.specs.Parts.{ContainsWhatItHas};
 ghost use Rattle.dom_select.specs.Selected.{SelectsExactly, SelectsOneList};
 
 pub use dom_selectors::laws::{one_mini_reading, one_reading, printed_string};
 
-/// A selector selects one list of nodes at most.
+/// A selector selects at most one list of nodes.
 pub fn one_selection()
     ensures { SelectsOneList }
 {}
 
-/// What a selector selects are the elements below the roots that it means, each once.
+/// A selector selects exactly the elements below the roots that it matches, each once.
 pub fn selected_exactly()
     ensures { SelectsExactly }
 {}
 
-/// Where one text at a node or below it contains another, the texts there contain it joined.
+/// If one text at or below a node contains a text, then so do the concatenated texts: what
+/// `:has-text` matches, `:contains` matches too.
 pub fn contains_what_it_has()
     ensures { ContainsWhatItHas }
 {}

@@ -1,4 +1,5 @@
-//! Which nodes selectors mean.
+//! Matching of selectors against the nodes of a tree. Start at `matcher::Matcher`, or at
+//! `node_select::NodeSelect` for questions to one node.
 #![tactic(auto)]
 
 pub use dom_selectors::{css, fault, pseudo_class};

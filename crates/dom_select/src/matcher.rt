@@ -1,7 +1,8 @@
-//! A list of selectors that nodes are asked for.
+//! `Matcher`: a parsed selector list that is matched against nodes, as in the crate dom_query. What
+//! selectors match is as in Selectors Level 4.
 
 use crate::matcher::caches::SelectorCaches;
-use crate::matcher::matches::{is_meant, means, sole_type};
+use crate::matcher::matches::{matches_selector, means, sole_type};
 use crate::matcher::subjects::subject_types;
 use dom_nodes::fault::OutOfMemory;
 use dom_selectors::copies::copy_selectors;
@@ -33,7 +34,7 @@ pub(crate) mod texts;
 pub(crate) mod type_counts;
 pub(crate) mod type_indexes;
 
-/// What a selector's text stands for. A contract sees it as the list of its selectors.
+/// A parsed selector list. A contract sees it as the list of its selectors.
 #[derive(Drop)]
 pub struct Matcher {
     selectors: Vec<Selector>,
@@ -57,14 +58,23 @@ impl Model for Matcher {
 impl Matcher {
     ghost use Rattle.std.specs.Prelude.{◌≡◌, chars, IfErr, IfOk, IfSome};
     ghost use Rattle.dom_selectors.specs.Grammar.{Refused, StandsFor};
-    ghost use Rattle.dom_select.specs.Meaning.{Means, MeansType};
+    ghost use Rattle.dom_select.specs.Meaning.{MatchesNode, MeansType};
     ghost use Rattle.dom_select.specs.Subjects.{SubjectIsAmong};
     ghost use Rattle.dom_selectors.specs.Spelling.{Decides};
     ghost use Rattle.dom_selectors.specs.ValuesAsTrees.{read_list};
 
-    /// Reads a selector's text. `UnknownPseudoClass` comes only where the text stands for nothing
-    /// and has a `:`, `TooDeep` only where it stands for nothing and has 65 `(`, `Memory` where
-    /// memory is refused, and `Syntax` where it stands for nothing.
+    /// Parses a selector list, as in Selectors Level 4 and the crate dom_query.
+    ///
+    /// The text has to be a selector list as a whole. An error says why it is none:
+    ///
+    /// - `Syntax`: it does not follow the grammar;
+    /// - `UnknownPseudoClass`: a pseudo-class is unknown, or its arguments have the wrong form; the
+    ///   text then contains a `:`;
+    /// - `Number`: a number is greater than 2147483647;
+    /// - `NestedHas`: a `:has` is inside another `:has`;
+    /// - `TooDeep`: parentheses are nested more than 64 levels deep; the text then contains 65 `(`.
+    ///
+    /// The call also fails with `Memory` when memory runs out.
     pub fn new(alloc: Global, text: &str) -> Result<Matcher, SelectorFault>
         ensures ok { IfOk result (λ matcher. StandsFor (chars text.now) matcher) }
         ensures refused { IfErr result (λ fault. Refused (chars text.now) fault) }
@@ -73,7 +83,7 @@ impl Matcher {
         Ok(Matcher { selectors })
     }
 
-    /// The same selectors in memory of their own.
+    /// Returns a copy of the matcher. Fails only when memory runs out.
     pub fn try_clone(&self) -> Result<Matcher, OutOfMemory>
         ensures { IfOk result (λ made. made ≡ self.now) }
     {
@@ -81,53 +91,55 @@ impl Matcher {
         Ok(Matcher { selectors: copies })
     }
 
-    /// The selectors of the list, in their order.
+    /// Returns the selectors of the list, in order.
     pub fn selectors(&self) -> &[InnerSelector]
         ensures { read_list result.now ≡ self.now }
     {
         &self.selectors
     }
 
-    /// The name, where the selector is a type and nothing else.
+    /// Returns the name, if the list is one type selector and nothing else.
     pub(crate) fn sole_type(&self) -> Option<&SelectorName>
         ensures { IfSome result (λ name. MeansType name.now self.now) }
     {
         sole_type(&self.selectors)
     }
 
-    /// The types of the subjects, if each has one.
+    /// Returns the types of the elements that the selectors can match, if each selector names one.
     pub(crate) fn subject_types(&self) -> Option<[bool; 256]>
         ensures { IfSome result (λ types. SubjectIsAmong types self.now) }
     {
         subject_types(&self.selectors)
     }
 
-    /// Whether one of the selectors means the node; false for an unknown number. It takes no
-    /// memory.
+    /// Returns whether one of the selectors matches the node; `false` if the tree has no such node.
+    /// It allocates no memory.
     pub fn match_element(&self, node: &NodeRef<'_>) -> bool
-        ensures { Decides result (Means self.now node.now.tree.now node.now.id) }
+        ensures { Decides result (MatchesNode self.now node.now.tree.now node.now.id) }
     {
         let mut caches = SelectorCaches::none(node.tree);
         means(&self.selectors, &mut caches, node.id)
     }
 
-    /// Whether one of the selectors means the node of that number in the caches' tree. What the
-    /// caches were asked before makes no difference; where they can't grow they are passed by.
+    /// Returns whether one of the selectors matches the node with this id in the tree of the
+    /// caches. The caches speed up repeated calls and never change an answer; if they can't grow,
+    /// they are bypassed.
     pub fn match_element_with_caches(
         &self,
         node: &NodeRef<'_>,
         caches: &mut SelectorCaches<'_>,
     ) -> bool
-        ensures is { Decides result (Means self.now caches.old node.now.id) }
+        ensures is { Decides result (MatchesNode self.now caches.old node.now.id) }
         ensures same { caches.new ≡ caches.old }
     {
         means(&self.selectors, caches, node.id)
     }
 }
 
-/// What can be asked whether it is true of a node.
+/// A selector that can be matched against a node.
 pub trait MatchNode {
-    /// Whether it is true of the node; false for an unknown number. It takes no memory.
+    /// Returns whether the selector matches the node; `false` if the tree has no such node. It
+    /// allocates no memory.
     fn match_node(&self, node: &NodeRef<'_>) -> bool;
 }
 
@@ -147,15 +159,15 @@ impl MatchNode for MiniSelector<'_> {
 
 impl MatchNode for InnerSelector {
     ghost use Rattle.std.specs.Prelude.{◌∷◌, []};
-    ghost use Rattle.dom_select.specs.Meaning.{Means};
+    ghost use Rattle.dom_select.specs.Meaning.{MatchesNode};
     ghost use Rattle.dom_selectors.specs.Spelling.{Decides};
     ghost use Rattle.dom_selectors.specs.ValuesAsTrees.{read_list};
 
-    /// Whether this selector alone means the node.
+    /// Returns whether this selector matches the node.
     fn match_node(&self, node: &NodeRef<'_>) -> bool
-        ensures { Decides result (Means (read_list (self.now ∷ [])) node.now.tree.now node.now.id) }
+        ensures { Decides result (MatchesNode (read_list (self.now ∷ [])) node.now.tree.now node.now.id) }
     {
         let mut caches = SelectorCaches::none(node.tree);
-        is_meant(self, &mut caches, node.id)
+        matches_selector(self, &mut caches, node.id)
     }
 }

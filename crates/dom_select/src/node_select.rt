@@ -1,4 +1,4 @@
-//! Nodes that are asked whether a selector means them.
+//! Questions to one node: whether a selector matches it, and other tests of the crate dom_query.
 
 ghost use Rattle.std.specs.Prelude.{◌≡◌, ℕ, false, IfOk, MatchBool};
 ghost use Rattle.std.specs.List.{list_any};
@@ -33,73 +33,76 @@ use dom_selectors::syntax::Part;
 use dom_trees::node_ref::NodeRef;
 use dom_trees::tree::Tree;
 
-/// A node that selectors are asked of.
+/// A node against which selectors are matched. For a node that the tree doesn't have, every answer
+/// is `false`.
 pub trait NodeSelect {
-    // It is an element that one of the selectors means.
+    // The node is an element that one of the selectors matches.
     ghost meant: { Self → SelectorList → Type 0 };
 
-    // The forest of its tree.
+    // The forest of the node's tree.
     ghost forest: { Self → Forest };
 
-    // Its number there.
+    // The node's id.
     ghost number: { Self → ℕ };
 
-    /// Whether it is an element that one of the matcher's selectors means.
+    /// Returns whether the node is an element that one of the matcher's selectors matches.
     fn is_match(&self, matcher: &Matcher) -> bool
         ensures { MatchBool result (meant self.now matcher.now) (meant self.now matcher.now → ⊥) };
 
-    /// Whether it is an element that one of the selectors in the text means; false where the text
-    /// is outside the grammar.
+    /// Returns whether the node is an element that one of the selectors in the text matches;
+    /// `false` if the text is no selector list. It parses the text on every call; use `is_match` in
+    /// a loop. Fails only when memory runs out.
     fn is(&self, selectors: &str) -> Result<bool, OutOfMemory>
         ensures { IfOk result (DecidesByText selectors.now (meant self.now)) };
 
-    /// Whether one text at it or below it contains the other.
+    /// Returns whether one of the texts at or below the node contains `text`.
     fn has_text(&self, text: &str) -> bool
         ensures { result ≡ has_text_at (forest self.now) text.now (number self.now) };
 
-    /// Whether it has exactly one child, a text that isn't blank.
+    /// Returns whether the node has exactly one child, a text that isn't blank.
     fn has_only_text(&self) -> bool
         ensures { result ≡ only_text_at (forest self.now) (number self.now) };
 
-    /// Whether it is an element without elements and without a text that isn't blank.
+    /// Returns whether the node is an element without child elements and without a child text that
+    /// isn't blank.
     fn is_empty_element(&self) -> bool
         ensures { result ≡ empty_at (forest self.now) (number self.now) };
 
-    /// The same, as the crate's selectors call it.
+    /// Returns whether the node matches `:empty`; the result is that of `is_empty_element`.
     fn is_empty(&self) -> bool
         ensures { result ≡ empty_at (forest self.now) (number self.now) };
 
-    /// Whether it is an element `a`, `area` or `link` with an attribute `href`.
+    /// Returns whether the node is an element `a`, `area` or `link` with an attribute `href`.
     fn is_link(&self) -> bool
         ensures { result ≡ data_passes Link (forest self.now) (number self.now) };
 
-    /// Whether it is an element whose parent is node 0.
+    /// Returns whether the node is an element whose parent is node 0, the root.
     fn is_root(&self) -> bool
         ensures { result ≡ root_element_at (forest self.now) (number self.now) };
 
-    /// Whether it is an element, as the node of the other's number in its tree is, of an equal
-    /// qualified name.
+    /// Returns whether the node and the node with the id of `other` in the same tree are elements
+    /// with equal qualified names.
     fn is_same_type(&self, other: &Self) -> bool
         ensures { result ≡ same_type (forest self.now) (number self.now) (number other.now) };
 
-    /// Whether it is an element of exactly that local name.
+    /// Returns whether the node is an element with exactly this local name.
     fn has_local_name(&self, name: &CssLocalName) -> bool
         ensures { result ≡ has_local_name (forest self.now) (number self.now) name.now.0 };
 
-    /// Whether it is an element of that namespace.
+    /// Returns whether the node is an element in this namespace.
     fn has_namespace(&self, ns: &Namespace) -> bool
         ensures { result ≡ has_namespace_at (forest self.now) (number self.now) ns.now };
 
-    /// Whether it is an element of HTML.
+    /// Returns whether the node is an element in the HTML namespace.
     fn is_html_element_in_html_document(&self) -> bool
         ensures { result ≡ has_namespace_at (forest self.now) (number self.now) Html };
 
-    /// Whether any of its attributes of the local name `id` has that value.
+    /// Returns whether any attribute with the local name `id` has this value.
     fn has_id(&self, id: &CssLocalName, case_sensitivity: CaseSensitivity) -> bool
         ensures { result
             ≡ has_id_at case_sensitivity (forest self.now) (number self.now) id.now.0 };
 
-    /// Whether the pseudo-class holds of it.
+    /// Returns whether the node matches the pseudo-class.
     fn match_non_ts_pseudo_class(&self, pseudo: &NonTSPseudoClass) -> bool
         ensures { result ≡ pseudo_holds_at pseudo.now (forest self.now) (number self.now) };
 }
@@ -183,7 +186,7 @@ impl<'a> NodeSelect for NodeRef<'a> {
     }
 }
 
-/// Whether one of the attributes is an `id` of that value.
+/// Returns whether one of the attributes is an `id` with this value.
 fn has_id(attrs: &[Attr], case: CaseSensitivity, id: &str) -> bool
     ensures { result ≡ list_any (is_id case id.now) attrs.now }
 {
@@ -197,7 +200,7 @@ fn is_id(attr: &Attr, case: CaseSensitivity, id: &str) -> bool
         && same_text(case, attr.value.as_str().as_bytes(), id.as_bytes())
 }
 
-/// Whether the pseudo-class holds of the node.
+/// Returns whether the node matches the pseudo-class.
 fn pseudo_holds(pseudo: &NonTSPseudoClass, tree: &Tree, id: &NodeId) -> bool
     ensures { result ≡ pseudo_holds_at pseudo.now tree.now id.now }
 {
@@ -210,7 +213,7 @@ fn pseudo_holds(pseudo: &NonTSPseudoClass, tree: &Tree, id: &NodeId) -> bool
     }
 }
 
-/// What a text outside the grammar answers; it is an answer only if memory wasn't refused.
+/// Returns `false` for a text that is no selector list, and an error if memory ran out.
 fn means_none(fault: SelectorFault) -> Result<bool, OutOfMemory>
     ensures { IfOk result (λ answer. (answer ≡ false) × (fault ≡ Memory → ⊥)) }
 {

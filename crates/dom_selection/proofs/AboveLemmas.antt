@@ -4,13 +4,13 @@ use Rattle.std.proofs.lemmas.Bool.{cases_Bool, eq-eqb, eqb-true, or_cases, true�
 use Rattle.std.proofs.lemmas.List.Elements.{filter-append}
 use Rattle.dom_links.specs.Forest.{Forest, parent}
 use Rattle.dom_links.specs.ListMoves.{element_at}
-use Rattle.dom_links.specs.Lists.{stands_in}
+use Rattle.dom_links.specs.Lists.{is_member}
 use Rattle.dom_links.specs.Sound.{IsForest}
 use Rattle.dom_links.specs.Trees.{ancestors, upward}
 use Rattle.dom_links.proofs.forest.Depth.{parent_inside, upward-none}
 use Rattle.dom_links.proofs.walks.Later.{ancestors-parent, not_above_itself}
-use Rattle.dom_links.proofs.forest.Neighbours.{split_at, stands_in-append}
-use Rattle.dom_links.proofs.moves.Stripping.{stands_in-filter}
+use Rattle.dom_links.proofs.forest.Neighbours.{split_at, is_member-append}
+use Rattle.dom_links.proofs.moves.Stripping.{is_member-filter}
 use Rattle.dom_trees.specs.declared.node_ref.NodeRef.{NodeRef}
 use Rattle.dom_selection.specs.Gathering.{HasGathered, IsClosed, IsClosedFor, Gathers}
 use Rattle.dom_selection.specs.Seen.{with_unseen}
@@ -43,26 +43,26 @@ and_first : (a b : Bool) → (a && b) ≡ true → a ≡ true
 and_first true b e = refl
 and_first false b e = e
 
-again : (n m : ℕ) (met rest : List ℕ) → stands_in n met ≡ true → (stands_in m met || stands_in m rest) ≡ (stands_in m met || ((n == m) || stands_in m rest))
+again : (n m : ℕ) (met rest : List ℕ) → is_member n met ≡ true → (is_member m met || is_member m rest) ≡ (is_member m met || ((n == m) || is_member m rest))
 again n m met rest seen = elim (cases_Bool (n == m)) [
-  | inl t ↦ (let here : stands_in m met ≡ true = subst (λ (k : ℕ). stands_in k met ≡ true) (eqb-true n m t) seen in rw here refl)
+  | inl t ↦ (let here : is_member m met ≡ true = subst (λ (k : ℕ). is_member k met ≡ true) (eqb-true n m t) seen in rw here refl)
   | inr f ↦ rw f refl
 ]
 
-stands-with_unseen : (m : ℕ) (met ns : List ℕ) → stands_in m (with_unseen met ns) ≡ (stands_in m met || stands_in m ns)
-stands-with_unseen m met [] = sym (or_end (stands_in m met))
-stands-with_unseen m met (n ∷ ns) = elim (cases_Bool (stands_in n met)) [
-  | inl t ↦ ap (λ b. stands_in m (with_unseen (cond b met (met ++ n ∷ [])) ns)) t ∙ stands-with_unseen m met ns ∙ again n m met ns t
-  | inr f ↦ ap (λ b. stands_in m (with_unseen (cond b met (met ++ n ∷ [])) ns)) f ∙ stands-with_unseen m (met ++ n ∷ []) ns
-      ∙ ap (λ b. b || stands_in m ns) (stands-append m n met) ∙ or_moves (n == m) (stands_in m met) (stands_in m ns)
+stands-with_unseen : (m : ℕ) (met ns : List ℕ) → is_member m (with_unseen met ns) ≡ (is_member m met || is_member m ns)
+stands-with_unseen m met [] = sym (or_end (is_member m met))
+stands-with_unseen m met (n ∷ ns) = elim (cases_Bool (is_member n met)) [
+  | inl t ↦ ap (λ b. is_member m (with_unseen (cond b met (met ++ n ∷ [])) ns)) t ∙ stands-with_unseen m met ns ∙ again n m met ns t
+  | inr f ↦ ap (λ b. is_member m (with_unseen (cond b met (met ++ n ∷ [])) ns)) f ∙ stands-with_unseen m (met ++ n ∷ []) ns
+      ∙ ap (λ b. b || is_member m ns) (stands-append m n met) ∙ or_moves (n == m) (is_member m met) (is_member m ns)
 ]
 
 -- where all stand there already, nothing is new
-all_met_before : (met ns : List ℕ) → ((m : ℕ) → stands_in m ns ≡ true → stands_in m met ≡ true) → with_unseen met ns ≡ met
+all_met_before : (met ns : List ℕ) → ((m : ℕ) → is_member m ns ≡ true → is_member m met ≡ true) → with_unseen met ns ≡ met
 all_met_before met [] all = refl
 all_met_before met (n ∷ ns) all =
-    let here : stands_in n met ≡ true = all n (or_left (n == n) (stands_in n ns) (eq-eqb n n refl)) in
-    ap (λ b. with_unseen (cond b met (met ++ n ∷ [])) ns) here ∙ all_met_before met ns (λ m s. all m (or_right (n == m) (stands_in m ns) s))
+    let here : is_member n met ≡ true = all n (or_left (n == n) (is_member n ns) (eq-eqb n n refl)) in
+    ap (λ b. with_unseen (cond b met (met ++ n ∷ [])) ns) here ∙ all_met_before met ns (λ m s. all m (or_right (n == m) (is_member m ns) s))
 
 -- ---- the nodes above a node
 
@@ -72,30 +72,30 @@ above_first forest n p more (Some q) good up e =
     let all = sym e ∙ ancestors-parent forest n q good up (parent_inside forest n q good up) in cc
 
 -- what stands behind one of them is above that one, which stands there once
-above-split : (forest : Forest) (n : ℕ) (xs : List ℕ) (a : ℕ) (rest : List ℕ) → IsForest forest → ancestors forest n ≡ xs ++ a ∷ rest → (rest ≡ ancestors forest a) × (stands_in a xs ≡ false)
+above-split : (forest : Forest) (n : ℕ) (xs : List ℕ) (a : ℕ) (rest : List ℕ) → IsForest forest → ancestors forest n ≡ xs ++ a ∷ rest → (rest ≡ ancestors forest a) × (is_member a xs ≡ false)
 above-split forest n [] a rest good e = (above_first forest n a rest (parent forest n) good refl e, refl)
 above-split forest n (x ∷ xs) a rest good e =
     let up = above_first forest n x (xs ++ a ∷ rest) (parent forest n) good refl e in
     let on = above-split forest x xs a rest good (sym up) in
-    let there : stands_in a (ancestors forest x) ≡ true = ap (stands_in a) (sym up) ∙ stands_in-append xs (a ∷ rest) a ∙ or_right (stands_in a xs) (stands_in a (a ∷ rest)) (or_left (a == a) (stands_in a rest) (eq-eqb a a refl)) in
+    let there : is_member a (ancestors forest x) ≡ true = ap (is_member a) (sym up) ∙ is_member-append xs (a ∷ rest) a ∙ or_right (is_member a xs) (is_member a (a ∷ rest)) (or_left (a == a) (is_member a rest) (eq-eqb a a refl)) in
     elim (cases_Bool (x == a)) [
       | inl t ↦ absurd (not_above_itself forest x a good there (eqb-true x a t))
-      | inr f ↦ (on.0, ap (λ b. b || stands_in a xs) f ∙ on.1)
+      | inr f ↦ (on.0, ap (λ b. b || is_member a xs) f ∙ on.1)
     ]
 
 -- what is above one of them is among them
-above_trans : (forest : Forest) (n k m : ℕ) → IsForest forest → stands_in k (elements_above None forest n) ≡ true → stands_in m (elements_above None forest k) ≡ true → stands_in m (elements_above None forest n) ≡ true
+above_trans : (forest : Forest) (n k m : ℕ) → IsForest forest → is_member k (elements_above None forest n) ≡ true → is_member m (elements_above None forest k) ≡ true → is_member m (elements_above None forest n) ≡ true
 above_trans forest n k m good s t =
-    let there : stands_in k (ancestors forest n) ≡ true = and_first (stands_in k (ancestors forest n)) (element_at forest k) (sym (stands_in-filter (element_at forest) (ancestors forest n) k) ∙ s) in
+    let there : is_member k (ancestors forest n) ≡ true = and_first (is_member k (ancestors forest n)) (element_at forest k) (sym (is_member-filter (element_at forest) (ancestors forest n) k) ∙ s) in
     let (xs, rest, is, new) = split_at k (ancestors forest n) there in
     let up = (above-split forest n xs k rest good is).0 in
     let E = element_at forest in
-    ap (λ ns. stands_in m (filter E ns)) (is ∙ ap (λ ns. xs ++ k ∷ ns) up) ∙ ap (stands_in m) (filter-append E xs (k ∷ ancestors forest k)) ∙ stands_in-append (filter E xs) (filter E (k ∷ ancestors forest k)) m
-    ∙ or_right (stands_in m (filter E xs)) (stands_in m (filter E (k ∷ ancestors forest k))) (behind E k (ancestors forest k) m t)
+    ap (λ ns. is_member m (filter E ns)) (is ∙ ap (λ ns. xs ++ k ∷ ns) up) ∙ ap (is_member m) (filter-append E xs (k ∷ ancestors forest k)) ∙ is_member-append (filter E xs) (filter E (k ∷ ancestors forest k)) m
+    ∙ or_right (is_member m (filter E xs)) (is_member m (filter E (k ∷ ancestors forest k))) (behind E k (ancestors forest k) m t)
   where
-    behind : (E : ℕ → Bool) (k : ℕ) (ns : List ℕ) (m : ℕ) → stands_in m (filter E ns) ≡ true → stands_in m (filter E (k ∷ ns)) ≡ true
+    behind : (E : ℕ → Bool) (k : ℕ) (ns : List ℕ) (m : ℕ) → is_member m (filter E ns) ≡ true → is_member m (filter E (k ∷ ns)) ≡ true
     behind E k ns m t = elim (cases_Bool (E k)) [
-      | inl e ↦ rw e (or_right (k == m) (stands_in m (filter E ns)) t)
+      | inl e ↦ rw e (or_right (k == m) (is_member m (filter E ns)) t)
       | inr f ↦ rw f t
     ]
 
@@ -105,9 +105,9 @@ above_trans forest n k m good s t =
 abbrev pub ClimbsOn : Gathered → Gathered → ℕ → List ℕ → Type 0
 ClimbsOn start now n left = (xs : List ℕ) × Gathers start now (filter (element_at start.tree.now) xs) × (ancestors start.tree.now n ≡ xs ++ left)
 
-in_tail : (E : ℕ → Bool) (a : ℕ) (rest : List ℕ) (m : ℕ) → stands_in m (filter E (a ∷ rest)) ≡ true → (a ≡ m) ⊎ (stands_in m (filter E rest) ≡ true)
+in_tail : (E : ℕ → Bool) (a : ℕ) (rest : List ℕ) (m : ℕ) → is_member m (filter E (a ∷ rest)) ≡ true → (a ≡ m) ⊎ (is_member m (filter E rest) ≡ true)
 in_tail E a rest m s = elim (cases_Bool (E a)) [
-  | inl e ↦ (let here : ((a == m) || stands_in m (filter E rest)) ≡ true = rw e at s in elim (or_cases (a == m) (stands_in m (filter E rest)) here) [
+  | inl e ↦ (let here : ((a == m) || is_member m (filter E rest)) ≡ true = rw e at s in elim (or_cases (a == m) (is_member m (filter E rest)) here) [
     | inl t ↦ inl (eqb-true a m t)
     | inr t ↦ inr t
   ])
@@ -115,7 +115,7 @@ in_tail E a rest m s = elim (cases_Bool (E a)) [
 ]
 
 -- it ends at one that was met
-pub ends_early : (start now : Gathered) (n a : ℕ) (rest : List ℕ) → IsForest start.tree.now → IsClosed start.tree.now start.seen → stands_in a now.seen ≡ true → ClimbsOn start now n (a ∷ rest)
+pub ends_early : (start now : Gathered) (n a : ℕ) (rest : List ℕ) → IsForest start.tree.now → IsClosed start.tree.now start.seen → is_member a now.seen ≡ true → ClimbsOn start now n (a ∷ rest)
     → Gathers start now (elements_above None start.tree.now n)
 ends_early start now n a rest good closed seen (xs, gathers, is) =
     let forest = start.tree.now in
@@ -126,13 +126,13 @@ ends_early start now n a rest good closed seen (xs, gathers, is) =
       met = λ before has.
           let then : HasGathered now (with_unseen before (filter E xs)) = gathers.met before has in
           let met = with_unseen before (filter E xs) in
-          let here : stands_in a met ≡ true = sym (then.seen a) ∙ seen in
-          let unmet : stands_in a (filter E xs) ≡ false = stands_in-filter E xs a ∙ ap (λ b. b && E a) new in
-          let old : stands_in a before ≡ true = or_last (stands_in a before) (stands_in a (filter E xs)) (sym (stands-with_unseen a before (filter E xs)) ∙ here) unmet in
-          let all : (m : ℕ) → stands_in m (filter E (a ∷ rest)) ≡ true → stands_in m met ≡ true = λ m s. elim (in_tail E a rest m s) [
-            | inl same ↦ subst (λ (k : ℕ). stands_in k met ≡ true) same here
+          let here : is_member a met ≡ true = sym (then.seen a) ∙ seen in
+          let unmet : is_member a (filter E xs) ≡ false = is_member-filter E xs a ∙ ap (λ b. b && E a) new in
+          let old : is_member a before ≡ true = or_last (is_member a before) (is_member a (filter E xs)) (sym (stands-with_unseen a before (filter E xs)) ∙ here) unmet in
+          let all : (m : ℕ) → is_member m (filter E (a ∷ rest)) ≡ true → is_member m met ≡ true = λ m s. elim (in_tail E a rest m s) [
+            | inl same ↦ subst (λ (k : ℕ). is_member k met ≡ true) same here
             | inr t ↦ stands-with_unseen m before (filter E xs)
-                ∙ or_left (stands_in m before) (stands_in m (filter E xs)) (sym (has.seen m) ∙ closed a m (has.seen a ∙ old) (ap (λ ns. stands_in m (filter E ns)) (sym up) ∙ t))
+                ∙ or_left (is_member m before) (is_member m (filter E xs)) (sym (has.seen m) ∙ closed a m (has.seen a ∙ old) (ap (λ ns. is_member m (filter E ns)) (sym up) ∙ t))
           ] in
           let split : filter E (ancestors forest n) ≡ filter E xs ++ filter E (a ∷ rest) = ap (filter E) is ∙ filter-append E xs (a ∷ rest) in
           subst (HasGathered now) (sym (ap (with_unseen before) split ∙ with_unseen-append before (filter E xs) (filter E (a ∷ rest)) ∙ all_met_before met (filter E (a ∷ rest)) all)) then;
@@ -169,10 +169,10 @@ closed_above old new n before good has closed gathers k m seen above =
     let forest = old.tree.now in
     let found = elements_above None forest n in
     let then : HasGathered new (with_unseen before found) = gathers.met before has in
-    let where_k : (stands_in k before || stands_in k found) ≡ true = sym (stands-with_unseen k before found) ∙ sym (then.seen k) ∙ seen in
-    then.seen m ∙ stands-with_unseen m before found ∙ elim (or_cases (stands_in k before) (stands_in k found) where_k) [
-      | inl t ↦ or_left (stands_in m before) (stands_in m found) (sym (has.seen m) ∙ closed k m (has.seen k ∙ t) above)
-      | inr t ↦ or_right (stands_in m before) (stands_in m found) (above_trans forest n k m good t above)
+    let where_k : (is_member k before || is_member k found) ≡ true = sym (stands-with_unseen k before found) ∙ sym (then.seen k) ∙ seen in
+    then.seen m ∙ stands-with_unseen m before found ∙ elim (or_cases (is_member k before) (is_member k found) where_k) [
+      | inl t ↦ or_left (is_member m before) (is_member m found) (sym (has.seen m) ∙ closed k m (has.seen k ∙ t) above)
+      | inr t ↦ or_right (is_member m before) (is_member m found) (above_trans forest n k m good t above)
     ]
 
 -- what is closed stays so

@@ -3,7 +3,7 @@ use Rattle.std.proofs.Common.{ℕ, ◌≡◌, ◌||◌, ◌==◌, true, false, B
 use Rattle.std.specs.Borrow.{Bor}
 use Rattle.std.specs.List.{flat_map, filter}
 use Rattle.dom_links.specs.Forest.{Forest}
-use Rattle.dom_links.specs.Lists.{stands_in}
+use Rattle.dom_links.specs.Lists.{is_member}
 use Rattle.dom_trees.specs.declared.node_ref.NodeRef.{NodeRef}
 use Rattle.dom_trees.specs.Views.{refs_to}
 use Rattle.dom_selection.specs.declared.selection.gathering.Gathered.{Gathered}
@@ -18,7 +18,7 @@ use Rattle.std.proofs.lemmas.Option.{none-some, same_Some}
 
 pub with_unseen-append : (met xs ys : List ℕ) → with_unseen met (xs ++ ys) ≡ with_unseen (with_unseen met xs) ys
 with_unseen-append met [] ys = refl
-with_unseen-append met (n ∷ xs) ys = with_unseen-append (cond (stands_in n met) met (met ++ n ∷ [])) xs ys
+with_unseen-append met (n ∷ xs) ys = with_unseen-append (cond (is_member n met) met (met ++ n ∷ [])) xs ys
 
 pub gathers_nothing : (g : Gathered) → Gathers g g []
 gathers_nothing g = record { tree = refl; met = λ before has. has }
@@ -30,9 +30,9 @@ gathers_then a b c xs ys m n = record {
 }
 
 -- what stands in a list and one more
-pub stands-append : (n m : ℕ) (ns : List ℕ) → stands_in n (ns ++ m ∷ []) ≡ ((m == n) || stands_in n ns)
+pub stands-append : (n m : ℕ) (ns : List ℕ) → is_member n (ns ++ m ∷ []) ≡ ((m == n) || is_member n ns)
 stands-append n m [] = refl
-stands-append n m (k ∷ ks) = ap (λ b. (k == n) || b) (stands-append n m ks) ∙ or_swap (k == n) (m == n) (stands_in n ks)
+stands-append n m (k ∷ ks) = ap (λ b. (k == n) || b) (stands-append n m ks) ∙ or_swap (k == n) (m == n) (is_member n ks)
   where
     or_swap : (a b c : Bool) → (a || (b || c)) ≡ (b || (a || c))
     or_swap true true c = refl
@@ -45,14 +45,14 @@ pub first_occurrences-same : (a b ns : List ℕ) → HaveSame a b → first_occu
 first_occurrences-same a b [] same = refl
 first_occurrences-same a b (n ∷ ns) same =
     ap (λ t. cond t (first_occurrences a ns) (n ∷ first_occurrences (n ∷ a) ns)) (sym (same n))
-    ∙ ap (λ ms. cond (stands_in n b) ms (n ∷ first_occurrences (n ∷ a) ns)) (first_occurrences-same a b ns same)
-    ∙ ap (λ ms. cond (stands_in n b) (first_occurrences b ns) (n ∷ ms)) (first_occurrences-same (n ∷ a) (n ∷ b) ns (λ m. ap (λ t. (n == m) || t) (same m)))
+    ∙ ap (λ ms. cond (is_member n b) ms (n ∷ first_occurrences (n ∷ a) ns)) (first_occurrences-same a b ns same)
+    ∙ ap (λ ms. cond (is_member n b) (first_occurrences b ns) (n ∷ ms)) (first_occurrences-same (n ∷ a) (n ∷ b) ns (λ m. ap (λ t. (n == m) || t) (same m)))
 
 -- those met are each number where it stands first
 pub with_unseen-first : (met ns : List ℕ) → with_unseen met ns ≡ met ++ first_occurrences met ns
 with_unseen-first met [] = sym (append-nil met)
 with_unseen-first met (n ∷ ns) =
-    elim (stands_in n met) as (λ t. with_unseen (cond t met (met ++ n ∷ [])) ns ≡ met ++ cond t (first_occurrences met ns) (n ∷ first_occurrences (n ∷ met) ns)) [
+    elim (is_member n met) as (λ t. with_unseen (cond t met (met ++ n ∷ [])) ns ≡ met ++ cond t (first_occurrences met ns) (n ∷ first_occurrences (n ∷ met) ns)) [
       | true ↦ with_unseen-first met ns
       | false ↦ with_unseen-first (met ++ n ∷ []) ns ∙ append_assoc met (n ∷ []) (first_occurrences (met ++ n ∷ []) ns)
           ∙ ap (λ ms. met ++ n ∷ ms) (first_occurrences-same (met ++ n ∷ []) (n ∷ met) ns (λ m. sym (stands-append m n met)))
@@ -64,7 +64,7 @@ refs-append tree [] id = refl
 refs-append tree (n ∷ ns) id = ap (λ refs. record { id = n; tree = tree } ∷ refs) (refs-append tree ns id)
 
 -- a node that wasn't seen is met
-pub gathers_new : (old new : Gathered) (id : ℕ) (node : NodeRef) → new.tree ≡ old.tree → stands_in id old.seen ≡ false → HaveSame (id ∷ old.seen) new.seen
+pub gathers_new : (old new : Gathered) (id : ℕ) (node : NodeRef) → new.tree ≡ old.tree → is_member id old.seen ≡ false → HaveSame (id ∷ old.seen) new.seen
     → node ≡ record { id = id; tree = old.tree } → new.nodes.items ≡ old.nodes.items ++ node ∷ [] → Gathers old new (id ∷ [])
 gathers_new old new id node same unseen seen is pushed = record {
   tree = same;
@@ -98,8 +98,8 @@ not_true : (b t : Bool) → t ≡ not b → t ≡ true → b ≡ false
 not_true true t e f = sym (sym e ∙ f)
 not_true false t e f = refl
 
-pub unseen : (id : ℕ) (seen : List ℕ) (t : Bool) → t ≡ not (stands_in id seen) → t ≡ true → stands_in id seen ≡ false
-unseen id seen t e f = not_true (stands_in id seen) t e f
+pub unseen : (id : ℕ) (seen : List ℕ) (t : Bool) → t ≡ not (is_member id seen) → t ≡ true → is_member id seen ≡ false
+unseen id seen t e f = not_true (is_member id seen) t e f
 
 -- one more node is asked whether it is an element
 pub goes_on_elements : (start now next : Gathered) (all it rest : List ℕ) (n : ℕ) → GoesOn start now all (filter (element_at start.tree.now) it) → it ≡ n ∷ rest

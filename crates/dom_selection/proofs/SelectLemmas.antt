@@ -8,7 +8,7 @@ use Rattle.dom_trees.specs.declared.node_ref.NodeRef.{NodeRef}
 use Rattle.dom_trees.specs.Views.{refs_to}
 use Rattle.dom_selectors.specs.Syntax.{SelectorList}
 use Rattle.dom_select.specs.Descendants.{GivesMatch, IsFirstMatch, IsMatch, Matches, ToCome}
-use Rattle.dom_select.specs.Meaning.{Means}
+use Rattle.dom_select.specs.Meaning.{MatchesNode}
 use Rattle.dom_index.specs.Index.{Finds}
 use Rattle.dom_links.specs.Lists.{without}
 use Rattle.dom_select.specs.Selected.{FiltersTo, Selected, walks_below}
@@ -19,54 +19,54 @@ use Rattle.dom_selection.proofs.SelectionLemmas.{ids_of-refs_to, one_tree_of}
 use Rattle.dom_selection.proofs.SetLemmas.{refs-joined}
 
 -- the selector means the node of that number in the tree of the first
-abbrev pub MeansIn : SelectorList → List NodeRef → ℕ → Type 0
-MeansIn selector [] n = ⊥
-MeansIn selector (node ∷ nodes) n = Means selector node.tree.now n
+abbrev pub MatchesNodeIn : SelectorList → List NodeRef → ℕ → Type 0
+MatchesNodeIn selector [] n = ⊥
+MatchesNodeIn selector (node ∷ nodes) n = MatchesNode selector node.tree.now n
 
 -- some were kept, and these are left to be asked
 abbrev pub KeptSoFar : SelectorList → List NodeRef → List NodeRef → List NodeRef → Type 0
 KeptSoFar selector all kept left =
-    (ids : List ℕ) × (kept ≡ refs_in all ids) × ((rest : List ℕ) → FiltersTo (MeansIn selector all) (ids_of left) rest → FiltersTo (MeansIn selector all) (ids_of all) (ids ++ rest))
+    (ids : List ℕ) × (kept ≡ refs_in all ids) × ((rest : List ℕ) → FiltersTo (MatchesNodeIn selector all) (ids_of left) rest → FiltersTo (MatchesNodeIn selector all) (ids_of all) (ids ++ rest))
 
 refs_in-none : (nodes : List NodeRef) → [] ≡ refs_in nodes []
 refs_in-none [] = refl
 refs_in-none (node ∷ nodes) = refl
 
 pub kept_none : (selector : SelectorList) (all left : List NodeRef) → left ≡ all → KeptSoFar selector all [] left
-kept_none selector all left e = ([], refs_in-none all, λ rest h. subst (λ ns. FiltersTo (MeansIn selector all) (ids_of ns) rest) e h)
+kept_none selector all left e = ([], refs_in-none all, λ rest h. subst (λ ns. FiltersTo (MatchesNodeIn selector all) (ids_of ns) rest) e h)
 
 refs_in-more : (all : List NodeRef) (tree : Bor Forest) (ids : List ℕ) (n : ℕ) (node : NodeRef) → tree_of all ≡ Some tree → node ≡ record { id = n; tree = tree } → refs_in all ids ++ node ∷ [] ≡ refs_in all (ids ++ n ∷ [])
 refs_in-more [] tree ids n node first is = absurd (none-some tree first)
 refs_in-more (one ∷ all) tree ids n node first is =
     ap (λ x. refs_to one.tree ids ++ x ∷ []) (is ∙ ap (λ (t : Bor Forest). record { id = n; tree = t }) (sym (same_Some one.tree tree first))) ∙ sym (refs-append one.tree ids n)
 
-means_in : (selector : SelectorList) (all : List NodeRef) (tree : Bor Forest) (n : ℕ) → tree_of all ≡ Some tree → MeansIn selector all n ≡ Means selector tree.now n
+means_in : (selector : SelectorList) (all : List NodeRef) (tree : Bor Forest) (n : ℕ) → tree_of all ≡ Some tree → MatchesNodeIn selector all n ≡ MatchesNode selector tree.now n
 means_in selector [] tree n first = absurd (none-some tree first)
-means_in selector (one ∷ all) tree n first = ap (λ (t : Bor Forest). Means selector t.now n) (same_Some one.tree tree first)
+means_in selector (one ∷ all) tree n first = ap (λ (t : Bor Forest). MatchesNode selector t.now n) (same_Some one.tree tree first)
 
 -- one more is asked
 pub keep_one : (selector : SelectorList) (all kept rest left : List NodeRef) (tree : Bor Forest) (n : ℕ) (node : NodeRef) (passes : Bool) → tree_of all ≡ Some tree
-    → node ≡ record { id = n; tree = tree } → ids_of left ≡ n ∷ ids_of rest → MatchBool passes (Means selector tree.now n) (Means selector tree.now n → ⊥)
+    → node ≡ record { id = n; tree = tree } → ids_of left ≡ n ∷ ids_of rest → MatchBool passes (MatchesNode selector tree.now n) (MatchesNode selector tree.now n → ⊥)
     → KeptSoFar selector all kept left → KeptSoFar selector all (kept ++ cond passes (node ∷ []) []) rest
 keep_one selector all kept rest left tree n node true first is split means (ids, refs, on) = (
   ids ++ n ∷ [],
   ap (λ ns. ns ++ node ∷ []) refs ∙ refs_in-more all tree ids n node first is,
   λ more h.
-      subst (FiltersTo (MeansIn selector all) (ids_of all)) (sym (append_assoc ids (n ∷ []) more))
-      (on (n ∷ more) (subst (λ ns. FiltersTo (MeansIn selector all) ns (n ∷ more)) (sym split) (inl (subst (λ (X : Type 0). X) (sym (means_in selector all tree n first)) means, more, refl, h)))),
+      subst (FiltersTo (MatchesNodeIn selector all) (ids_of all)) (sym (append_assoc ids (n ∷ []) more))
+      (on (n ∷ more) (subst (λ ns. FiltersTo (MatchesNodeIn selector all) ns (n ∷ more)) (sym split) (inl (subst (λ (X : Type 0). X) (sym (means_in selector all tree n first)) means, more, refl, h)))),
 )
 keep_one selector all kept rest left tree n node false first is split out (ids, refs, on) = (
   ids,
   append-nil kept ∙ refs,
   λ more h.
-      on more (subst (λ ns. FiltersTo (MeansIn selector all) ns more) (sym split) (inr ((λ m. out (subst (λ (X : Type 0). X) (means_in selector all tree n first) m)), h))),
+      on more (subst (λ ns. FiltersTo (MatchesNodeIn selector all) ns more) (sym split) (inr ((λ m. out (subst (λ (X : Type 0). X) (means_in selector all tree n first) m)), h))),
 )
 
 -- all were asked
 pub keeps_all : (selector : SelectorList) (all kept : List NodeRef) (tree : Bor Forest) → tree_of all ≡ Some tree → KeptSoFar selector all kept [] → Keeps selector all kept
 keeps_all selector [] kept tree first so_far = absurd (none-some tree first)
 keeps_all selector (one ∷ all) kept tree first (ids, refs, on) =
-    (ids, subst (FiltersTo (MeansIn selector (one ∷ all)) (ids_of (one ∷ all))) (append-nil ids) (on [] refl), refs)
+    (ids, subst (FiltersTo (MatchesNodeIn selector (one ∷ all)) (ids_of (one ∷ all))) (append-nil ids) (on [] refl), refs)
 
 pub kept_tree : (selector : SelectorList) (all kept left : List NodeRef) → KeptSoFar selector all kept left → HasOneTree kept
 kept_tree selector [] kept left (ids, refs, on) = subst HasOneTree (sym refs) tt

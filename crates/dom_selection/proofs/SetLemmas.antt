@@ -5,7 +5,7 @@ use Rattle.std.proofs.lemmas.Option.{none-some, same_Some}
 use Rattle.std.specs.List.{list_any}
 use Rattle.std.specs.Borrow.{Bor}
 use Rattle.dom_links.specs.Forest.{Forest}
-use Rattle.dom_links.specs.Lists.{stands_in, without}
+use Rattle.dom_links.specs.Lists.{is_member, without}
 use Rattle.dom_trees.specs.declared.node_ref.NodeRef.{NodeRef}
 use Rattle.dom_trees.specs.Views.{refs_to}
 use Rattle.dom_selection.specs.Seen.{HaveSame}
@@ -13,7 +13,7 @@ use Rattle.dom_selection.specs.Selections.{HasOneTree, added, common, has_number
 use Rattle.dom_selection.proofs.SelectionLemmas.{one_tree_of}
 
 abbrev pub is_among : List NodeRef → NodeRef → Bool
-is_among others node = stands_in node.id (ids_of others)
+is_among others node = is_member node.id (ids_of others)
 
 -- one more node is kept or not
 pub keep_step : (p : NodeRef → Bool) (kept : List NodeRef) (node : NodeRef) (rest whole : List NodeRef) (passes : Bool) → passes ≡ p node
@@ -47,9 +47,9 @@ common_of nodes [] some = absurd (some refl)
 common_of nodes (other ∷ others) some = refl
 
 pub add_step : (nodes all : List NodeRef) (tree : Bor Forest) (node : NodeRef) (id : ℕ) (rest : List ℕ) (whole : List NodeRef) (passes : Bool) → tree_of nodes ≡ Some tree
-    → node ≡ record { id = id; tree = tree } → passes ≡ not (stands_in id (ids_of nodes))
+    → node ≡ record { id = id; tree = tree } → passes ≡ not (is_member id (ids_of nodes))
     → all ++ refs_in nodes (without (ids_of nodes) (id ∷ rest)) ≡ whole → (all ++ cond passes (node ∷ []) []) ++ refs_in nodes (without (ids_of nodes) rest) ≡ whole
-add_step nodes all tree node id rest whole passes first is new e = ap (λ t. (all ++ cond t (node ∷ []) []) ++ refs_in nodes left) new ∙ step (stands_in id (ids_of nodes)) ∙ e
+add_step nodes all tree node id rest whole passes first is new e = ap (λ t. (all ++ cond t (node ∷ []) []) ++ refs_in nodes left) new ∙ step (is_member id (ids_of nodes)) ∙ e
   where
     left : List ℕ
     left = without (ids_of nodes) rest
@@ -85,12 +85,12 @@ one_tree-added (node ∷ nodes) others one =
     one_tree_of _ node.tree (ids_of (node ∷ nodes) ++ more) (ap (λ ns. ns ++ refs_to node.tree more) one ∙ refs-joined node.tree (ids_of (node ∷ nodes)) more)
 
 -- the same is asked of each
-pub any_same : (others seen : List ℕ) (nodes : List NodeRef) → HaveSame others seen → list_any (λ (node : NodeRef). stands_in node.id seen) nodes ≡ list_any (λ (node : NodeRef). stands_in node.id others) nodes
+pub any_same : (others seen : List ℕ) (nodes : List NodeRef) → HaveSame others seen → list_any (λ (node : NodeRef). is_member node.id seen) nodes ≡ list_any (λ (node : NodeRef). is_member node.id others) nodes
 any_same others seen [] same = refl
 any_same others seen (node ∷ nodes) same =
-    ap (λ t. t || list_any (λ (n : NodeRef). stands_in n.id seen) nodes) (same node.id) ∙ ap (λ t. stands_in node.id others || t) (any_same others seen nodes same)
+    ap (λ t. t || list_any (λ (n : NodeRef). is_member n.id seen) nodes) (same node.id) ∙ ap (λ t. is_member node.id others || t) (any_same others seen nodes same)
 
 -- a number is that of one of the nodes
-pub any_id : (n : ℕ) (nodes : List NodeRef) → list_any (has_number n) nodes ≡ stands_in n (ids_of nodes)
+pub any_id : (n : ℕ) (nodes : List NodeRef) → list_any (has_number n) nodes ≡ is_member n (ids_of nodes)
 any_id n [] = refl
 any_id n (node ∷ nodes) = ap (λ t. (node.id == n) || t) (any_id n nodes)

@@ -1,4 +1,4 @@
-//! The elements that selectors select in a document.
+//! Selecting elements of a document by CSS selectors.
 
 ghost use Rattle.std.specs.Prelude.{chars, IfErr, IfOk};
 ghost use Rattle.dom_links.specs.Forest.{Forest};
@@ -12,35 +12,41 @@ use dom_nodes::fault::OutOfMemory;
 use dom_select::matcher::Matcher;
 use dom_selectors::fault::SelectorFault;
 
-/// A document that is selected from: what is below its root.
+/// Selects elements below the root of a document.
 pub trait DocumentSelect {
     // The forest of the document.
     ghost forest: { Self → Forest };
 
-    /// The elements that match one of the matcher's selectors, in preorder.
+    /// Returns the elements below the root that match one of the matcher's selectors, in document
+    /// order. It fails with `OutOfMemory` when memory is refused.
     fn select_matcher(&self, matcher: &Matcher) -> Result<Selection<'_>, OutOfMemory>
         ensures { IfOk result (SelectsIn matcher.now (forest self.now)) };
 
-    /// The elements that match one of the selectors in the text, in preorder. Refused as
-    /// `Matcher::new` refuses the text.
+    /// Returns the elements below the root that match one of the selectors in the text, in document
+    /// order. The text is parsed on every call; for repeated use, make a `Matcher` once. It fails
+    /// with the fault of `Matcher::new` when the text is no selector list, or when memory is
+    /// refused.
     fn select(&self, selectors: &str) -> Result<Selection<'_>, SelectorFault>
         ensures ok { IfOk result (GivesByText selectors.now (λ s. SelectsIn s (forest self.now))) }
         ensures refused { IfErr result (Refused (chars selectors.now)) };
 
-    /// As `select`.
+    /// Returns what `select` returns, and fails as it does; it is another name of the same call.
     fn nip(&self, selectors: &str) -> Result<Selection<'_>, SelectorFault>
         ensures ok { IfOk result (GivesByText selectors.now (λ s. SelectsIn s (forest self.now))) }
         ensures refused { IfErr result (Refused (chars selectors.now)) };
 
-    /// The same as `select`, but None where nothing is selected or the text is outside the grammar.
+    /// Returns what `select` returns, but `None` when nothing is selected or the text is no
+    /// selector list. It fails with `OutOfMemory` when memory is refused.
     fn try_select(&self, selectors: &str) -> Result<Option<Selection<'_>>, OutOfMemory>
         ensures { IfOk result (SelectsSomeIn selectors.now (forest self.now)) };
 
-    /// The first of what `select_matcher` returns, alone; none of none.
+    /// Returns the first of the elements that `select_matcher` returns, or an empty selection when
+    /// there is none. It fails with `OutOfMemory` when memory is refused.
     fn select_single_matcher(&self, matcher: &Matcher) -> Result<Selection<'_>, OutOfMemory>
         ensures { IfOk result (SelectsFirstIn matcher.now (forest self.now)) };
 
-    /// The first of what `select` returns, alone; none of none.
+    /// Returns the first of the elements that `select` returns, or an empty selection when there is
+    /// none. It fails as `select` does.
     fn select_single(&self, selectors: &str) -> Result<Selection<'_>, SelectorFault>
         ensures ok { IfOk result (GivesByText selectors.now
             (λ s. SelectsFirstIn s (forest self.now))) }

@@ -1,4 +1,4 @@
-//! Nodes of one tree that are read together.
+//! `Selection`: a list of nodes of one tree, for reading.
 
 ghost use Rattle.std.specs.Prelude.{◌≡◌, ◌≢◌, ◌∷◌, ◌++◌, [], length, reverse, slice_get};
 ghost use Rattle.std.specs.Prelude.{IfOk, IfSome, MatchBool, OnOk, if◌then◌else◌};
@@ -25,14 +25,15 @@ mod selecting;
 mod sets;
 mod texts;
 
-/// One node, or any number of them.
+/// One node, which needs no memory, or any number of them.
 #[derive(Drop)]
 enum Nodes<'a> {
     One(NodeRef<'a>),
     Several(Vec<NodeRef<'a>>),
 }
 
-/// Nodes of one tree, in an order; a node may stand there twice. A contract sees the list of them.
+/// A list of nodes of one tree. A node may occur more than once. In a contract a `Selection` is the
+/// list of its nodes.
 #[derive(Drop)]
 pub struct Selection<'a> {
     nodes: Nodes<'a>,
@@ -54,7 +55,7 @@ impl<'a> Model for Selection<'a> {
 impl<'a> From<NodeRef<'a>> for Selection<'a> {
     ghost from_gives = { λ node made. made ≡ node ∷ [] };
 
-    /// The node alone. It takes no memory.
+    /// Returns the selection of this node. It allocates no memory.
     fn from(node: NodeRef<'a>) -> Selection<'a> {
         Selection {
             nodes: Nodes::One(NodeRef::new(node.id, node.tree)),
@@ -65,8 +66,9 @@ impl<'a> From<NodeRef<'a>> for Selection<'a> {
 impl<'a> From<Vec<NodeRef<'a>>> for Selection<'a> {
     ghost from_gives = { λ nodes made. made ≡ in_one_tree nodes.items };
 
-    /// The nodes in their order. Where they are of several trees, each is taken for the node of its
-    /// number in the tree of the first. It takes no memory.
+    /// Returns the selection of these nodes, in their order. A selection has one tree: if the nodes
+    /// are of several trees, each is replaced by the node with its id in the tree of the first one.
+    /// It allocates no memory.
     fn from(nodes: Vec<NodeRef<'a>>) -> Selection<'a> {
         let mut nodes = nodes;
         put_in_one_tree(&mut nodes);
@@ -74,7 +76,7 @@ impl<'a> From<Vec<NodeRef<'a>>> for Selection<'a> {
     }
 }
 
-/// Puts all nodes into the tree of the first.
+/// Replaces each node by the node with its id in the tree of the first one.
 fn put_in_one_tree(nodes: &mut Vec<NodeRef<'_>>)
     ensures { nodes.new.items ≡ in_one_tree nodes.old.items }
 {
@@ -88,7 +90,7 @@ fn put_in_one_tree(nodes: &mut Vec<NodeRef<'_>>)
 }
 
 impl<'a> Selection<'a> {
-    /// No nodes.
+    /// Returns the empty selection. It allocates no memory.
     pub fn new(alloc: Global) -> Selection<'a>
         ensures { result ≡ [] }
     {
@@ -97,7 +99,8 @@ impl<'a> Selection<'a> {
         }
     }
 
-    /// The nodes of these numbers in the tree, in their order.
+    /// Returns the nodes of the tree with these ids, in their order. It fails with `OutOfMemory`
+    /// when memory is refused.
     pub fn from_ids(tree: &'a Tree, ids: &[NodeId]) -> Result<Selection<'a>, OutOfMemory>
         ensures { Lists result (refs_to tree.entry ids.now) }
     {
@@ -109,7 +112,7 @@ impl<'a> Selection<'a> {
         Ok(Selection::of_one_tree(nodes))
     }
 
-    /// The nodes.
+    /// Returns the nodes.
     pub fn nodes(&self) -> &[NodeRef<'a>]
         ensures nodes { result.now ≡ self.now }
         ensures one_tree { HasOneTree self.now }
@@ -120,49 +123,49 @@ impl<'a> Selection<'a> {
         }
     }
 
-    /// The node at that place, counted from 0.
+    /// Returns the node at this index, or `None` past the end.
     pub fn get(&self, index: usize) -> Option<&NodeRef<'a>>
         ensures { option_copied result ≡ slice_get self.now index }
     {
         self.nodes().get(index)
     }
 
-    /// How many nodes there are.
+    /// Returns the number of nodes.
     pub fn length(&self) -> usize
         ensures { result ≡ length self.now }
     {
         self.nodes().len()
     }
 
-    /// As `length`.
+    /// Returns the number of nodes; it is another name of `length`.
     pub fn size(&self) -> usize
         ensures { result ≡ length self.now }
     {
         self.length()
     }
 
-    /// Whether there is a node.
+    /// Returns whether there is at least one node.
     pub fn exists(&self) -> bool
         ensures { MatchBool result (self.now ≢ []) (self.now ≡ []) }
     {
         !self.is_empty()
     }
 
-    /// Whether there is no node.
+    /// Returns whether there is no node.
     pub fn is_empty(&self) -> bool
         ensures { MatchBool result (self.now ≡ []) (self.now ≢ []) }
     {
         self.nodes().is_empty()
     }
 
-    /// The numbers of the nodes.
+    /// Returns the ids of the nodes. It fails with `OutOfMemory` when memory is refused.
     pub fn ids(&self) -> Result<Vec<NodeId>, OutOfMemory>
         ensures { IfOk result (λ ids. ids.items ≡ ids_of self.now) }
     {
         ids_of(self.allocator(), self.nodes())
     }
 
-    /// The tree of the nodes, if there is a node.
+    /// Returns the tree of the nodes, or `None` for the empty selection.
     pub(crate) fn tree(&self) -> Option<&'a Tree>
         ensures tree { result ≡ tree_of self.now }
         ensures all { IfSome result (λ tree. self.now ≡ refs_to tree (ids_of self.now)) }
@@ -173,8 +176,8 @@ impl<'a> Selection<'a> {
         }
     }
 
-    /// The allocator of the selection's memory. No clause: a contract sees the selection as the
-    /// list of its nodes, and this says nothing of it.
+    /// Returns the allocator of the selection. There is no `ensures` clause, because a contract
+    /// sees the selection as a list of nodes and an allocator says nothing about that.
     pub fn allocator(&self) -> Global {
         match &self.nodes {
             Nodes::One(node) => node.tree.allocator(),
@@ -182,7 +185,7 @@ impl<'a> Selection<'a> {
         }
     }
 
-    /// The same nodes in memory of their own.
+    /// Returns a copy of the selection. It fails with `OutOfMemory` when memory is refused.
     pub fn try_clone(&self) -> Result<Selection<'a>, OutOfMemory>
         ensures { Lists result self.now }
     {
@@ -190,7 +193,7 @@ impl<'a> Selection<'a> {
         Ok(Selection::of_one_tree(nodes))
     }
 
-    /// The nodes, all of one tree.
+    /// Returns the selection of these nodes, which must be of one tree.
     pub(crate) fn of_one_tree(nodes: Vec<NodeRef<'a>>) -> Selection<'a>
         requires { HasOneTree nodes.items }
         ensures { result ≡ nodes.entry.items }
@@ -200,7 +203,8 @@ impl<'a> Selection<'a> {
         }
     }
 
-    /// The first node alone; none of none. It takes no memory.
+    /// Returns the first node as a selection, or the empty selection when there is none. It
+    /// allocates no memory.
     pub fn first(&self) -> Selection<'a>
         ensures { result ≡ first_alone self.now }
     {
@@ -210,7 +214,8 @@ impl<'a> Selection<'a> {
         }
     }
 
-    /// The last node alone; none of none. It takes no memory.
+    /// Returns the last node as a selection, or the empty selection when there is none. It
+    /// allocates no memory.
     pub fn last(&self) -> Selection<'a>
         ensures { result ≡ first_alone (reverse self.now) }
     {
@@ -221,7 +226,7 @@ impl<'a> Selection<'a> {
     }
 }
 
-/// The numbers of the nodes.
+/// Returns the ids of the nodes.
 pub(crate) fn ids_of(alloc: Global, nodes: &[NodeRef<'_>]) -> Result<Vec<NodeId>, OutOfMemory>
     ensures { IfOk result (λ ids. ids.items ≡ ids_of nodes.now) }
 {
@@ -232,7 +237,7 @@ pub(crate) fn ids_of(alloc: Global, nodes: &[NodeRef<'_>]) -> Result<Vec<NodeId>
     Ok(ids)
 }
 
-/// The same nodes.
+/// Returns a copy of the list of nodes.
 fn copies_of<'a>(alloc: Global, nodes: &[NodeRef<'a>]) -> Result<Vec<NodeRef<'a>>, OutOfMemory>
     ensures { IfOk result (λ copies. copies.items ≡ nodes.now) }
 {
@@ -243,7 +248,7 @@ fn copies_of<'a>(alloc: Global, nodes: &[NodeRef<'a>]) -> Result<Vec<NodeRef<'a>
     Ok(copies)
 }
 
-/// Adds a node.
+/// Appends a node.
 pub(crate) fn push_node<'a>(
     nodes: &mut Vec<NodeRef<'a>>,
     node: &NodeRef<'a>,
@@ -256,7 +261,7 @@ pub(crate) fn push_node<'a>(
     }
 }
 
-/// Adds a node, if it passes.
+/// Appends a node if `passes` is true.
 pub(crate) fn push_if<'a>(
     nodes: &mut Vec<NodeRef<'a>>,
     node: &NodeRef<'a>,

@@ -1,4 +1,4 @@
--- When an attribute's value is what an attribute part asks for. Values are texts in UTF-8.
+-- Whether an attribute's value passes the comparison of an attribute selector. Values are UTF-8 texts.
 use Rattle.std.specs.Prelude.{ℕ, ◌-◌, List, [], ◌∷◌, Bool, true, false, ◌&&◌, ◌||◌, nat_eq, not, drop, length}
 use Rattle.std.specs.Char.{to_ascii_lowercase}
 use Rattle.std.specs.List.{list_any}
@@ -11,7 +11,7 @@ use Rattle.dom_selectors.specs.declared.syntax.AttrOperator.TheVariants.{Equals,
 use Rattle.dom_nodes.specs.declared.case_sensitivity.CaseSensitivity.{CaseSensitivity}
 use Rattle.dom_nodes.specs.declared.case_sensitivity.CaseSensitivity.TheVariants.{CaseSensitive, AsciiCaseInsensitive}
 
--- the bytes are equal, those of ASCII letters without their case where it doesn't count
+-- the bytes are equal; if case is ignored, ASCII letters are compared in lower case
 abbrev pub same_byte : CaseSensitivity → ℕ → ℕ → Bool
 same_byte CaseSensitive a b = nat_eq a b
 same_byte AsciiCaseInsensitive a b = nat_eq (to_ascii_lowercase a) (to_ascii_lowercase b)
@@ -27,7 +27,7 @@ begins_with case text [] = true
 begins_with case [] (b ∷ bs) = false
 begins_with case (a ∷ more) (b ∷ bs) = same_byte case a b && begins_with case more bs
 
--- the last bytes, as many as the other text has, are that text
+-- the last bytes of the text, as many as `end` has, are `end`
 abbrev pub ends_with : CaseSensitivity → List ℕ → List ℕ → Bool
 ends_with case text end = same_text case (drop (length text - length end) text) end
 
@@ -43,12 +43,12 @@ abbrev pub is_empty : List ℕ → Bool
 is_empty [] = true
 is_empty (b ∷ bs) = false
 
--- the text begins with the value and then `-`
+-- the text starts with the value and then `-`
 abbrev pub begins_with_dash : CaseSensitivity → List ℕ → List ℕ → Bool
 begins_with_dash case found value = begins_with case found value && begins (λ c. nat_eq c hyphen) (drop (length value) found)
 
--- An attribute's value is as the operator says. Nothing begins or ends with an empty value, or contains it, and no word is empty
--- or has whitespace in it
+-- The value of an attribute passes the operator. An empty value is never a prefix, suffix or substring, and an empty value or one
+-- with whitespace is never a word.
 abbrev pub compares : AttrOperator → CaseSensitivity → List ℕ → List ℕ → Bool
 compares Equals case found value = same_text case found value
 compares Includes case found value = has_word case value (words_of found)

@@ -1,16 +1,16 @@
--- Lists of what a selector is made of, as its trees.
+-- Lists of selectors and their parts, converted to the trees of `Syntax`.
 use Rattle.std.specs.Prelude.{List, [], ◌∷◌}
 use Rattle.dom_selectors.specs.declared.syntax.Combinator.{Combinator}
 use Rattle.dom_selectors.specs.declared.syntax.Part.{Part}
 use Rattle.dom_selectors.specs.Syntax.{CompoundSelector, NestedLists, no_lists, nested, NestedList, SelectorList, no_selectors, alternative, Steps, no_steps, step}
 
--- what can stand in a compound behind its type
+-- what a compound selector may have after its type selector
 pub data Item : Type 0 where
   simple : Part → Item
   two_parts : Part → Part → Item
   listed : NestedList → Item
 
--- the parts and the lists among the items, each in their order
+-- the simple selectors and the nested lists among the items, each in order
 abbrev pub parts_among : List Item → List Part
 parts_among [] = []
 parts_among (simple part ∷ items) = part ∷ parts_among items

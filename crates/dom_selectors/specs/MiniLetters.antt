@@ -1,4 +1,4 @@
--- The characters that mini selectors tell apart, and the fronts of a text that they make up.
+-- The character classes of mini selectors, and splitting a text by them.
 use Rattle.std.specs.Prelude.{ℕ, List, Bool, ◌||◌, not, nat_eq, drop}
 use Rattle.std.specs.Char.{is_ascii_alphanumeric}
 use Rattle.std.specs.List.{prefix_len}
@@ -13,16 +13,16 @@ is_blank c = nat_eq c space || nat_eq c tab || nat_eq c line_feed || nat_eq c ca
 abbrev pub is_word : ℕ → Bool
 is_word c = is_ascii_alphanumeric c || nat_eq c hyphen
 
--- the character of a kind
+-- a character of this class
 abbrev pub passes : CharKind → ℕ → Bool
 passes Blank c = is_blank c
 passes Word c = is_word c
 
--- another character than this one
+-- any character but this one
 abbrev pub isnt : ℕ → ℕ → Bool
 isnt stop c = not (nat_eq c stop)
 
--- what follows the characters at the front that pass the test
+-- the text without the leading characters that pass the test
 abbrev pub after_while : (ℕ → Bool) → List ℕ → List ℕ
 after_while test text = drop (prefix_len test text) text
 

@@ -1,4 +1,4 @@
--- What a mini selector is.
+-- Mini selectors as values.
 use Rattle.std.specs.Prelude.{ℕ, List, [], ◌∷◌, Bool, true, false, ◌||◌, Option, None, Some, is_some, map, unwrap_or}
 use Rattle.std.specs.Borrow.{Bor}
 use Rattle.std.specs.Option.{option_map}
@@ -7,12 +7,12 @@ use Rattle.dom_selectors.specs.declared.syntax.Combinator.TheVariants.{Descendan
 use Rattle.dom_selectors.specs.declared.syntax.AttrOperator.{AttrOperator}
 use Rattle.dom_selectors.specs.declared.mini_selector.selector.MiniAttr.{MiniAttr}
 
--- an attribute's name, and how its value is compared with which text, if it is
+-- an attribute's name, with an operator and a value if there is a comparison
 pub record Asked : Type 0 where
   pub key : List ℕ
   pub test : Option (AttrOperator × List ℕ)
 
--- the parts of a mini selector that are there
+-- a mini selector; a part that is missing in the text is `None` or an empty list
 pub record Mini : Type 0 where
   pub lead : Option Combinator
   pub name : Option (List ℕ)
@@ -20,11 +20,11 @@ pub record Mini : Type 0 where
   pub classes : List (List ℕ)
   pub attrs : List Asked
 
--- a mini selector of a name alone
+-- the mini selector with a name alone
 abbrev pub named : List ℕ → Mini
 named name = record { lead = None; name = Some name; id = None; classes = []; attrs = [] }
 
--- the texts that slices show
+-- the texts of slices
 abbrev pub texts_of : List (Bor (List ℕ)) → List (List ℕ)
 texts_of slices = map (λ slice. slice.now) slices
 
@@ -34,7 +34,7 @@ shown_test test = (test.0, test.1.now)
 abbrev pub asked_of : MiniAttr → Asked
 asked_of attr = record { key = attr.key.now; test = option_map shown_test attr.test }
 
--- without a sign it is whitespace's
+-- the combinator; without a sign it is the descendant combinator
 abbrev pub combinator_of : Mini → Combinator
 combinator_of mini = unwrap_or mini.lead Descendant
 

@@ -1,4 +1,4 @@
--- Of what a mini selector is true.
+-- Which nodes a mini selector matches, by their own data.
 use Rattle.std.specs.Prelude.{ℕ, List, Bool, true, false, ◌&&◌, not, Option, Some, None, codes, is_some}
 use Rattle.std.specs.List.{list_all, list_any}
 use Rattle.std.specs.Option.{option_map_or}
@@ -13,24 +13,24 @@ use Rattle.dom_selectors.specs.declared.syntax.AttrOperator.{AttrOperator}
 use Rattle.dom_selectors.specs.Comparisons.{compares, is_empty}
 use Rattle.dom_selectors.specs.MiniSyntax.{Asked, Mini}
 
--- an element of that local name, where one is asked for
+-- the element has this local name, if the selector has a name
 abbrev pub name_holds : Option (List ℕ) → Element → Bool
 name_holds None element = true
 name_holds (Some name) element = bytes_eq element.name.local name
 
--- the first attribute `id` has that value, where one is asked for
+-- the first attribute `id` has this value, if the selector has an id
 abbrev pub id_holds : Option (List ℕ) → Element → Bool
 id_holds None element = true
 id_holds (Some id) element = option_map_or (λ value. bytes_eq value id) (attr_of element.attrs (codes "id")) false
 
--- a value that isn't empty is as the operator says
+-- the value is not empty and passes the operator
 abbrev pub test_passes : AttrOperator × List ℕ → List ℕ → Bool
 test_passes test value = not (is_empty value) && compares test.0 CaseSensitive value test.1
 
 abbrev pub attr_passes : List ℕ → AttrOperator × List ℕ → Attr → Bool
 attr_passes key test attr = bytes_eq attr.name.local key && test_passes test attr.value
 
--- there is an attribute of that local name, or one of them passes the test
+-- the element has an attribute with this local name, or one of them passes the comparison
 abbrev pub asked_holds : Element → List ℕ → Option (AttrOperator × List ℕ) → Bool
 asked_holds element key None = is_some (attr_of element.attrs key)
 asked_holds element key (Some test) = list_any (attr_passes key test) element.attrs
@@ -39,22 +39,22 @@ asked_holds element key (Some test) = list_any (attr_passes key test) element.at
 abbrev pub has_class : Element → List ℕ → Bool
 has_class element class = is_among class (class_words element.attrs)
 
--- it has all of the classes
+-- the element has all of the classes
 abbrev pub classes_hold : List (List ℕ) → Element → Bool
 classes_hold classes element = list_all (λ class. has_class element class) classes
 
 abbrev pub is_as_asked : Element → Asked → Bool
 is_as_asked element asked = asked_holds element asked.key asked.test
 
--- it has each of the attributes, as asked
+-- the element passes the test for each of the attributes
 abbrev pub attrs_hold : List Asked → Element → Bool
 attrs_hold attrs element = list_all (λ asked. is_as_asked element asked) attrs
 
--- the element is all that is asked for
+-- the element passes every part of the selector
 abbrev pub element_passes : Mini → Element → Bool
 element_passes mini element = name_holds mini.name element && id_holds mini.id element
     && classes_hold mini.classes element && attrs_hold mini.attrs element
 
--- it is true of elements alone
+-- only elements match
 abbrev pub node_passes : Mini → NodeData → Bool
 node_passes mini node = option_map_or (element_passes mini) (element_of node) false

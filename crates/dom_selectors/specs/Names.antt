@@ -1,4 +1,4 @@
--- Identifiers and their escapes.
+-- Identifiers and their escapes, as in CSS Syntax.
 use Rattle.std.specs.Prelude.{◌≡◌, ℕ, List, [], ◌∷◌, Bool, true, false, ◌&&◌, ◌||◌, nat_eq, cond, drop, take, encode_utf8_all, MatchBool}
 use Rattle.std.specs.Char.{is_digit, is_ascii_whitespace}
 use Rattle.std.specs.List.{prefix_len}
@@ -11,21 +11,21 @@ use Rattle.dom_selectors.specs.Characters.{replacement_character, is_line_end, i
 abbrev pub is_hex : ℕ → Bool
 is_hex c = is_digit c 16
 
--- how many hexadecimal digits are at the front, six at most
+-- how many hexadecimal digits the text starts with, at most six
 abbrev pub hex_len : List ℕ → ℕ
 hex_len text = prefix_len is_hex (take 6 text)
 
--- the text without a whitespace character at its front; a carriage return with a line feed is one
+-- the text without one leading whitespace character; a carriage return and a line feed count as one
 abbrev pub after_space : List ℕ → List ℕ
 after_space [] = []
 after_space (c ∷ []) = cond (is_ascii_whitespace c) [] (c ∷ [])
 after_space (c ∷ d ∷ text) = cond (nat_eq c carriage_return && nat_eq d line_feed) text (cond (is_ascii_whitespace c) (d ∷ text) (c ∷ d ∷ text))
 
--- the character of a number, or U+FFFD where it is 0, a surrogate or past U+10FFFF
+-- the character with this code point, or U+FFFD if it is 0, a surrogate or above U+10FFFF
 abbrev pub char_of : ℕ → ℕ
 char_of n = cond (nat_eq n 0) replacement_character (cond (scalar n) n replacement_character)
 
--- what follows a `\`
+-- what follows a `\`: hexadecimal digits and optional whitespace, or any character but a line end
 abbrev pub SpellsEscape : ℕ → List ℕ → List ℕ → Type 0
 SpellsEscape v [] rest = ⊥
 SpellsEscape v (c ∷ more) rest = MatchBool (is_hex c)
@@ -43,12 +43,12 @@ goes_on text = begins (λ c. is_name_char c || nat_eq c backslash) text
 abbrev pub starts : ℕ → Bool
 starts c = is_name_start c || nat_eq c backslash
 
--- `--`, or an optional `-` and a character that starts a name, or an escape
+-- the start of an identifier: `--`, or an optional `-` and then a character that can start a name or an escape
 abbrev pub starts_name : List ℕ → Bool
 starts_name [] = false
 starts_name (c ∷ more) = starts c || (nat_eq c hyphen && begins (λ d. nat_eq d hyphen || starts d) more)
 
--- an identifier, as long as it goes, whose text is in UTF-8
+-- an identifier, as long as possible, as UTF-8
 pub record SpellsName (bytes text rest : List ℕ) : Type 0 where
   pub starts : starts_name text ≡ true
   pub name : List ℕ

@@ -1,10 +1,10 @@
--- How a pseudo-class is written.
+-- The text of a pseudo-class.
 use Rattle.std.specs.Prelude.{ℕ, List, ◌++◌, codes}
 use Rattle.dom_selectors.specs.Css.{css_text}
 use Rattle.dom_selectors.specs.declared.pseudo_class.NonTSPseudoClass.{NonTSPseudoClass}
 use Rattle.dom_selectors.specs.declared.pseudo_class.NonTSPseudoClass.TheVariants.{AnyLink, Link, Visited, Active, Focus, Hover, Enabled, Disabled, Checked, Indeterminate, OnlyText, HasText, Contains}
 
--- its name behind a colon, and `(` where it asks for a text
+-- a colon and its name, with `(` if it has an argument
 abbrev pub pseudo_name : NonTSPseudoClass → List ℕ
 pseudo_name pseudo = elim pseudo [
   | AnyLink ↦ codes ":any-link"
@@ -22,7 +22,7 @@ pseudo_name pseudo = elim pseudo [
   | Contains text ↦ codes ":contains("
 ]
 
--- then the text as a string, and `)`
+-- its argument as a string, and `)`
 abbrev pub pseudo_rest : NonTSPseudoClass → List ℕ
 pseudo_rest (HasText text) = css_text text.0 ++ codes ")"
 pseudo_rest (Contains text) = css_text text.0 ++ codes ")"

@@ -1,4 +1,4 @@
--- How a selector is written.
+-- The text of a selector.
 use Rattle.std.specs.Prelude.{ℕ, List, [], ◌∷◌, ◌++◌, Bool, true, false, nat_eq, cond, chars, codes, decimal, encode_utf8_all, Option, None, Some, if◌then◌else◌}
 use Rattle.std.specs.List.{flat_map}
 use Rattle.dom_nodes.specs.declared.case_sensitivity.CaseSensitivity.{CaseSensitivity}
@@ -18,12 +18,12 @@ use Rattle.dom_selectors.specs.declared.syntax.Comparison.{Comparison}
 use Rattle.dom_selectors.specs.declared.syntax.Part.{Part}
 use Rattle.dom_selectors.specs.declared.syntax.Part.TheVariants.{Universal, Id, Class, Attribute, Root, Link, Never, Position, Empty, OnlyText, HasText, Contains}
 
--- a character that an identifier has as it is, at its front or behind
+-- a character that needs no escape in an identifier, at its start or later
 abbrev pub is_plain : Bool → ℕ → Bool
 is_plain true c = is_name_start c
 is_plain false c = is_name_char c
 
--- a character of an identifier: as it is, U+FFFD for U+0000, any other by its number
+-- one character of an identifier: unchanged if it needs no escape, U+FFFD for U+0000, and otherwise an escaped code point
 abbrev pub name_char : Bool → ℕ → List ℕ
 name_char is_first c = cond (is_plain is_first c) (c ∷ []) (cond (nat_eq c 0) (replacement_character ∷ []) (hex_escape c))
 
@@ -31,7 +31,7 @@ abbrev pub name_chars : List ℕ → List ℕ
 name_chars [] = []
 name_chars (c ∷ cs) = name_char true c ++ flat_map (name_char false) cs
 
--- the identifier of a text in UTF-8, in UTF-8
+-- the identifier for a UTF-8 text, as UTF-8
 abbrev pub name_css : List ℕ → List ℕ
 name_css text = encode_utf8_all (name_chars (chars text))
 
@@ -42,12 +42,12 @@ abbrev pub case_css : CaseSensitivity → List ℕ
 case_css CaseSensitive = codes ""
 case_css AsciiCaseInsensitive = codes " i"
 
--- the operator, the value as a string, and the flag where case doesn't count
+-- the operator, the value as a string, and the flag if case is ignored
 abbrev pub asked_css : Option Comparison → List ℕ
 asked_css None = codes ""
 asked_css (Some comparison) = operator_css comparison.operator ++ css_text comparison.value ++ case_css comparison.case_sensitivity
 
--- a sign, where it is negative or the other is asked for, and the number
+-- a number with its sign; `sign` is written for a number that is not negative
 abbrev pub signed_css : List ℕ → Signed → List ℕ
 signed_css sign number = (if number.is_negative then codes "-" else sign) ++ decimal number.magnitude
 
@@ -60,7 +60,7 @@ kind_css kinds.LastChild = codes ":nth-last-child("
 kind_css kinds.OfType = codes ":nth-of-type("
 kind_css kinds.LastOfType = codes ":nth-last-of-type("
 
--- a function: its name with the parenthesis, what stands in it, and `)`
+-- a function: its name with the parenthesis, its argument, and `)`
 abbrev pub function_css : List ℕ → List ℕ → List ℕ
 function_css name inside = name ++ inside ++ codes ")"
 
@@ -85,7 +85,7 @@ combinator_css Child = codes " > "
 combinator_css Adjacent = codes " + "
 combinator_css Sibling = codes " ~ "
 
--- the combinator that leads a relative selector; elsewhere it isn't written
+-- the combinator at the start of a relative selector; in any other selector it is not written
 abbrev pub lead_css : Bool → Combinator → List ℕ
 lead_css false lead = codes ""
 lead_css true Descendant = codes ""
@@ -110,7 +110,7 @@ abbrev mutual
   list_css (not_list list) = function_css (codes ":not(") (selectors_css true false list)
   list_css (has_list list) = function_css (codes ":has(") (selectors_css true true list)
 
-  -- the selectors with commas between them, from the first on or from a later one
+  -- the selectors with commas between them; `is_first` says that no comma comes before the first
   pub selectors_css : Bool → Bool → SelectorList → List ℕ
   selectors_css is_first is_relative no_selectors = []
   selectors_css is_first is_relative (alternative lead first rest more) =
@@ -120,10 +120,10 @@ abbrev mutual
   steps_css no_steps = []
   steps_css (step k c more) = (combinator_css k ++ compound_css c) ++ steps_css more
 
--- a compound behind its combinator
+-- a combinator and its compound selector
 abbrev pub step_css : Combinator × CompoundSelector → List ℕ
 step_css s = combinator_css s.0 ++ compound_css s.1
 
--- a selector, in a relative list or elsewhere
+-- a complex selector, relative or not
 abbrev pub selector_css : Bool → Combinator × CompoundSelector × Steps → List ℕ
 selector_css is_relative s = lead_css is_relative s.0 ++ compound_css s.1 ++ steps_css s.2

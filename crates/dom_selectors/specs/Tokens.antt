@@ -1,4 +1,4 @@
--- A selector list as a list of tokens, from which it can be read back: the code that distinguishes the values of a matcher.
+-- A selector list as a list of tokens, from which it can be rebuilt. It is how a contract tells the values of a matcher apart.
 use Rattle.std.specs.Prelude.{◌≡◌, List, [], ◌∷◌, refl}
 use Rattle.std.proofs.Common.{ap, ◌∙◌}
 use Rattle.dom_selectors.specs.declared.syntax.Combinator.{Combinator}
@@ -17,7 +17,7 @@ pub data Token : Type 0 where
   last_step : Token
   a_step : Combinator → Token
 
--- what has been read and not yet been put into another
+-- a part of a selector that is rebuilt and not yet put into a larger one
 pub data Piece : Type 0 where
   of_compound : CompoundSelector → Piece
   of_lists : NestedLists → Piece
@@ -43,7 +43,7 @@ put_together [] pieces = pieces
 put_together (token ∷ tokens) pieces = put_together tokens (with_token token pieces)
 
 abbrev mutual
-  -- the tokens of a part, and then others
+  -- the tokens of a part, followed by other tokens
   pub compound_tokens : CompoundSelector → List Token → List Token
   compound_tokens (compound parts lists) tokens = lists_tokens lists (a_compound parts ∷ tokens)
 

@@ -1,4 +1,4 @@
--- The selector that a value of the program is.
+-- The tree of a selector that the program holds.
 use Rattle.std.specs.Prelude.{◌≡◌, List, [], ◌∷◌, ◌++◌, map}
 use Rattle.std.specs.Global.{Vec}
 use Rattle.dom_selectors.specs.declared.syntax.Combinator.{Combinator}
@@ -12,7 +12,7 @@ use Rattle.dom_selectors.specs.declared.syntax.Step.{Step, Step-F, fold-Step}
 use Rattle.dom_selectors.specs.Syntax.{CompoundSelector, compound, NestedLists, NestedList, is_list, not_list, has_list, SelectorList, Steps}
 use Rattle.dom_selectors.specs.ListsAsTrees.{Item, simple, two_parts, listed, lists_of, steps_of, selector_list}
 
--- one layer of a value, with what its children stand for in their place
+-- one level of a value, in which the children are already trees
 abbrev pub nested_layer : Nested-F NestedList CompoundSelector (Combinator × CompoundSelector × Steps) (Combinator × CompoundSelector) → NestedList
 nested_layer (Nested-F.Is list) = is_list (selector_list list.items)
 nested_layer (Nested-F.Not list) = not_list (selector_list list.items)
@@ -48,7 +48,7 @@ read_lists lists = lists_of (map read_nested lists)
 abbrev pub read_steps : List Step → Steps
 read_steps steps = steps_of (map read_step steps)
 
--- the list that a vector of selectors is
+-- the tree of a vector of selectors
 abbrev pub read_selectors : Vec Selector → SelectorList
 read_selectors selectors = read_list selectors.items
 
@@ -57,7 +57,7 @@ read_item (Simple part) = simple part
 read_item (Two part other) = two_parts part other
 read_item (Listed list) = listed (read_nested list)
 
--- a part goes to the parts, a list to the lists
+-- a simple selector is appended to the parts, and a list to the lists
 abbrev pub PushesItem : Item → List Part → List NestedList → List Part → List NestedList → Type 0
 PushesItem (simple part) parts lists new_parts made_lists = (new_parts ≡ parts ++ part ∷ []) × (made_lists ≡ lists)
 PushesItem (two_parts part other) parts lists new_parts made_lists = (new_parts ≡ parts ++ part ∷ other ∷ []) × (made_lists ≡ lists)

@@ -1,4 +1,4 @@
-//! Reads attribute parts.
+//! Parsing of attribute selectors.
 
 ghost use Rattle.std.specs.Prelude.{◌≡◌};
 ghost use Rattle.dom_selectors.specs.Spelling.{Strips, Takes, TakesSome, no_other, same};
@@ -15,7 +15,7 @@ use dom_nodes::case_sensitivity::CaseSensitivity;
 use dom_nodes::text::Text;
 use std::alloc::Global;
 
-/// The operator that a character and `=` write.
+/// Returns the operator that a character and `=` denote.
 pub(crate) fn operator_of(c: char) -> Option<AttrOperator>
     ensures { result ≡ operator_of c }
 {
@@ -29,7 +29,7 @@ pub(crate) fn operator_of(c: char) -> Option<AttrOperator>
     }
 }
 
-/// The operator at the front, and what follows it.
+/// Parses an operator; returns it and the rest.
 fn take_operator(text: &[char]) -> Option<(AttrOperator, &[char])>
     ensures { TakesSome result SpellsOperator text.now }
 {
@@ -51,7 +51,7 @@ fn take_operator(text: &[char]) -> Option<(AttrOperator, &[char])>
     Some((operator, rest))
 }
 
-/// The text without the character at its front, where that is this one.
+/// Returns the rest of the text, if it starts with this character.
 pub(crate) fn after_char(text: &[char], c: char) -> Option<&[char]>
     ensures { Strips result c text.now }
 {
@@ -64,7 +64,7 @@ pub(crate) fn after_char(text: &[char], c: char) -> Option<&[char]>
     Some(rest)
 }
 
-/// The value at the front, and what follows it.
+/// Parses a value: an identifier or a string.
 fn take_value(alloc: Global, text: &[char]) -> Result<(Text, &[char]), SelectorFault>
     ensures { Takes result same SpellsValue no_other text.now }
 {
@@ -76,7 +76,7 @@ fn take_value(alloc: Global, text: &[char]) -> Result<(Text, &[char]), SelectorF
     take_name(alloc, text)
 }
 
-/// What an identifier says as a flag.
+/// Returns the flag that an identifier is, if it is one.
 fn flag_of(name: &str) -> Option<CaseSensitivity>
     ensures { result ≡ flag_of name.now }
 {
@@ -87,7 +87,7 @@ fn flag_of(name: &str) -> Option<CaseSensitivity>
     }
 }
 
-/// The flag at the front and the bracket that closes, and what follows it.
+/// Parses a flag and the closing bracket.
 fn take_flag(alloc: Global, text: &[char]) -> Result<(CaseSensitivity, &[char]), SelectorFault>
     ensures { Takes result same SpellsFlag no_other text.now }
 {
@@ -101,7 +101,7 @@ fn take_flag(alloc: Global, text: &[char]) -> Result<(CaseSensitivity, &[char]),
     Ok((flag, rest))
 }
 
-/// The flag if there is one, and the bracket that closes, and what follows it.
+/// Parses an optional flag and the closing bracket.
 fn take_case(alloc: Global, text: &[char]) -> Result<(CaseSensitivity, &[char]), SelectorFault>
     ensures { Takes result same SpellsCase no_other text.now }
 {
@@ -111,7 +111,7 @@ fn take_case(alloc: Global, text: &[char]) -> Result<(CaseSensitivity, &[char]),
     take_flag(alloc, text)
 }
 
-/// The comparison at the front with the bracket that closes, and what follows it.
+/// Parses a comparison and the closing bracket.
 fn take_comparison(alloc: Global, text: &[char]) -> Result<(Comparison, &[char]), SelectorFault>
     ensures { Takes result same SpellsComparison no_other text.now }
 {
@@ -130,7 +130,7 @@ fn take_comparison(alloc: Global, text: &[char]) -> Result<(Comparison, &[char])
     ))
 }
 
-/// The comparison if there is one, and the bracket that closes, and what follows it.
+/// Parses an optional comparison and the closing bracket.
 fn take_asked(alloc: Global, text: &[char]) -> Result<(Option<Comparison>, &[char]), SelectorFault>
     ensures { Takes result same SpellsAsked no_other text.now }
 {
@@ -141,7 +141,7 @@ fn take_asked(alloc: Global, text: &[char]) -> Result<(Option<Comparison>, &[cha
     Ok((Some(comparison), rest))
 }
 
-/// The attribute part behind its opening bracket, and what follows it.
+/// Parses an attribute selector, whose opening bracket is already read.
 pub(crate) fn take_attribute(
     alloc: Global,
     text: &[char],

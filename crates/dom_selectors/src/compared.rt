@@ -1,4 +1,4 @@
-//! Names and mini selectors, compared, and printed for a programmer.
+//! Comparison and `Debug` output of names and mini selectors.
 
 ghost use Rattle.std.specs.Cmp.{partial_equiv_from_equiv};
 ghost use Rattle.std.specs.Cmp.Lexicographic.{nat_list_eq_equiv};

@@ -1,4 +1,4 @@
-//! Whether an attribute's value is what an attribute part asks for.
+//! Whether an attribute's value passes the comparison of an attribute selector.
 
 ghost use Rattle.std.specs.Prelude.{◌≡◌};
 ghost use Rattle.dom_nodes.specs.Words.{words_of};
@@ -9,6 +9,7 @@ ghost use Rattle.dom_selectors.specs.Comparisons.{same_byte, same_text};
 use crate::syntax::{AttrOperator, Comparison};
 use dom_nodes::case_sensitivity::CaseSensitivity;
 
+/// Returns whether the attribute value `found` passes the comparison.
 pub fn passes(comparison: &Comparison, found: &str) -> bool
     ensures { result ≡ passes comparison.now found.now }
 {
@@ -21,6 +22,7 @@ pub fn passes(comparison: &Comparison, found: &str) -> bool
     )
 }
 
+/// Returns whether the attribute value `found` passes the operator with this value.
 pub fn compares(operator: AttrOperator, case: CaseSensitivity, found: &str, value: &str) -> bool
     ensures { result ≡ compares operator case found.now value.now }
 {
@@ -45,6 +47,7 @@ fn same_byte(case: CaseSensitivity, a: u8, b: u8) -> bool
     }
 }
 
+/// Returns whether both texts are equal.
 pub fn same_text(case: CaseSensitivity, text: &[u8], other: &[u8]) -> bool
     ensures { result ≡ same_text case text.now other.now }
 {
@@ -54,7 +57,7 @@ pub fn same_text(case: CaseSensitivity, text: &[u8], other: &[u8]) -> bool
     begins_with(case, text, other)
 }
 
-/// Whether one of the words of the text is the value.
+/// Returns whether one of the whitespace-separated words of the text is the value.
 fn has_word(case: CaseSensitivity, text: &str, value: &[u8]) -> bool
     ensures { result ≡ has_word case value.now (words_of text.now) }
 {
@@ -66,6 +69,7 @@ fn has_word(case: CaseSensitivity, text: &str, value: &[u8]) -> bool
     false
 }
 
+/// Returns whether the text starts with `front`.
 pub fn begins_with(case: CaseSensitivity, text: &[u8], front: &[u8]) -> bool
     ensures { result ≡ begins_with case text.now front.now }
 {
@@ -82,7 +86,7 @@ pub fn begins_with(case: CaseSensitivity, text: &[u8], front: &[u8]) -> bool
     true
 }
 
-/// Whether the text begins with the value and then `-`.
+/// Returns whether the text starts with the value and then `-`.
 fn begins_with_dash(case: CaseSensitivity, text: &[u8], value: &[u8]) -> bool
     ensures { result ≡ begins_with_dash case text.now value.now }
 {
@@ -98,6 +102,7 @@ fn ends_with(case: CaseSensitivity, text: &[u8], end: &[u8]) -> bool
     same_text(case, &text[text.len().saturating_sub(end.len())..], end)
 }
 
+/// Returns whether the text contains `inner`.
 pub fn has_within(case: CaseSensitivity, text: &[u8], inner: &[u8]) -> bool
     ensures { result ≡ has_within case text.now inner.now }
 {

@@ -1,4 +1,4 @@
-//! Copies of selectors in memory of their own.
+//! Copies of selectors. Each call fails only when memory runs out.
 
 ghost use Rattle.std.specs.Prelude.{◌≡◌, map, IfOk};
 ghost use Rattle.dom_selectors.specs.Adding.{Pushes};
@@ -67,7 +67,7 @@ fn copy_parts(alloc: Global, parts: &[Part]) -> Result<Vec<Part>, OutOfMemory>
     Ok(made)
 }
 
-/// Adds a list to a compound's lists.
+/// Appends a list to the lists of a compound selector.
 pub(crate) fn push_list(lists: &mut Vec<Nested>, list: Nested) -> Result<(), OutOfMemory>
     ensures { Pushes read_nested lists.old.items lists.new.items result list }
 {
@@ -121,7 +121,8 @@ fn copy_list(alloc: Global, list: &Nested) -> Result<Nested, OutOfMemory>
     }
 }
 
-/// The same selectors. It goes as deep as lists nest.
+/// Returns a copy of the selectors. The depth of the recursion is that of nested lists, which the
+/// parser limits.
 #[cycle(copying)]
 pub fn copy_selectors(alloc: Global, selectors: &[Selector]) -> Result<Vec<Selector>, OutOfMemory>
     ensures { IfOk result (λ made. map read_selector made.items ≡ map read_selector selectors.now) }
@@ -148,7 +149,7 @@ fn copy_selector(alloc: Global, selector: &Selector) -> Result<Selector, OutOfMe
 }
 
 impl Selector {
-    /// The same selector in memory of its own.
+    /// Returns a copy of the selector. Fails only when memory runs out.
     pub fn try_clone(&self) -> Result<Selector, OutOfMemory>
         ensures { IfOk result (λ made. read_selector made ≡ read_selector self.now) }
     {

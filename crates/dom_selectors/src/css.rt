@@ -1,4 +1,4 @@
-//! Texts and names as CSS writes them.
+//! Writing texts and names as CSS.
 
 ghost use Rattle.std.specs.Prelude.{◌≡◌, ◌<◌, ℕ, List, encode_utf8_all, IfOk, OnErr, string_bytes};
 ghost use Rattle.std.specs.Char.{digit_char};
@@ -10,31 +10,32 @@ use dom_nodes::name::LocalName;
 use dom_nodes::text::Text;
 use std::alloc::{AllocError, Global};
 
-/// What can be written in CSS.
+/// A value that can be written as CSS.
 pub trait ToCss {
-    // What is written, in UTF-8.
+    // The CSS text, as UTF-8.
     ghost css: { Self → List ℕ };
 
-    /// Writes it behind the text. Where memory is refused the text stays as it was.
+    /// Appends the CSS text to `out`. If memory runs out, it fails and `out` is unchanged.
     fn to_css(&self, out: &mut String) -> Result<(), OutOfMemory>
         ensures ok { Adds out.old out.new result (css self.now) }
         ensures err { OnErr result (string_bytes out.new ≡ string_bytes out.old) };
 }
 
-/// A text that is written as a string: in `"`, with `"` and `\` behind a `\`, U+0001 to U+001F and
-/// U+007F as `\`, their number in lower-case hexadecimal and a space, and U+0000 as U+FFFD.
+/// A text that is written as a CSS string, as CSSOM serializes one: in `"`; with a `\` before `"`
+/// and `\`; U+0001 to U+001F and U+007F as `\`, the code point in lower-case hexadecimal and a
+/// space; and U+0000 as U+FFFD.
 #[derive(PartialEq, Eq, Debug, Drop)]
 pub struct CssString(pub Text);
 
 impl CssString {
-    /// The string of that text.
+    /// Returns the string for this text. Fails only when memory runs out.
     pub fn new(alloc: Global, text: &str) -> Result<CssString, OutOfMemory>
         ensures { IfOk result (λ made. made.0 ≡ text.now) }
     {
         Ok(CssString(Text::new(alloc, text)?))
     }
 
-    /// The same string in memory of its own.
+    /// Returns a copy of the string. Fails only when memory runs out.
     pub fn try_clone(&self) -> Result<CssString, OutOfMemory>
         ensures { IfOk result (λ made. made ≡ self.now) }
     {
@@ -52,19 +53,20 @@ impl ToCss for CssString {
     }
 }
 
-/// A local name, which is written as it is.
+/// A local name, which is written unchanged.
 #[derive(PartialEq, Eq, Debug, Drop)]
 pub struct CssLocalName(pub LocalName);
 
 impl CssLocalName {
-    /// That name. Asks for memory only where it isn't known.
+    /// Returns the name. A known name needs no allocation; otherwise the call fails when memory
+    /// runs out.
     pub fn new(alloc: Global, name: &str) -> Result<CssLocalName, OutOfMemory>
         ensures { IfOk result (λ made. made.0 ≡ name.now) }
     {
         Ok(CssLocalName(LocalName::new(alloc, name)?))
     }
 
-    /// The same name.
+    /// Returns a copy of the name. Fails only when memory runs out.
     pub fn try_clone(&self) -> Result<CssLocalName, OutOfMemory>
         ensures { IfOk result (λ made. made ≡ self.now) }
     {
@@ -81,7 +83,7 @@ impl ToCss for CssLocalName {
     }
 }
 
-/// The text as a string.
+/// Returns the text as a CSS string.
 fn in_quotes(alloc: Global, text: &str) -> Result<String, AllocError>
     ensures { IfOk result (λ written. string_bytes written ≡ css_text text.now) }
 {
@@ -100,7 +102,7 @@ fn is_control(c: char) -> bool
     c < ' ' || c == '\u{7f}'
 }
 
-/// Adds a character of a string.
+/// Appends one character of a string.
 fn push_css(out: &mut String, c: char) -> Result<(), AllocError>
     ensures { Adds out.old out.new result (encode_utf8_all (css_char c)) }
 {
@@ -116,7 +118,7 @@ fn push_css(out: &mut String, c: char) -> Result<(), AllocError>
     out.push(c)
 }
 
-/// Adds the text as a string.
+/// Appends the text as a CSS string.
 pub(crate) fn push_string(out: &mut String, text: &str) -> Result<(), OutOfMemory>
     ensures { Adds out.old out.new result (css_text text.now) }
 {
@@ -125,7 +127,7 @@ pub(crate) fn push_string(out: &mut String, text: &str) -> Result<(), OutOfMemor
     Ok(())
 }
 
-/// Adds a `\`, the number of a character, and a space.
+/// Appends an escaped code point: a `\`, its hexadecimal digits, and a space.
 pub(crate) fn push_number(out: &mut String, c: char) -> Result<(), AllocError>
     requires { c < 256 }
     ensures { Adds out.old out.new result (encode_utf8_all (hex_escape c)) }
@@ -139,7 +141,7 @@ pub(crate) fn push_number(out: &mut String, c: char) -> Result<(), AllocError>
     out.push(' ')
 }
 
-/// The character of a hexadecimal digit.
+/// Returns the character of a hexadecimal digit.
 fn hex_digit(digit: u32) -> char
     requires { digit < 16 }
     ensures { result ≡ digit_char digit }

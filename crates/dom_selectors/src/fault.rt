@@ -1,4 +1,4 @@
-//! Why a text is no selector.
+//! Why a text is not a selector.
 
 ghost use Rattle.std.specs.Prelude.{◌≡◌};
 ghost use Rattle.dom_selectors.specs.declared.fault.SelectorFault.TheVariants.{Memory};
@@ -6,25 +6,25 @@ ghost use Rattle.dom_selectors.specs.declared.fault.SelectorFault.TheVariants.{M
 use dom_nodes::fault::OutOfMemory;
 use std::alloc::{AllocError, AllocFailed};
 
-/// Why a text is no selector.
+/// Why a text is not a selector.
 #[derive(Clone, Copy, PartialEq, Eq, Debug, Drop, thiserror::Error)]
 pub enum SelectorFault {
-    /// The text is outside the grammar.
+    /// The text does not follow the grammar.
     #[error("bad selector")]
     Syntax,
-    /// A pseudo-class that isn't known, or that is written in the wrong form.
+    /// A pseudo-class is unknown, or its arguments have the wrong form.
     #[error("unknown pseudo-class")]
     UnknownPseudoClass,
-    /// A number past 2147483647.
+    /// A number is greater than 2147483647.
     #[error("number out of range")]
     Number,
-    /// A `:has` within a `:has`.
+    /// A `:has` is inside another `:has`.
     #[error("nested :has")]
     NestedHas,
-    /// Parentheses nest more than 64 deep.
+    /// Parentheses are nested more than 64 levels deep.
     #[error("nested too deep")]
     TooDeep,
-    /// Memory was refused.
+    /// Memory ran out.
     #[error("out of memory")]
     Memory,
 }

@@ -1,4 +1,7 @@
-//! What a selector's text stands for: selectors of CSS and mini selectors, their texts and copies.
+//! The syntax of selectors: parsing and writing CSS selectors (Selectors Level 4) and mini
+//! selectors.
+//!
+//! Start at `parser::parse_selectors` and `syntax`; mini selectors are in `mini_selector`.
 #![tactic(auto)]
 
 pub(crate) mod attributes;

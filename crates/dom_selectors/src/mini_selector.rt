@@ -1,4 +1,5 @@
-//! Mini selectors: selectors of one step, which are asked of a node without memory.
+//! Mini selectors, a small selector syntax of the crate dom_query: a name, an id, classes and
+//! attributes, with a combinator before them. They are matched without allocating memory.
 
 mod attributes;
 pub mod fault;

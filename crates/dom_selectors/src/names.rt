@@ -1,4 +1,4 @@
-//! Reads identifiers and their escapes.
+//! Parsing of identifiers and their escapes.
 
 ghost use Rattle.std.specs.Prelude.{◌≡◌, ◌≤◌, length, take, MatchOption, MatchResult};
 ghost use Rattle.std.specs.Str.Parse.{digits_value};
@@ -34,7 +34,7 @@ pub(crate) fn is_name_char(c: char) -> bool
     is_name_start(c) || c.is_ascii_digit() || c == '-'
 }
 
-/// The text without the whitespace at its front.
+/// Returns the text without leading whitespace.
 pub(crate) fn after_white(text: &[char]) -> &[char]
     ensures { result.now ≡ after_white text.now }
 {
@@ -45,14 +45,14 @@ pub(crate) fn after_white(text: &[char]) -> &[char]
     &text[n..]
 }
 
-/// The first six characters.
+/// Returns the first six characters, or all if there are fewer.
 fn first_six(text: &[char]) -> &[char]
     ensures { result.now ≡ take 6 text.now }
 {
     &text[..text.len().min(6)]
 }
 
-/// The hexadecimal digits at the front, and what follows them.
+/// Returns how many hexadecimal digits the text starts with.
 fn hex_len(text: &[char]) -> usize
     ensures { result ≡ prefix_len is_hex text.now }
 {
@@ -63,7 +63,7 @@ fn hex_len(text: &[char]) -> usize
     n
 }
 
-/// The value of a digit or letter, and 36 of any other character.
+/// Returns the value of a digit or an ASCII letter, and 36 for any other character.
 pub(crate) fn digit_value(c: char) -> u32
     ensures value { result ≡ digit_value c }
     ensures small { result ≤ 36 }
@@ -71,7 +71,7 @@ pub(crate) fn digit_value(c: char) -> u32
     c.to_digit(36).unwrap_or(36)
 }
 
-/// The number that six hexadecimal digits at most write.
+/// Returns the number that at most six hexadecimal digits denote.
 fn hex_number(digits: &[char]) -> u32
     requires { length digits.now ≤ 6 }
     ensures { result ≡ digits_value 16 digits.now }
@@ -83,7 +83,7 @@ fn hex_number(digits: &[char]) -> u32
     number
 }
 
-/// The character of a number, or U+FFFD where there is none.
+/// Returns the character with this code point, or U+FFFD if there is none.
 fn char_of(number: u32) -> char
     ensures { result ≡ char_of number }
 {
@@ -96,7 +96,7 @@ fn char_of(number: u32) -> char
     }
 }
 
-/// The text without a whitespace character at its front.
+/// Returns the text without one leading whitespace character.
 fn after_space(text: &[char]) -> &[char]
     ensures { result.now ≡ after_space text.now }
 {
@@ -107,7 +107,7 @@ fn after_space(text: &[char]) -> &[char]
     }
 }
 
-/// The character that follows a `\`, and the text after it.
+/// Parses what follows a `\`; returns the character that it means, and the rest.
 pub(crate) fn take_escape(text: &[char]) -> Option<(char, &[char])>
     ensures { TakesSome result SpellsEscape text.now }
 {
@@ -124,7 +124,7 @@ pub(crate) fn take_escape(text: &[char]) -> Option<(char, &[char])>
     Some((*c, rest))
 }
 
-/// The name character or escape at the front, and what follows it.
+/// Parses one character of an identifier, or an escape.
 fn take_name_char(text: &[char]) -> Option<(char, &[char])>
     ensures { TakesSome result SpellsNameChar text.now }
 {
@@ -165,7 +165,7 @@ pub(crate) fn starts_name(text: &[char]) -> bool
     }
 }
 
-/// The identifier at the front, and what follows it.
+/// Parses an identifier. Fails with `Syntax` or `Memory`.
 pub(crate) fn take_name(alloc: Global, text: &[char]) -> Result<(Text, &[char]), SelectorFault>
     ensures { Takes result same SpellsName no_other text.now }
 {
@@ -184,7 +184,7 @@ pub(crate) fn take_name(alloc: Global, text: &[char]) -> Result<(Text, &[char]),
     Ok((Text::from(name), rest))
 }
 
-/// The identifier at the front as a name that is asked for, and what follows it.
+/// Parses an identifier as a `SelectorName`. Fails with `Syntax` or `Memory`.
 pub(crate) fn take_selector_name(
     alloc: Global,
     text: &[char],

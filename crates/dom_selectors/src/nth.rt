@@ -1,4 +1,4 @@
-//! Reads `an+b`.
+//! Parsing of the An+B notation.
 
 ghost use Rattle.std.specs.Prelude.{◌≡◌};
 ghost use Rattle.std.specs.Str.Parse.{digits_value};
@@ -44,7 +44,7 @@ fn begins_odd(text: &[char]) -> bool
     matches!(text, ['o' | 'O', 'd' | 'D', 'd' | 'D', ..])
 }
 
-/// How many digits are at the front.
+/// Returns how many digits the text starts with.
 fn digits_len(text: &[char]) -> usize
     ensures { result ≡ digits_len text.now }
 {
@@ -55,7 +55,7 @@ fn digits_len(text: &[char]) -> usize
     n
 }
 
-/// The number that digits write, where it isn't past the limit.
+/// Returns the number that the digits denote, or `None` if it is past the limit.
 fn number_of(digits: &[char]) -> Option<u32>
     ensures { IsWithinLimit result (digits_value 10 digits.now) }
 {
@@ -72,7 +72,7 @@ fn number_of(digits: &[char]) -> Option<u32>
     Some(number)
 }
 
-/// The number at the front, and what follows it.
+/// Parses a number. Fails with `Number` if it is past the limit.
 fn take_number(text: &[char]) -> Result<(u32, &[char]), SelectorFault>
     ensures { Takes result same SpellsNumber (large_stands text.now) text.now }
 {
@@ -104,7 +104,7 @@ fn every_second(first: u32) -> Nth
     }
 }
 
-/// The text without a sign at its front.
+/// Returns the text without a leading sign.
 fn after_sign(text: &[char]) -> &[char]
     ensures { result.now ≡ after_sign text.now }
 {
@@ -114,7 +114,7 @@ fn after_sign(text: &[char]) -> &[char]
     }
 }
 
-/// The offset behind an `n`, and what follows it.
+/// Parses the offset after an `n`.
 fn take_offset(text: &[char]) -> Result<(Signed, &[char]), SelectorFault>
     ensures { Takes result same SpellsOffset (large_stands text.now) text.now }
 {
@@ -126,7 +126,7 @@ fn take_offset(text: &[char]) -> Result<(Signed, &[char]), SelectorFault>
     Ok((signed(begins_minus(sign), number), rest))
 }
 
-/// What a number and what follows it stand for, and what follows that.
+/// Parses what follows a number, which is either the step before `n` or the offset.
 fn take_after_number(number: Signed, text: &[char]) -> Result<(Nth, &[char]), SelectorFault>
     ensures { Takes result same (SpellsAfterNumber number) (large_stands text.now) text.now }
 {
@@ -138,7 +138,7 @@ fn take_after_number(number: Signed, text: &[char]) -> Result<(Nth, &[char]), Se
     Ok((Nth { a: number, b }, rest))
 }
 
-/// What stands behind the sign, and what follows it.
+/// Parses what follows the sign.
 fn take_unsigned(is_negative: bool, text: &[char]) -> Result<(Nth, &[char]), SelectorFault>
     ensures { Takes result same (SpellsUnsigned is_negative) (large_stands text.now) text.now }
 {
@@ -149,7 +149,7 @@ fn take_unsigned(is_negative: bool, text: &[char]) -> Result<(Nth, &[char]), Sel
     take_after_number(signed(is_negative, number), after)
 }
 
-/// The `an+b` at the front, and what follows it.
+/// Parses An+B, `even` or `odd`.
 pub(crate) fn take_nth(text: &[char]) -> Result<(Nth, &[char]), SelectorFault>
     ensures { Takes result same SpellsNth (large_stands text.now) text.now }
 {

@@ -1,4 +1,4 @@
-//! Reads selectors, over their characters.
+//! The parser of selectors, by recursive descent over characters. Start at `parse_selectors`.
 
 ghost use Rattle.std.specs.Prelude.{◌≡◌, ◌<◌, ◌++◌, ◌∷◌, [], chars, true};
 ghost use Rattle.std.specs.Prelude.{false, cond, map, nat_eq, IfOk, OnOk};
@@ -38,7 +38,7 @@ use dom_nodes::indexes::Nth;
 use dom_nodes::text::Text;
 use std::alloc::{AllocError, Global};
 
-/// What is read at the front of a text, and what follows it.
+/// What was parsed, and the rest of the text.
 type Taken<'a, T> = Result<(T, &'a [char]), SelectorFault>;
 
 fn begins_item(text: &[char]) -> bool
@@ -65,7 +65,8 @@ fn begins_open(text: &[char]) -> bool
     matches!(text, ['(', ..])
 }
 
-/// What follows the parenthesis at the front and whitespace.
+/// Skips an opening parenthesis and whitespace. Fails with `UnknownPseudoClass` if there is none,
+/// and with `TooDeep` if no further level is allowed.
 fn take_opening(context: ParseContext, text: &[char]) -> Result<&[char], SelectorFault>
     ensures { Skips result (Opens context.depth) (stands_behind context text.now) text.now }
 {
@@ -78,7 +79,7 @@ fn take_opening(context: ParseContext, text: &[char]) -> Result<&[char], Selecto
     Ok(after_white(inside))
 }
 
-/// What follows whitespace and the parenthesis that closes.
+/// Skips whitespace and a closing parenthesis.
 fn take_closing(text: &[char]) -> Result<&[char], SelectorFault>
     ensures { Skips result Closes no_other text.now }
 {
@@ -88,7 +89,7 @@ fn take_closing(text: &[char]) -> Result<&[char], SelectorFault>
     }
 }
 
-/// The part of a pseudo-class without parentheses, and what follows it.
+/// Returns a pseudo-class without parentheses.
 fn take_plain(context: ParseContext, bare: Bare, text: &[char]) -> Taken<'_, Item>
     ensures { TakesBehind context result read_item (SpellsPlain bare) text.now }
 {
@@ -98,7 +99,7 @@ fn take_plain(context: ParseContext, bare: Bare, text: &[char]) -> Taken<'_, Ite
     Ok((bare_item(bare), text))
 }
 
-/// The `an+b` in parentheses, and what follows it.
+/// Parses An+B in parentheses.
 fn take_enclosed_nth(context: ParseContext, text: &[char]) -> Taken<'_, Nth>
     ensures { TakesBehind context result same (SpellsEnclosed context.depth SpellsNth) text.now }
 {
@@ -108,7 +109,7 @@ fn take_enclosed_nth(context: ParseContext, text: &[char]) -> Taken<'_, Nth>
     Ok((nth, rest))
 }
 
-/// The string in parentheses, and what follows it.
+/// Parses a string in parentheses.
 fn take_enclosed_string(alloc: Global, context: ParseContext, text: &[char]) -> Taken<'_, Text>
     ensures { TakesBehind context result same (SpellsEnclosed context.depth SpellsString) text.now }
 {
@@ -118,7 +119,7 @@ fn take_enclosed_string(alloc: Global, context: ParseContext, text: &[char]) -> 
     Ok((string, rest))
 }
 
-/// The context between parentheses that open here.
+/// Returns the context inside parentheses that open here.
 fn inner_context(context: ParseContext, relative: bool) -> ParseContext
     requires { 0 < context.depth }
     ensures { result ≡ inner_context context relative }
@@ -130,7 +131,7 @@ fn inner_context(context: ParseContext, relative: bool) -> ParseContext
     }
 }
 
-/// The list in parentheses at the front, and what follows it.
+/// Parses a selector list in parentheses.
 #[cycle(lists)]
 fn take_enclosed(
     alloc: Global,
@@ -147,7 +148,7 @@ fn take_enclosed(
     Ok((list, rest))
 }
 
-/// The list of a pseudo-class, and what follows it.
+/// Parses the selector list of a pseudo-class. Fails with `NestedHas` for a `:has` inside `:has`.
 #[cycle(lists)]
 fn take_listed(
     alloc: Global,
@@ -166,7 +167,7 @@ fn take_listed(
     Ok((Item::Listed(quantified(quantifier, list)), rest))
 }
 
-/// What belongs to the name of a pseudo-class, and what follows it.
+/// Parses what follows the name of a pseudo-class.
 #[cycle(lists)]
 fn take_form(alloc: Global, context: ParseContext, pseudo: Pseudo, text: &[char]) -> Taken<'_, Item>
     ensures { TakesBehind context result read_item (within context SpellsForm pseudo) text.now }
@@ -185,7 +186,7 @@ fn take_form(alloc: Global, context: ParseContext, pseudo: Pseudo, text: &[char]
     }
 }
 
-/// The pseudo-class behind its colon, and what follows it.
+/// Parses a pseudo-class, whose colon is already read.
 #[cycle(lists)]
 fn take_pseudo(alloc: Global, context: ParseContext, text: &[char]) -> Taken<'_, Item>
     ensures { TakesBehind context result read_item (within context SpellsPseudo) text.now }
@@ -197,7 +198,7 @@ fn take_pseudo(alloc: Global, context: ParseContext, text: &[char]) -> Taken<'_,
     take_form(alloc, context, pseudo, after)
 }
 
-/// The part or list at the front, and what follows it.
+/// Parses a simple selector other than a type selector, or a pseudo-class with a list.
 #[cycle(lists)]
 fn take_item(alloc: Global, context: ParseContext, text: &[char]) -> Taken<'_, Item>
     ensures { TakesIn context result read_item (within context SpellsItem) text.now }
@@ -223,7 +224,7 @@ fn take_item(alloc: Global, context: ParseContext, text: &[char]) -> Taken<'_, I
     take_pseudo(alloc, context, more)
 }
 
-/// The type at the front if there is one, and what follows it.
+/// Parses an optional type selector.
 fn take_type(alloc: Global, text: &[char]) -> Taken<'_, Vec<Part>>
     ensures { Takes result (λ v. v.items) SpellsType no_other text.now }
 {
@@ -247,7 +248,7 @@ fn push_part(parts: &mut Vec<Part>, part: Part) -> Result<(), OutOfMemory>
     Ok(())
 }
 
-/// Adds a part to the parts, or a list to the lists.
+/// Appends a simple selector to the parts, or a list to the lists.
 fn push_item(parts: &mut Vec<Part>, nested: &mut Vec<Nested>, item: Item) -> Result<(), OutOfMemory>
     ensures { OnOk result (PushesItem (read_item item)
         parts.old.items (map read_nested nested.old.items)
@@ -263,7 +264,7 @@ fn push_item(parts: &mut Vec<Part>, nested: &mut Vec<Nested>, item: Item) -> Res
     }
 }
 
-/// The compound at the front, and what follows it.
+/// Parses a compound selector.
 #[cycle(lists)]
 fn take_compound(alloc: Global, context: ParseContext, text: &[char]) -> Taken<'_, Compound>
     ensures { TakesIn context result read_compound (within context SpellsCompound) text.now }
@@ -283,7 +284,7 @@ fn take_compound(alloc: Global, context: ParseContext, text: &[char]) -> Taken<'
     Ok((Compound { parts, nested }, rest))
 }
 
-/// The combinator at the front, behind whitespace, and what follows it.
+/// Parses a combinator; the whitespace before it is already skipped.
 fn take_combinator(text: &[char]) -> Option<(Combinator, &[char])>
     ensures { TakesSome result SpellsCombinator text.now }
 {
@@ -318,7 +319,7 @@ fn begins_step(text: &[char]) -> bool
     begins_sign(rest) || (begins_white(text) && begins_compound(rest))
 }
 
-/// The combinator and compound at the front, and what follows them.
+/// Parses a combinator and a compound selector.
 #[cycle(lists)]
 fn take_step(alloc: Global, context: ParseContext, text: &[char]) -> Taken<'_, Step>
     ensures { TakesIn context result read_step (within context SpellsStep) text.now }
@@ -339,7 +340,7 @@ fn take_step(alloc: Global, context: ParseContext, text: &[char]) -> Taken<'_, S
     ))
 }
 
-/// The combinator that a selector begins with, where it may, and what follows it.
+/// Parses the optional combinator at the start of a relative selector.
 fn take_lead(relative: bool, text: &[char]) -> (Combinator, &[char])
     ensures { SpellsLead relative result.0 text.now result.1.now }
 {
@@ -355,7 +356,7 @@ fn take_lead(relative: bool, text: &[char]) -> (Combinator, &[char])
     (combinator, after_white(more))
 }
 
-/// The selector at the front, and what follows it.
+/// Parses a complex selector.
 #[cycle(lists)]
 fn take_selector(alloc: Global, context: ParseContext, text: &[char]) -> Taken<'_, Selector>
     ensures { TakesIn context result read_selector (within context SpellsSelector) text.now }
@@ -385,7 +386,7 @@ fn begins_comma(text: &[char]) -> bool
     matches!(after_white(text), [',', ..])
 }
 
-/// The comma and selector at the front, and what follows them.
+/// Parses a comma and a complex selector.
 #[cycle(lists)]
 fn take_later(alloc: Global, context: ParseContext, text: &[char]) -> Taken<'_, Selector>
     ensures { TakesIn context result read_selector (within context SpellsLater) text.now }
@@ -396,7 +397,7 @@ fn take_later(alloc: Global, context: ParseContext, text: &[char]) -> Taken<'_, 
     take_selector(alloc, context, after_white(rest))
 }
 
-/// The list at the front, and what follows it.
+/// Parses a selector list.
 #[cycle(lists)]
 fn take_list(alloc: Global, context: ParseContext, text: &[char]) -> Taken<'_, Vec<Selector>>
     ensures { TakesIn context result read_selectors (within context SpellsList) text.now }
@@ -419,14 +420,14 @@ fn has_no_zero(text: &[char]) -> bool
     text.iter().all(|c| *c != '\0')
 }
 
-/// The characters of a text.
+/// Returns the characters of a text. Fails only when memory runs out.
 pub(crate) fn letters(alloc: Global, text: &str) -> Result<Vec<char>, AllocError>
     ensures { IfOk result (λ letters. letters.items ≡ chars text.now) }
 {
     text.chars().collect(alloc)
 }
 
-/// The selectors that the characters stand for.
+/// Parses the characters of a whole text as a selector list.
 fn parse(alloc: Global, text: &[char]) -> Result<Vec<Selector>, SelectorFault>
     ensures { Parses result text.now }
 {
@@ -445,9 +446,18 @@ fn parse(alloc: Global, text: &[char]) -> Result<Vec<Selector>, SelectorFault>
     Ok(list)
 }
 
-/// The selectors that a text stands for. `UnknownPseudoClass` comes only where the text stands for
-/// nothing and has a `:`, `TooDeep` only where it stands for nothing and has 65 `(`, `Memory` where
-/// memory is refused, and `Syntax` where it stands for nothing.
+/// Parses a text as a list of selectors separated by commas, and returns them in order.
+///
+/// The text has to be a selector list as a whole. An error says why it is none:
+///
+/// - `Syntax`: it does not follow the grammar;
+/// - `UnknownPseudoClass`: a pseudo-class is unknown, or its arguments have the wrong form; the
+///   text then contains a `:`;
+/// - `Number`: a number is greater than 2147483647;
+/// - `NestedHas`: a `:has` is inside another `:has`;
+/// - `TooDeep`: parentheses are nested more than 64 levels deep; the text then contains 65 `(`.
+///
+/// The call also fails with `Memory` when memory runs out.
 pub fn parse_selectors(alloc: Global, text: &str) -> Result<Vec<Selector>, SelectorFault>
     ensures { Parses result (chars text.now) }
 {

@@ -1,4 +1,6 @@
-//! Pseudo-classes that nodes are asked for, and pseudo-elements, of which there are none.
+//! Pseudo-classes as values of their own, and pseudo-elements, of which there are none.
+//! `:only-text`, `:has-text(..)` and `:contains(..)` come from the crate dom_query; the others are
+//! those of Selectors Level 4.
 
 ghost use Rattle.std.specs.Prelude.{◌≡◌, ◌++◌, IfOk, OnOk, string_bytes};
 ghost use Rattle.dom_selectors.specs.PseudoTexts.{pseudo_css, pseudo_name, pseudo_rest};
@@ -7,7 +9,7 @@ use crate::css::{CssString, ToCss};
 use dom_nodes::fault::OutOfMemory;
 use std::alloc::Global;
 
-/// A pseudo-class that looks at more than where an element stands.
+/// A pseudo-class that depends on more than the position of an element.
 #[derive(PartialEq, Eq, Debug, Drop)]
 pub enum NonTSPseudoClass {
     AnyLink,
@@ -20,16 +22,16 @@ pub enum NonTSPseudoClass {
     Disabled,
     Checked,
     Indeterminate,
-    /// `:only-text`: exactly one child, a text that isn't blank.
+    /// `:only-text`: the node has exactly one child, a text that isn't blank.
     OnlyText,
-    /// `:has-text(..)`: a text at or below the node contains this one.
+    /// `:has-text(..)`: one of the texts at or below the node contains this text.
     HasText(CssString),
-    /// `:contains(..)`: the texts at and below the node, joined, contain this one.
+    /// `:contains(..)`: the texts at and below the node, concatenated, contain this text.
     Contains(CssString),
 }
 
 impl NonTSPseudoClass {
-    /// The same pseudo-class in memory of its own.
+    /// Returns a copy of the pseudo-class. Fails only when memory runs out.
     pub fn try_clone(&self) -> Result<NonTSPseudoClass, OutOfMemory>
         ensures { IfOk result (λ made. made ≡ self.now) }
     {
@@ -61,7 +63,7 @@ impl ToCss for NonTSPseudoClass {
     }
 }
 
-/// The pseudo-class as a selector has it.
+/// Returns the text of the pseudo-class.
 fn written(alloc: Global, pseudo: &NonTSPseudoClass) -> Result<String, OutOfMemory>
     ensures { IfOk result (λ text. string_bytes text ≡ pseudo_css pseudo.now) }
 {
@@ -70,7 +72,7 @@ fn written(alloc: Global, pseudo: &NonTSPseudoClass) -> Result<String, OutOfMemo
     Ok(written)
 }
 
-/// Adds the text that the pseudo-class asks for, and `)`.
+/// Appends the argument of the pseudo-class and `)`, if it has one.
 fn push_rest(out: &mut String, pseudo: &NonTSPseudoClass) -> Result<(), OutOfMemory>
     ensures { OnOk result (string_bytes out.new ≡ string_bytes out.old ++ pseudo_rest pseudo.now) }
 {
@@ -84,7 +86,7 @@ fn push_rest(out: &mut String, pseudo: &NonTSPseudoClass) -> Result<(), OutOfMem
     }
 }
 
-/// What stands before the text that it asks for.
+/// Returns the text before the argument.
 fn name_of(pseudo: &NonTSPseudoClass) -> &'static str
     ensures { result.now ≡ pseudo_name pseudo.now }
 {
@@ -105,7 +107,7 @@ fn name_of(pseudo: &NonTSPseudoClass) -> &'static str
     }
 }
 
-/// A pseudo-element. There is none to select, and it is written as nothing.
+/// A pseudo-element. There are none, so it is written as an empty text.
 #[derive(Clone, Copy, PartialEq, Eq, Debug, Drop)]
 pub struct PseudoElement;
 

@@ -1,4 +1,4 @@
-//! The pseudo-classes by their names, and what each stands for.
+//! The pseudo-classes by name, and the simple selectors that they are.
 
 ghost use Rattle.std.specs.Prelude.{◌≡◌, ◌||◌};
 ghost use Rattle.dom_selectors.specs.Pseudos.{bare_item, bare_of, first_of, index_kind_of};
@@ -22,7 +22,7 @@ fn is_one_of(name: &str, one: &str, other: &str) -> bool
     is_word(name, one) || is_word(name, other)
 }
 
-/// Whether the name is that of a state in which no node of a tree is.
+/// Returns whether the name is that of a state that no node of a tree has, such as `:hover`.
 fn is_state(name: &str) -> bool
     ensures { result ≡ is_state name.now }
 {
@@ -126,7 +126,7 @@ fn text_test_of(name: &str) -> Option<TextTest>
     None
 }
 
-/// The pseudo-class of this name.
+/// Returns the pseudo-class with this name.
 pub(crate) fn pseudo_of(name: &str) -> Option<Pseudo>
     ensures { result ≡ pseudo_of name.now }
 {
@@ -145,7 +145,7 @@ pub(crate) fn pseudo_of(name: &str) -> Option<Pseudo>
     None
 }
 
-/// The part that asks for index 1.
+/// Returns the simple selector for index 1.
 fn first_of(kind: IndexKind) -> Part
     ensures { result ≡ first_of kind }
 {
@@ -161,7 +161,7 @@ fn first_of(kind: IndexKind) -> Part
     Part::Position(Position { kind, nth })
 }
 
-/// What a pseudo-class without parentheses stands for.
+/// Returns what a pseudo-class without parentheses means.
 pub(crate) fn bare_item(bare: Bare) -> Item
     ensures { read_item result ≡ bare_item bare }
 {
@@ -176,7 +176,7 @@ pub(crate) fn bare_item(bare: Bare) -> Item
     }
 }
 
-/// Whether the selectors of its list may begin with a combinator.
+/// Returns whether the selectors in its list may start with a combinator.
 pub(crate) fn is_relative(quantifier: Quantifier) -> bool
     ensures { result ≡ is_relative quantifier }
 {
@@ -186,7 +186,7 @@ pub(crate) fn is_relative(quantifier: Quantifier) -> bool
     }
 }
 
-/// The list of which that is asked.
+/// Returns the nested list of this pseudo-class.
 pub(crate) fn quantified(quantifier: Quantifier, list: Vec<Selector>) -> Nested
     ensures { read_nested result ≡ quantified quantifier (read_list list.items) }
 {
@@ -197,7 +197,7 @@ pub(crate) fn quantified(quantifier: Quantifier, list: Vec<Selector>) -> Nested
     }
 }
 
-/// The part that asks for the string.
+/// Returns the simple selector for this string.
 pub(crate) fn text_part(test: TextTest, text: Text) -> Part
     ensures { result ≡ text_part test text }
 {

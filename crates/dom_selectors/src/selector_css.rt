@@ -1,4 +1,4 @@
-//! Selectors as CSS writes them.
+//! Writing selectors as CSS.
 
 ghost use Rattle.std.specs.Prelude.{◌≡◌, ◌++◌, ◌<◌, false, true};
 ghost use Rattle.std.specs.Prelude.{encode_utf8_all, flat_map};
@@ -37,7 +37,7 @@ impl ToCss for Selector {
     }
 }
 
-/// The selector's text.
+/// Returns the text of the selector.
 fn written(alloc: Global, selector: &Selector) -> Result<String, OutOfMemory>
     ensures { IfOk result
         (λ it. string_bytes it ≡ selector_css false (read_selector selector.now)) }
@@ -54,7 +54,7 @@ fn push_text(out: &mut String, text: &str) -> Result<(), OutOfMemory>
     Ok(())
 }
 
-/// Whether an identifier has the character as it is.
+/// Returns whether the character needs no escape in an identifier.
 fn is_plain(is_first: bool, c: char) -> bool
     ensures is { result ≡ is_plain is_first c }
     ensures low { result ≡ false → c < 128 }
@@ -77,7 +77,7 @@ fn push_name_char(out: &mut String, c: char, is_first: bool) -> Result<(), Alloc
     push_number(out, c)
 }
 
-/// Adds the characters behind the first one.
+/// Appends the characters of an identifier after the first.
 fn push_name_chars(out: &mut String, letters: &[char]) -> Result<(), AllocError>
     ensures { Adds out.old out.new result
         (encode_utf8_all (flat_map (name_char false) letters.now)) }
@@ -142,7 +142,7 @@ fn push_attribute(out: &mut String, attribute: &Attribute) -> Result<(), OutOfMe
     push_text(out, "]")
 }
 
-/// The sign of a number: `-`, or this one.
+/// Returns the sign of a number: `-` if it is negative, and otherwise `sign`.
 fn sign_of<'a>(number: Signed, sign: &'a str) -> &'a str
     ensures { result.now ≡ (if number.is_negative then codes "-" else sign.now) }
 {
@@ -184,7 +184,7 @@ fn push_position(out: &mut String, position: Position) -> Result<(), OutOfMemory
     push_text(out, ")")
 }
 
-/// Adds a text that a function asks for, and `)`.
+/// Appends a function whose argument is a string.
 fn push_asked_text(out: &mut String, function: &str, text: &str) -> Result<(), OutOfMemory>
     ensures { Adds out.old out.new result (function_css function.now (css_text text.now)) }
 {
@@ -193,7 +193,7 @@ fn push_asked_text(out: &mut String, function: &str, text: &str) -> Result<(), O
     push_text(out, ")")
 }
 
-/// Adds a name behind a mark.
+/// Appends a mark and a name.
 fn push_marked(out: &mut String, mark: &str, name: &str) -> Result<(), OutOfMemory>
     ensures { Adds out.old out.new result (mark.now ++ name_css name.now) }
 {
@@ -293,7 +293,7 @@ fn push_list(out: &mut String, list: &Nested) -> Result<(), OutOfMemory>
     }
 }
 
-/// Adds a function of selectors.
+/// Appends a function whose argument is a selector list.
 #[cycle(writing)]
 fn push_enclosed(
     out: &mut String,

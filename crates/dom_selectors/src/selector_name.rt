@@ -1,4 +1,4 @@
-//! Names that selectors ask elements and attributes for.
+//! The names of elements and attributes in selectors.
 
 ghost use Rattle.std.specs.Prelude.{◌≡◌, IfOk};
 ghost use Rattle.std.specs.Str.{str_to_ascii_lowercase};
@@ -9,8 +9,8 @@ use dom_nodes::text::Text;
 use std::alloc::Global;
 use std::marker::Model;
 
-/// A name as it is written, and the same with A to Z folded, so that it is compared with a known
-/// name by number. A contract sees it as the list of its bytes as written.
+/// A name as in the source, and the same name in lower case, so that it can be compared with a
+/// known name by number. A contract sees it as the bytes of the name in the source.
 #[derive(Drop)]
 pub struct SelectorName {
     written: Text,
@@ -29,7 +29,7 @@ impl Model for SelectorName {
 }
 
 impl SelectorName {
-    /// That name.
+    /// Returns the name for this text. Fails only when memory runs out.
     pub fn new(alloc: Global, written: Text) -> Result<SelectorName, OutOfMemory>
         ensures { IfOk result (λ made. made ≡ written) }
     {
@@ -37,7 +37,7 @@ impl SelectorName {
         Ok(SelectorName { written, folded })
     }
 
-    /// The name as it is written.
+    /// Returns the name as in the source.
     #[inline(always)]
     pub fn as_str(&self) -> &str
         ensures { result.now ≡ self.now }
@@ -45,7 +45,7 @@ impl SelectorName {
         self.written.as_str()
     }
 
-    /// The name with A to Z in lower case.
+    /// Returns the name with A to Z in lower case.
     #[inline(always)]
     pub fn folded(&self) -> &LocalName
         ensures { result.now ≡ str_to_ascii_lowercase self.now }
@@ -53,7 +53,7 @@ impl SelectorName {
         &self.folded
     }
 
-    /// The same name in memory of its own.
+    /// Returns a copy of the name. Fails only when memory runs out.
     pub fn try_clone(&self) -> Result<SelectorName, OutOfMemory>
         ensures { IfOk result (λ made. made ≡ self.now) }
     {

@@ -1,4 +1,4 @@
-//! Reads strings in quotes.
+//! Parsing of strings in quotes.
 
 ghost use Rattle.std.specs.Prelude.{◌≡◌, ◌∷◌, [], encode_utf8_all};
 ghost use Rattle.dom_selectors.specs.Adding.{Adds};
@@ -17,7 +17,7 @@ pub(crate) fn is_quote(c: char) -> bool
     c == '"' || c == '\''
 }
 
-/// The text without a line end at its front.
+/// Returns the text without a leading line end.
 fn after_line_end(text: &[char]) -> &[char]
     ensures { result.now ≡ after_line_end text.now }
 {
@@ -28,7 +28,8 @@ fn after_line_end(text: &[char]) -> &[char]
     }
 }
 
-/// What stands after a `\` in a string, none where it is a line end, and what follows it.
+/// Parses what follows a `\` in a string; returns the character that it means, or `None` for a line
+/// end, and the rest.
 fn take_string_escape(text: &[char]) -> Option<(Option<char>, &[char])>
     ensures { TakesSome result SpellsStringEscape text.now }
 {
@@ -43,7 +44,7 @@ fn take_string_escape(text: &[char]) -> Option<(Option<char>, &[char])>
     Some((Some(c), rest))
 }
 
-/// The character of a string at the front, and what follows it.
+/// Parses one character of a string, or an escape.
 fn take_piece(quote: char, text: &[char]) -> Option<(Option<char>, &[char])>
     ensures { TakesSome result (SpellsPiece quote) text.now }
 {
@@ -71,7 +72,7 @@ fn goes_on_in(quote: char, text: &[char]) -> bool
     }
 }
 
-/// Adds a character that is there.
+/// Appends the character, if there is one.
 fn push_piece(text: &mut String, piece: Option<char>) -> Result<(), AllocError>
     ensures { Adds text.old text.new result (encode_utf8_all (present (piece ∷ []))) }
 {
@@ -81,7 +82,7 @@ fn push_piece(text: &mut String, piece: Option<char>) -> Result<(), AllocError>
     }
 }
 
-/// The text of the string at the front, and what follows it.
+/// Parses a string; returns its text and the rest. Fails with `Syntax` or `Memory`.
 pub(crate) fn take_string(alloc: Global, text: &[char]) -> Result<(Text, &[char]), SelectorFault>
     ensures { Takes result same SpellsString no_other text.now }
 {

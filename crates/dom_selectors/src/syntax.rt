@@ -1,4 +1,4 @@
-//! What a selector's text stands for.
+//! Selectors as values. The terms are those of Selectors Level 4.
 
 ghost use Rattle.std.specs.Prelude.{◌≡◌};
 ghost use Rattle.dom_selectors.specs.Grammar.{combinator_of};
@@ -8,24 +8,24 @@ use dom_nodes::case_sensitivity::CaseSensitivity;
 use dom_nodes::indexes::{IndexKind, Nth};
 use dom_nodes::text::Text;
 
-/// How an attribute's value is compared.
+/// The operator of an attribute selector.
 #[derive(Clone, Copy, PartialEq, Eq, Debug, Drop)]
 pub enum AttrOperator {
-    /// `=`: it is the value.
+    /// `=`: the attribute is the value.
     Equals,
-    /// `~=`: the value is one of its words.
+    /// `~=`: the value is one of the attribute's words.
     Includes,
-    /// `|=`: it is the value, or begins with the value and `-`.
+    /// `|=`: the attribute is the value, or starts with the value and `-`.
     DashMatch,
-    /// `^=`: it begins with the value.
+    /// `^=`: the attribute starts with the value.
     Prefix,
-    /// `$=`: it ends with the value.
+    /// `$=`: the attribute ends with the value.
     Suffix,
-    /// `*=`: it contains the value.
+    /// `*=`: the attribute contains the value.
     Substring,
 }
 
-/// What an attribute's value is asked for.
+/// The comparison of an attribute selector.
 #[derive(PartialEq, Eq, Debug, Drop)]
 pub struct Comparison {
     pub operator: AttrOperator,
@@ -33,27 +33,27 @@ pub struct Comparison {
     pub case_sensitivity: CaseSensitivity,
 }
 
-/// An attribute, and what its value is asked for, if anything.
+/// An attribute selector: the name, and a comparison of the value, if there is one.
 #[derive(PartialEq, Eq, Debug, Drop)]
 pub struct Attribute {
     pub name: SelectorName,
     pub comparison: Option<Comparison>,
 }
 
-/// How the node on the left stands to the node on the right.
+/// A combinator: the relation of the node on the left to the node on the right.
 #[derive(Clone, Copy, PartialEq, Eq, Debug, Drop)]
 pub enum Combinator {
-    /// Whitespace: it is an ancestor.
+    /// Whitespace: the left node is an ancestor.
     Descendant,
-    /// `>`: it is the parent.
+    /// `>`: the left node is the parent.
     Child,
-    /// `+`: it is a sibling before, with no element between.
+    /// `+`: the left node is a previous sibling, with no element between the two.
     Adjacent,
-    /// `~`: it is a sibling before.
+    /// `~`: the left node is a previous sibling.
     Sibling,
 }
 
-/// The combinator of a sign.
+/// Returns the combinator for a sign.
 pub(crate) fn combinator_of(c: char) -> Option<Combinator>
     ensures { result ≡ combinator_of c }
 {
@@ -65,57 +65,57 @@ pub(crate) fn combinator_of(c: char) -> Option<Combinator>
     }
 }
 
-/// The indexes that a node may have among its siblings.
+/// The positions that a node may have among its siblings.
 #[derive(Clone, Copy, PartialEq, Eq, Debug, Drop)]
 pub struct Position {
     pub kind: IndexKind,
     pub nth: Nth,
 }
 
-/// A part of a compound that has no selectors in it.
+/// A simple selector, apart from those with nested selectors.
 #[derive(PartialEq, Eq, Debug, Drop)]
 pub enum Part {
-    /// `*`: it holds of every node.
+    /// `*`: every node matches.
     Universal,
-    /// The name of an element.
+    /// A type selector: the name of an element.
     Type(SelectorName),
-    /// `#` and the value of an attribute `id`.
+    /// `#` and the value of the attribute `id`.
     Id(Text),
     /// `.` and a word of the attribute `class`.
     Class(Text),
-    /// An attribute in brackets.
+    /// An attribute selector in brackets.
     Attribute(Attribute),
-    /// `:root` and `:scope`: a document.
+    /// `:root` and `:scope`: an element whose parent is the root of the tree.
     Root,
-    /// `:link` and `:any-link`: an element that links elsewhere.
+    /// `:link` and `:any-link`: an element that is a hyperlink.
     Link,
-    /// `:hover` and other states that no node of a tree is in.
+    /// `:hover` and other states that no node of a tree has, so nothing matches.
     Never,
-    /// `:empty`: an element without elements and without a text that isn't blank.
+    /// `:empty`: an element without child elements and without a text that isn't blank.
     Empty,
-    /// `:only-text`: exactly one child, a text that isn't blank.
+    /// `:only-text`: the node has exactly one child, a text that isn't blank.
     OnlyText,
-    /// `:has-text(..)`: a text at or below the node contains this one.
+    /// `:has-text(..)`: one of the texts at or below the node contains this text.
     HasText(Text),
-    /// `:contains(..)`: the texts at and below the node, joined, contain this one.
+    /// `:contains(..)`: the texts at and below the node, concatenated, contain this text.
     Contains(Text),
-    /// `:nth-child(..)` and its kin: an index among the siblings.
+    /// `:nth-child(..)` and the like: a position among the siblings.
     Position(Position),
 }
 
-/// A list of selectors in a compound.
+/// A pseudo-class with a nested selector list.
 #[cycle(selectors)]
 #[derive(PartialEq, Eq, Debug, Drop)]
 pub enum Nested {
-    /// `:is` and `:where`: one of them means the node.
+    /// `:is` and `:where`: one of the selectors matches the node.
     Is(Vec<Selector>),
-    /// `:not`: none of them does.
+    /// `:not`: none of the selectors matches the node.
     Not(Vec<Selector>),
-    /// `:has`: one of them leads from the node to an element.
+    /// `:has`: one of the selectors, taken relative to the node, matches an element.
     Has(Vec<Selector>),
 }
 
-/// What is asked of one node: each part, and each nested list.
+/// A compound selector: all its parts and nested lists have to match one node.
 #[cycle(selectors)]
 #[derive(PartialEq, Eq, Debug, Drop)]
 pub struct Compound {
@@ -123,7 +123,7 @@ pub struct Compound {
     pub nested: Vec<Nested>,
 }
 
-/// A compound and how the node before it stands to its node.
+/// A compound selector and the combinator before it.
 #[cycle(selectors)]
 #[derive(PartialEq, Eq, Debug, Drop)]
 pub struct Step {
@@ -131,8 +131,8 @@ pub struct Step {
     pub compound: Compound,
 }
 
-/// Compounds with a combinator between each two. In `:has` a combinator stands before the first
-/// too; elsewhere it counts for nothing.
+/// A complex selector: compound selectors with combinators between them. In `:has`, `lead` is the
+/// combinator before the first; elsewhere it has no meaning.
 #[cycle(selectors)]
 #[derive(PartialEq, Eq, Debug, Drop)]
 pub struct Selector {
@@ -141,7 +141,7 @@ pub struct Selector {
     pub rest: Vec<Step>,
 }
 
-/// What can stand in a compound behind its type.
+/// What a compound selector may have after its type selector.
 #[derive(Drop)]
 pub(crate) enum Item {
     Simple(Part),
@@ -157,13 +157,13 @@ pub(crate) enum Bare {
     Never,
     Empty,
     OnlyText,
-    /// It has index 1.
+    /// The node has index 1.
     First(IndexKind),
-    /// It has index 1 of both kinds.
+    /// The node has index 1 of both kinds.
     Only(IndexKind, IndexKind),
 }
 
-/// What a pseudo-class asks of its list.
+/// Which pseudo-class a selector list belongs to: `:is`, `:not` or `:has`.
 #[derive(Clone, Copy, Drop)]
 pub(crate) enum Quantifier {
     SomeOf,
@@ -171,16 +171,16 @@ pub(crate) enum Quantifier {
     RelativeOf,
 }
 
-/// Which texts a pseudo-class asks for a string.
+/// Which texts of a node are searched for a string.
 #[derive(Clone, Copy, Drop)]
 pub(crate) enum TextTest {
-    /// One text at or below the node.
+    /// Each text at or below the node by itself.
     InOne,
-    /// All of them, joined.
+    /// All of these texts, concatenated.
     InAll,
 }
 
-/// What a pseudo-class is, and so what follows its name.
+/// The kind of a pseudo-class, which says what follows its name.
 #[derive(Clone, Copy, Drop)]
 pub(crate) enum Pseudo {
     Plain(Bare),
@@ -189,13 +189,13 @@ pub(crate) enum Pseudo {
     Text(TextTest),
 }
 
-/// Where in a selector's text something stands.
+/// The context of what is parsed.
 #[derive(Clone, Copy, Drop)]
 pub(crate) struct ParseContext {
-    /// How many parentheses may still open.
+    /// How many levels of parentheses may still open.
     pub depth: usize,
-    /// Whether it is inside `:has`.
+    /// Whether a `:has` is around it.
     pub in_has: bool,
-    /// Whether a selector may begin with a combinator.
+    /// Whether a selector may start with a combinator.
     pub is_relative: bool,
 }

@@ -1,4 +1,5 @@
--- What a tree is once a node that was lent out of it is given back, and what a call promises that edits through the node.
+-- Mutable access to a node of a tree: what the tree is when the borrow ends, and what calls through
+-- the borrow promise.
 use Rattle.std.specs.Prelude.{◌≡◌, Option, Result}
 use Rattle.std.specs.Borrow.{Fml, MutBor, RestsIfNone}
 use Rattle.dom_nodes.specs.Change.{changed}
@@ -10,26 +11,28 @@ use Rattle.dom_trees.specs.Edits.{Edits, TreeEdit}
 use Rattle.dom_trees.specs.declared.node_mut.NodeMut.{NodeMut}
 use Rattle.dom_trees.specs.contracts.tree.Tree.{the_row}
 
--- the tree ends as the lent node leaves it, or as it was if none was lent
+-- When the borrow ends, the tree is as the borrowed node leaves it; if nothing was borrowed, it is
+-- unchanged.
 abbrev pub LendsNode : MutBor Forest → Option NodeMut → Fml
 LendsNode tree lent = RestsIfNone the_row tree (λ node. node.tree.ghost_name) lent (λ left. left ≡ tree.now)
 
--- the node is still the same, and the same tree is lent
+-- The node has the same id, and the same tree is borrowed.
 pub record IsSameLoan (old new : NodeMut) : Type 0 where
   pub same_node : new.id ≡ old.id
   pub same_tree : new.tree.ghost_name ≡ old.tree.ghost_name
 
--- The lent tree is edited, as `Edits` says; node and loan stay
+-- The borrowed tree was edited, as `Edits` says, and the node and the borrow are the same.
 pub record EditsAt (result : Result Unit EditFault) (old new : NodeMut) (edit : TreeEdit) : Type 0 where
   pub edits : Edits result old.tree.now new.tree.now edit
   pub loan : IsSameLoan old new
 
--- The change is made of the node in the lent tree; node and loan stay
+-- The change was applied to the node in the borrowed tree, and the node and the borrow are the
+-- same.
 pub record ChangesAt (old new : NodeMut) (change : Change) : Type 0 where
   pub made : new.tree.now ≡ with_content old.id (changed change) old.tree.now
   pub loan : IsSameLoan old new
 
--- The lent tree is left as stated; node and loan stay
+-- The borrowed tree is now `after` of what it was, and the node and the borrow are the same.
 pub record LeavesAt (old new : NodeMut) (after : Forest → Forest) : Type 0 where
   pub made : new.tree.now ≡ after old.tree.now
   pub loan : IsSameLoan old new

@@ -1,4 +1,4 @@
-//! Whether an edit is allowed, and the fault that states why not.
+//! The tests for whether an edit is allowed, each with the fault that says why not.
 
 ghost use Rattle.std.specs.Prelude.{◌≡◌, ◌<◌, ◌≤◌, MatchResult, length, true};
 ghost use Rattle.dom_nodes.specs.declared.fault.EditFault.TheVariants.{TooManyNodes};
@@ -10,7 +10,7 @@ ghost use Rattle.dom_trees.specs.Edits.{IsKnown, MayMove, MayReparentOf};
 ghost use Rattle.dom_trees.specs.Refusals.{KnownCause, MoveCause, MovedCause, OpenCause};
 ghost use Rattle.dom_trees.specs.Refusals.{PlaceCause, ReparentCause, WrapCause};
 
-use dom_links::gap::{Gap, Moving, Place};
+use dom_links::gap::{InsertionPoint, MovedNodes, Place};
 use dom_links::ops::TreeNodeOps;
 use dom_links::ops::placing::stays_put;
 use dom_links::ops::siblings::first_child_of;
@@ -18,7 +18,7 @@ use dom_nodes::fault::EditFault;
 use dom_nodes::node_data::TreeNode;
 use dom_nodes::node_id::NodeId;
 
-/// Whether there is a node of that number.
+/// Tests that there is a node with this id. It fails with `UnknownNode`.
 pub(crate) fn check_known(nodes: &[TreeNode], x: NodeId) -> Result<(), EditFault>
     requires { IsSoundArena nodes.now }
     ensures { MatchResult result (λ _. IsKnown x (forest_of nodes.now))
@@ -31,20 +31,21 @@ pub(crate) fn check_known(nodes: &[TreeNode], x: NodeId) -> Result<(), EditFault
     }
 }
 
-/// Whether nodes may be put at the gap.
-pub(crate) fn check_open(nodes: &[TreeNode], gap: &Gap) -> Result<(), EditFault>
+/// Tests that nodes may be put at the insertion point. It fails with `NoChildrenHere` or
+/// `RootOrFragment`.
+pub(crate) fn check_open(nodes: &[TreeNode], gap: &InsertionPoint) -> Result<(), EditFault>
     requires sound { IsSoundArena nodes.now }
     requires known { IsKnown (target gap.now) (forest_of nodes.now) }
     ensures { MatchResult result (λ _. is_open gap.now (forest_of nodes.now) ≡ true)
         (OpenCause gap.now (forest_of nodes.now)) }
 {
     match *gap {
-        Gap::EndOf(t) | Gap::FrontOf(t) => {
+        InsertionPoint::EndOf(t) | InsertionPoint::FrontOf(t) => {
             if !TreeNodeOps::may_have_children(nodes, t) {
                 return Err(EditFault::NoChildrenHere);
             }
         }
-        Gap::Before(t) | Gap::After(t) => {
+        InsertionPoint::Before(t) | InsertionPoint::After(t) => {
             if !TreeNodeOps::may_have_siblings(nodes, t) {
                 return Err(EditFault::RootOrFragment);
             }
@@ -53,7 +54,8 @@ pub(crate) fn check_open(nodes: &[TreeNode], gap: &Gap) -> Result<(), EditFault>
     Ok(())
 }
 
-/// Whether nodes may be put at a place.
+/// Tests that the node `x` exists and that nodes may be put at this place relative to it. It fails
+/// with `UnknownNode`, `NoChildrenHere` or `RootOrFragment`.
 pub(crate) fn check_place(nodes: &[TreeNode], x: NodeId, place: Place) -> Result<(), EditFault>
     requires { IsSoundArena nodes.now }
     ensures { MatchResult result (λ _. IsKnown x (forest_of nodes.now)
@@ -64,27 +66,31 @@ pub(crate) fn check_place(nodes: &[TreeNode], x: NodeId, place: Place) -> Result
     check_open(nodes, &place.gap(x))
 }
 
-/// The node that the gap names.
-pub(crate) fn target_of(gap: &Gap) -> NodeId
+/// Returns the node that describes the insertion point.
+pub(crate) fn target_of(gap: &InsertionPoint) -> NodeId
     ensures { result ≡ target gap.now }
 {
     match *gap {
-        Gap::EndOf(t) | Gap::FrontOf(t) | Gap::Before(t) | Gap::After(t) => t,
+        InsertionPoint::EndOf(t)
+        | InsertionPoint::FrontOf(t)
+        | InsertionPoint::Before(t)
+        | InsertionPoint::After(t) => t,
     }
 }
 
-/// The node that names what is moved.
-fn moving_id_of(moving: &Moving) -> NodeId
+/// Returns the node that describes which nodes are moved.
+fn moving_id_of(moving: &MovedNodes) -> NodeId
     ensures { result ≡ moving_id moving.now }
 {
     match *moving {
-        Moving::Node(x) | Moving::WithLater(x) | Moving::WholeList(x) => x,
+        MovedNodes::Node(x) | MovedNodes::WithLater(x) | MovedNodes::WholeList(x) => x,
     }
 }
 
-/// Whether each of the moved nodes may go to a gap at t.
+/// Tests that each of the moved nodes may be moved to `t`. It fails with `RootOrFragment` or
+/// `Cycle`.
 #[tactic(auto, using(crate::proofs::Whole::mover_stands))]
-fn check_moved(nodes: &[TreeNode], t: NodeId, moving: &Moving) -> Result<(), EditFault>
+fn check_moved(nodes: &[TreeNode], t: NodeId, moving: &MovedNodes) -> Result<(), EditFault>
     requires sound { IsSoundArena nodes.now }
     requires target_known { IsKnown t (forest_of nodes.now) }
     requires known { IsKnown (moving_id moving.now) (forest_of nodes.now) }
@@ -102,7 +108,7 @@ fn check_moved(nodes: &[TreeNode], t: NodeId, moving: &Moving) -> Result<(), Edi
     }
 }
 
-/// Whether there is a number left for a new node.
+/// Tests that an id is left for a new node. It fails with `TooManyNodes`.
 pub(crate) fn check_room(nodes: &[TreeNode]) -> Result<(), EditFault>
     requires { IsSoundArena nodes.now }
     ensures { let count = length (forest_of nodes.now).content
@@ -115,8 +121,13 @@ pub(crate) fn check_room(nodes: &[TreeNode]) -> Result<(), EditFault>
     }
 }
 
-/// Whether the nodes may be moved to the gap.
-pub(crate) fn check_move(nodes: &[TreeNode], gap: &Gap, moving: &Moving) -> Result<(), EditFault>
+/// Tests that the nodes may be moved to the insertion point. It fails with `UnknownNode`,
+/// `NoChildrenHere`, `RootOrFragment` or `Cycle`.
+pub(crate) fn check_move(
+    nodes: &[TreeNode],
+    gap: &InsertionPoint,
+    moving: &MovedNodes,
+) -> Result<(), EditFault>
     requires { IsSoundArena nodes.now }
     ensures { MatchResult result (λ _. MayMove gap.now moving.now (forest_of nodes.now))
         (MoveCause gap.now moving.now (forest_of nodes.now)) }
@@ -128,7 +139,8 @@ pub(crate) fn check_move(nodes: &[TreeNode], gap: &Gap, moving: &Moving) -> Resu
     check_moved(nodes, t, moving)
 }
 
-/// Whether the children of x may be moved to the end of those of another node, or out of x.
+/// Tests that the children of `x` may be moved to the end of the children of another node, or
+/// detached. It fails with `UnknownNode`, `NoChildrenHere` or `Cycle`.
 pub(crate) fn check_reparent(
     nodes: &[TreeNode],
     x: NodeId,
@@ -143,19 +155,19 @@ pub(crate) fn check_reparent(
         return Ok(());
     };
     check_known(nodes, t)?;
-    check_open(nodes, &Gap::EndOf(t))?;
+    check_open(nodes, &InsertionPoint::EndOf(t))?;
     let Some(first) = first_child_of(nodes, x) else {
         return Ok(());
     };
-    check_moved(nodes, t, &Moving::WithLater(first))
+    check_moved(nodes, t, &MovedNodes::WithLater(first))
 }
 
-/// Whether x may be wrapped in w.
+/// Tests that `x` may be wrapped in `w`.
 pub(crate) fn check_wrap(nodes: &[TreeNode], x: NodeId, w: NodeId) -> Result<(), EditFault>
     requires { IsSoundArena nodes.now }
     ensures { MatchResult result (λ _. MayWrap (forest_of nodes.now) x w)
         (WrapCause x w (forest_of nodes.now)) }
 {
-    check_move(nodes, &Gap::Before(x), &Moving::Node(w))?;
-    check_open(nodes, &Gap::EndOf(w))
+    check_move(nodes, &InsertionPoint::Before(x), &MovedNodes::Node(w))?;
+    check_open(nodes, &InsertionPoint::EndOf(w))
 }

@@ -1,24 +1,25 @@
-//! The nodes around a node of a tree, by number. They take no memory.
+//! Iterators over the ids of the nodes around a node. They allocate no memory. For an unknown id
+//! they are empty.
 
 ghost use Rattle.std.specs.Prelude.{◌≡◌, ◌≤◌, length};
 ghost use Rattle.dom_links.specs.Forest.{children_of};
 ghost use Rattle.dom_links.specs.Lists.{IsDistinct};
-ghost use Rattle.dom_links.specs.Trees.{ancestors, in_order, limited, walk_below};
+ghost use Rattle.dom_links.specs.Trees.{ancestors, in_order, limited, descendants_in_order};
 ghost use Rattle.dom_links.specs.Walk.{leaves_among};
 
 use crate::tree::Tree;
 use dom_links::iters::{AncestorNodes, ChildNodes, DescendantNodes};
 use dom_nodes::node_id::NodeId;
 
-/// The children of a node, first to last, or last to first where `rev` says so.
+/// Returns an iterator over the children of a node, from the last to the first if `rev` is true.
 pub fn child_nodes<'a>(tree: &'a Tree, id: &NodeId, rev: bool) -> ChildNodes<'a>
     ensures { result ≡ in_order rev (children_of tree.now id.now) }
 {
     tree.child_ids_of_it(id, rev)
 }
 
-/// The ancestors of a node, from its parent on; at most `max_depth` of them, where that is neither
-/// none nor 0.
+/// Returns an iterator over the ancestors of a node, from its parent up. It ends after `max_depth`
+/// of them; `None` or 0 means no limit.
 pub fn ancestor_nodes<'a>(
     tree: &'a Tree,
     id: &NodeId,
@@ -29,11 +30,12 @@ pub fn ancestor_nodes<'a>(
     tree.ancestor_ids_of_it(id, max_depth)
 }
 
-/// The nodes below a node, each before what is below it.
+/// Returns an iterator over the descendants of a node in document order: each node comes before its
+/// own descendants. Template contents aren't visited.
 pub fn descendant_nodes<'a>(tree: &'a Tree, id: &NodeId) -> DescendantNodes<'a>
-    ensures all { result.left ≡ walk_below tree.now id.now }
-    ensures whole { result.whole ≡ walk_below tree.now id.now }
-    ensures leaves { result.leaves ≡ leaves_among tree.now (walk_below tree.now id.now) }
+    ensures all { result.left ≡ descendants_in_order tree.now id.now }
+    ensures whole { result.whole ≡ descendants_in_order tree.now id.now }
+    ensures leaves { result.leaves ≡ leaves_among tree.now (descendants_in_order tree.now id.now) }
     ensures once { IsDistinct result.left }
     ensures few { length result.left ≤ 4294967295 }
 {

@@ -1,10 +1,10 @@
-//! A node that is lent to be changed, with its tree. Each call hands on to the tree's call of that
-//! name, which says when it is refused.
+//! `NodeMut`: a node together with a mutable borrow of its tree. Each edit calls the method of
+//! `Tree` that does the same by id. When an edit fails, the tree is unchanged.
 
 ghost use Rattle.std.specs.Prelude.{◌≡◌, ◌≤◌, MatchOption, length};
 ghost use Rattle.std.specs.Borrow.{sem};
-ghost use Rattle.dom_links.specs.declared.gap.Gap.TheVariants.{After, Before, EndOf, FrontOf};
-ghost use Rattle.dom_links.specs.declared.gap.Moving.TheVariants.{Node, WholeList, WithLater};
+ghost use Rattle.dom_links.specs.declared.gap.InsertionPoint.TheVariants.{After, Before, EndOf, FrontOf};
+ghost use Rattle.dom_links.specs.declared.gap.MovedNodes.TheVariants.{Node, WholeList, WithLater};
 ghost use Rattle.dom_trees.specs.Edits.{moving_to, removing, removing_children, replacing};
 ghost use Rattle.dom_trees.specs.Edits.{unwrapping, wrapping};
 ghost use Rattle.dom_trees.specs.Lending.{EditsAt};
@@ -16,7 +16,7 @@ use dom_nodes::node_id::NodeId;
 mod changes;
 mod texts;
 
-/// A node, by its number and its tree, which may be changed.
+/// A node of a tree, which may be changed.
 #[derive(Drop)]
 pub struct NodeMut<'a> {
     pub id: NodeId,
@@ -26,7 +26,7 @@ pub struct NodeMut<'a> {
 impl Tree {
     ghost use Rattle.dom_trees.specs.Lending.{LendsNode};
 
-    /// The node of that number, to be changed.
+    /// Returns the node with this id for edits, or `None` for an unknown id.
     pub fn node_mut(&mut self, id: &NodeId) -> Option<NodeMut<'_>>
         ensures* lends { sem 𝓛 (LendsNode self.entry result) }
         ensures node { MatchOption result (length self.old.content ≤ id.now)
@@ -44,21 +44,23 @@ impl Tree {
 }
 
 impl<'a> NodeMut<'a> {
-    /// Cuts the node out of its list. It is then a run of its own.
+    /// Detaches the node from its parent and its siblings. A node that is detached already stays as
+    /// it is. It fails with `UnknownNode` only.
     pub fn remove_from_parent(&mut self) -> Result<(), EditFault>
         ensures { EditsAt result self.old self.new (removing self.old.id) }
     {
         self.tree.remove_from_parent(&self.id)
     }
 
-    /// Cuts the children out. They are then a run of their own.
+    /// Detaches the children of the node. They stay siblings of each other. It fails with
+    /// `UnknownNode` only.
     pub fn remove_children(&mut self) -> Result<(), EditFault>
         ensures { EditsAt result self.old self.new (removing_children self.old.id) }
     {
         self.tree.remove_children_of(&self.id)
     }
 
-    /// Moves another node to the end of the children.
+    /// Moves another node to the end of this node's children. It fails as `Tree::move_to` does.
     pub fn append_child(&mut self, new_child: &NodeId) -> Result<(), EditFault>
         ensures { EditsAt result self.old self.new
             (moving_to (EndOf self.old.id) (Node new_child.now)) }
@@ -66,7 +68,7 @@ impl<'a> NodeMut<'a> {
         self.tree.append_child_of(&self.id, new_child)
     }
 
-    /// Moves another node to the front of the children.
+    /// Moves another node to the front of this node's children. It fails as `Tree::move_to` does.
     pub fn prepend_child(&mut self, new_child: &NodeId) -> Result<(), EditFault>
         ensures { EditsAt result self.old self.new
             (moving_to (FrontOf self.old.id) (Node new_child.now)) }
@@ -74,7 +76,8 @@ impl<'a> NodeMut<'a> {
         self.tree.prepend_child_of(&self.id, new_child)
     }
 
-    /// Moves another node to the place right before this one.
+    /// Moves another node to the place immediately before this one. It fails as `Tree::move_to`
+    /// does.
     pub fn insert_before(&mut self, new_sibling: &NodeId) -> Result<(), EditFault>
         ensures { EditsAt result self.old self.new
             (moving_to (Before self.old.id) (Node new_sibling.now)) }
@@ -82,7 +85,8 @@ impl<'a> NodeMut<'a> {
         self.tree.insert_before_of(&self.id, new_sibling)
     }
 
-    /// Moves another node to the place right after this one.
+    /// Moves another node to the place immediately after this one. It fails as `Tree::move_to`
+    /// does.
     pub fn insert_after(&mut self, new_sibling: &NodeId) -> Result<(), EditFault>
         ensures { EditsAt result self.old self.new
             (moving_to (After self.old.id) (Node new_sibling.now)) }
@@ -90,7 +94,8 @@ impl<'a> NodeMut<'a> {
         self.tree.insert_after_of(&self.id, new_sibling)
     }
 
-    /// Moves another node and its later siblings to the end of the children.
+    /// Moves another node and its later siblings to the end of this node's children. It fails as
+    /// `Tree::move_to` does.
     pub fn append_children(&mut self, new_child: &NodeId) -> Result<(), EditFault>
         ensures { EditsAt result self.old self.new
             (moving_to (EndOf self.old.id) (WithLater new_child.now)) }
@@ -98,7 +103,8 @@ impl<'a> NodeMut<'a> {
         self.tree.append_children_of(&self.id, new_child)
     }
 
-    /// Moves the whole list of another node, it and all its siblings, to the front of the children.
+    /// Moves another node and all its siblings to the front of this node's children. It fails as
+    /// `Tree::move_to` does.
     pub fn prepend_children(&mut self, new_child: &NodeId) -> Result<(), EditFault>
         ensures { EditsAt result self.old self.new
             (moving_to (FrontOf self.old.id) (WholeList new_child.now)) }
@@ -106,7 +112,8 @@ impl<'a> NodeMut<'a> {
         self.tree.prepend_children_of(&self.id, new_child)
     }
 
-    /// Moves another node and its later siblings to the place right before this one.
+    /// Moves another node and its later siblings to the place immediately before this one. It fails
+    /// as `Tree::move_to` does.
     pub fn insert_siblings_before(&mut self, new_sibling: &NodeId) -> Result<(), EditFault>
         ensures { EditsAt result self.old self.new
             (moving_to (Before self.old.id) (WithLater new_sibling.now)) }
@@ -114,7 +121,8 @@ impl<'a> NodeMut<'a> {
         self.tree.insert_siblings_before(&self.id, new_sibling)
     }
 
-    /// Moves another node and its later siblings to the place right after this one.
+    /// Moves another node and its later siblings to the place immediately after this one. It fails
+    /// as `Tree::move_to` does.
     pub fn insert_siblings_after(&mut self, new_sibling: &NodeId) -> Result<(), EditFault>
         ensures { EditsAt result self.old self.new
             (moving_to (After self.old.id) (WithLater new_sibling.now)) }
@@ -122,22 +130,24 @@ impl<'a> NodeMut<'a> {
         self.tree.insert_siblings_after(&self.id, new_sibling)
     }
 
-    /// Puts another node right before this one, and cuts this one out.
+    /// Moves another node to the place of this one, and detaches this one. It fails as
+    /// `Tree::replace_with` does.
     pub fn replace_with(&mut self, new_node: &NodeId) -> Result<(), EditFault>
         ensures { EditsAt result self.old self.new (replacing self.old.id new_node.now) }
     {
         self.tree.replace_with(&self.id, new_node)
     }
 
-    /// Puts the wrapper right before the node, and then the node to the end of the wrapper's
-    /// children.
+    /// Wraps this node: moves the wrapper to the place immediately before it, and then this node to
+    /// the end of the wrapper's children. It fails as `Tree::wrap_node` does.
     pub fn wrap_node(&mut self, wrapper: &NodeId) -> Result<(), EditFault>
         ensures { EditsAt result self.old self.new (wrapping self.old.id wrapper.now) }
     {
         self.tree.wrap_node(&self.id, wrapper)
     }
 
-    /// Puts the parent's children in the place of the parent, where it and its parent are elements.
+    /// Removes the parent of this node and keeps the parent's children in its place. If the parent
+    /// or the grandparent is no element, nothing changes. It fails with `UnknownNode` only.
     pub fn unwrap_node(&mut self) -> Result<(), EditFault>
         ensures { EditsAt result self.old self.new (unwrapping self.old.id) }
     {

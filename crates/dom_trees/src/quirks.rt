@@ -1,6 +1,7 @@
-//! By which rules a page is read.
+//! The quirks mode of a document (DOM Standard, 4.5, and HTML Standard, 13.2.6.4.1).
 
-/// How far a browser would go in reading the page by older rules.
+/// How closely a browser would follow the layout rules of old pages. A parser finds it from the
+/// doctype.
 #[derive(Clone, Copy, PartialEq, Eq, Debug, Drop)]
 pub enum QuirksMode {
     Quirks,

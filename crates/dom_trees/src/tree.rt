@@ -1,11 +1,15 @@
-//! A tree that owns its nodes.
+//! `Tree`: a tree that owns its nodes.
+//!
+//! The methods are in the modules below: `creation` and `templates` (new nodes), `moves`,
+//! `insertions` and `copies` (edits of the links), `changes` and `texts` (edits of nodes),
+//! `growing` (the calls that a parser uses) and `reading`. More queries are in `node_ref`.
 
 ghost use Rattle.std.specs.Prelude.{◌≡◌, ◌≤◌, [], length, IfErr, IfOk, IsErrAnd, MatchOption};
 ghost use Rattle.dom_links.specs.Forest.{forest_of, children_of};
 ghost use Rattle.dom_links.specs.Growth.{lone};
 ghost use Rattle.dom_links.specs.Lists.{IsDistinct};
 ghost use Rattle.dom_links.specs.Sound.{IsSoundArena};
-ghost use Rattle.dom_links.specs.Trees.{ancestors, in_order, limited, walk_below};
+ghost use Rattle.dom_links.specs.Trees.{ancestors, in_order, limited, descendants_in_order};
 ghost use Rattle.dom_links.specs.Walk.{IsNodeOf, leaves_among};
 ghost use Rattle.dom_links.specs.declared.validation.ValidateFault.TheVariants.{Memory, NoRoot};
 ghost use Rattle.dom_trees.specs.Refusals.{ComeBack, RootCause};
@@ -32,7 +36,9 @@ mod reading;
 mod templates;
 mod texts;
 
-/// A tree. A contract sees it as a forest.
+/// A tree of nodes. Node 0 is its root; nodes that aren't below the root are detached but still
+/// exist. In a contract a `Tree` is a `Forest`: the nodes, the children of each node, and the lists
+/// of detached siblings.
 #[derive(Drop)]
 pub struct Tree {
     nodes: Vec<TreeNode>,
@@ -57,7 +63,8 @@ impl fmt::Debug for Tree {
 }
 
 impl Tree {
-    /// A tree of one node.
+    /// Returns a tree of one node, the root. It fails with `BadContents` when the data is an
+    /// element with template contents, and with `Memory` when memory is refused.
     pub fn new(alloc: Global, content: NodeData) -> Result<Tree, EditFault>
         ensures ok { IfOk result (λ tree. tree ≡ lone content) }
         ensures cause { IfErr result (λ fault. RootCause content fault) }
@@ -70,15 +77,16 @@ impl Tree {
         })
     }
 
-    /// The number of the root.
+    /// Returns the id of the root, 0.
     pub fn root_id(&self) -> NodeId
         ensures { result ≡ 0 }
     {
         NodeId::root()
     }
 
-    /// The tree of raw nodes. Where they are no forest's, or memory is refused, they come back as
-    /// they were given.
+    /// Returns the tree with these nodes, if they are linked as a forest and each node's id is its
+    /// index. Otherwise, or when memory for the check is refused, it fails and returns the vector
+    /// unchanged, with the fault that was found first.
     pub fn from_nodes(nodes: Vec<TreeNode>) -> Result<Tree, (Vec<TreeNode>, ValidateFault)>
         ensures sound { IfOk result (λ _. IsSoundArena nodes.items) }
         ensures ok { IfOk result (λ tree. tree ≡ forest_of nodes.items) }
@@ -91,21 +99,22 @@ impl Tree {
         }
     }
 
-    /// Checks the links again. A tree passes, if there is memory for the check.
+    /// Checks the links of the tree again. It can fail only with `Memory`, since the links of a
+    /// tree are always those of a forest.
     pub fn validate(&self) -> Result<(), ValidateFault>
         ensures { IfErr result (λ fault. fault ≡ Memory) }
     {
         TreeNodeOps::validate(self.allocator(), self.nodes())
     }
 
-    /// How many nodes there are, cut-out ones too.
+    /// Returns the number of nodes, detached ones included.
     pub fn len(&self) -> usize
         ensures { result ≡ length self.now.content }
     {
         self.nodes.len()
     }
 
-    /// The nodes, whose links are those of the tree's forest.
+    /// Returns the nodes; the index of a node is its id.
     pub fn nodes(&self) -> &[TreeNode]
         ensures value { forest_of result.now ≡ self.now }
         ensures sound { IsSoundArena result.now }
@@ -113,13 +122,13 @@ impl Tree {
         self.nodes.as_slice()
     }
 
-    /// Where the tree's memory comes from. No clause: a contract sees the tree as its forest, and
-    /// this states nothing of it.
+    /// Returns the allocator of the tree. There is no `ensures` clause, because a contract sees the
+    /// tree as a forest and an allocator says nothing about that.
     pub fn allocator(&self) -> Global {
         *self.nodes.allocator()
     }
 
-    /// What the arena holds at that number: the node's content and its links.
+    /// Returns the node with this id, with its links and its data, or `None` for an unknown id.
     pub fn tree_node(&self, id: &NodeId) -> Option<&TreeNode>
         ensures { MatchOption result (length self.now.content ≤ id.now)
             (λ node. IsNodeOf self.now id.now node.now) }
@@ -127,30 +136,32 @@ impl Tree {
         find_node(self.nodes(), *id)
     }
 
-    /// The children of a node, first to last, or last to first where `rev` says so.
+    /// Returns an iterator over the ids of a node's children, from the last to the first if `rev`
+    /// is true.
     pub fn child_ids_of_it(&self, id: &NodeId, rev: bool) -> ChildNodes<'_>
         ensures { result ≡ in_order rev (children_of self.now id.now) }
     {
         ChildNodes::new(self.nodes(), id, rev)
     }
 
-    /// The children of a node, in order.
+    /// Returns the ids of a node's children, in order. It fails with `OutOfMemory` when memory is
+    /// refused.
     pub fn child_ids_of(&self, id: &NodeId) -> Result<Vec<NodeId>, OutOfMemory>
         ensures { ListsNumbers result (children_of self.now id.now) }
     {
         Ok(self.child_ids_of_it(id, false).collect(self.allocator())?)
     }
 
-    /// The ancestors of a node, from its parent on; at most `max_depth` of them, where that is
-    /// neither none nor 0.
+    /// Returns an iterator over the ids of a node's ancestors, from its parent up. It ends after
+    /// `max_depth` of them; `None` or 0 means no limit.
     pub fn ancestor_ids_of_it(&self, id: &NodeId, max_depth: Option<usize>) -> AncestorNodes<'_>
         ensures { result ≡ limited max_depth (ancestors self.now id.now) }
     {
         AncestorNodes::new(self.nodes(), id, max_depth)
     }
 
-    /// The ancestors of a node, from its parent on; at most `max_depth` of them, where that is
-    /// neither none nor 0.
+    /// Returns the ids of a node's ancestors, from its parent up, at most `max_depth` of them;
+    /// `None` or 0 means no limit. It fails with `OutOfMemory` when memory is refused.
     pub fn ancestor_ids_of(
         &self,
         id: &NodeId,
@@ -164,20 +175,22 @@ impl Tree {
         )
     }
 
-    /// The nodes below a node, each before what is below it.
+    /// Returns an iterator over the ids of a node's descendants in document order. Template
+    /// contents aren't visited.
     pub fn descendant_ids_of_it(&self, id: &NodeId) -> DescendantNodes<'_>
-        ensures all { result.left ≡ walk_below self.now id.now }
-        ensures whole { result.whole ≡ walk_below self.now id.now }
-        ensures leaves { result.leaves ≡ leaves_among self.now (walk_below self.now id.now) }
+        ensures all { result.left ≡ descendants_in_order self.now id.now }
+        ensures whole { result.whole ≡ descendants_in_order self.now id.now }
+        ensures leaves { result.leaves ≡ leaves_among self.now (descendants_in_order self.now id.now) }
         ensures once { IsDistinct result.left }
         ensures few { length result.left ≤ 4294967295 }
     {
         DescendantNodes::new(self.nodes(), id)
     }
 
-    /// The nodes below a node, each before what is below it.
+    /// Returns the ids of a node's descendants in document order. Template contents aren't visited.
+    /// It fails with `OutOfMemory` when memory is refused.
     pub fn descendant_ids_of(&self, id: &NodeId) -> Result<Vec<NodeId>, OutOfMemory>
-        ensures { ListsNumbers result (walk_below self.now id.now) }
+        ensures { ListsNumbers result (descendants_in_order self.now id.now) }
     {
         Ok(self.descendant_ids_of_it(id).collect(self.allocator())?)
     }

@@ -3,14 +3,17 @@
 
 mod output;
 mod pages;
+mod rewriting;
+mod stream;
 
 use clap::Error;
 use hq_pages::command::{command, words_of};
 use hq_pages::faults::{Fault, report, report_in};
 use hq_pages::options::Options;
-use pages::print_file;
-use std::io::{BufWriter, Write};
+use pages::do_file;
+use std::io::{BufWriter, IsTerminal, Write};
 use std::process::ExitCode;
+use stream::answer_files;
 
 /// The status where something matched.
 const MATCHED: u8 = 0;
@@ -32,7 +35,10 @@ fn main(rt: HostRuntime) -> ExitCode {
 fn obey(rt: &HostRuntime) -> Result<u8, Fault> {
     let words = words_of(rt)?;
     match command(rt.alloc())?.try_get_matches_from(words.as_slice()) {
-        Ok(matches) => print_files(rt, &Options::new(rt.alloc(), &matches)?),
+        Ok(matches) => {
+            let terminal = rt.stdout().is_terminal();
+            do_files(rt, &Options::new(rt.alloc(), &matches, terminal)?)
+        }
         Err(refused) => Ok(show(rt, &refused)),
     }
 }
@@ -46,11 +52,16 @@ fn show(rt: &HostRuntime, refused: &Error) -> u8 {
 }
 
 /// Prints what is asked for of each file, and gives the status.
-fn print_files(rt: &HostRuntime, options: &Options<'_>) -> Result<u8, Fault> {
+fn do_files(rt: &HostRuntime, options: &Options<'_>) -> Result<u8, Fault> {
     let mut out = BufWriter::new(rt.alloc(), rt.stdout())?;
+    if options.stream.jsonl {
+        let matched = answer_files(rt, options, &mut out)?;
+        out.flush()?;
+        return Ok(if matched { MATCHED } else { UNMATCHED });
+    }
     let mut status = UNMATCHED;
     for name in options.files.as_slice() {
-        status = joined_status(status, print_or_report(rt, name, options, &mut out)?);
+        status = joined_status(status, do_or_report(rt, name, options, &mut out)?);
     }
     out.flush()?;
     Ok(status)
@@ -66,13 +77,13 @@ fn joined_status(status: u8, another: u8) -> u8 {
 
 /// Prints what is asked for of a file, and gives its status. One at fault is reported, and another
 /// may be read then.
-fn print_or_report<W: Write>(
+fn do_or_report<W: Write>(
     rt: &HostRuntime,
     name: &str,
     options: &Options<'_>,
     out: &mut W,
 ) -> Result<u8, Fault> {
-    match print_file(rt, name, options, out) {
+    match do_file(rt, name, options, out) {
         Ok(true) => Ok(MATCHED),
         Ok(false) => Ok(UNMATCHED),
         Err(fault) => {

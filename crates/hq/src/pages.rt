@@ -1,10 +1,12 @@
-//! Files as pages: what is taken out of one first, and what is printed of it.
+//! What is done with each file: it is read, changed, and printed or written back.
 
 use crate::output::print_matches;
-use dom_query::{Document, DocumentSelect, SelectionMut};
+use crate::rewriting::{print_document, write_back};
+use dom_query::{Document, DocumentSelect, SelectionMut, run_commands};
+use hq_pages::addresses::make_whole;
 use hq_pages::cleaning::sanitize_page;
 use hq_pages::faults::Fault;
-use hq_pages::options::Options;
+use hq_pages::options::{Job, Options};
 use hq_pages::pages::{read_document, top_of};
 use hq_pages::tree::tree_text;
 use std::io::Write;
@@ -16,8 +18,9 @@ pub struct Page<'a> {
     pub document: Document,
 }
 
-/// Prints what is asked for of a file, and returns whether something matched.
-pub fn print_file<W: Write>(
+/// Does with a file what the options ask for, and returns whether something matched; without a
+/// selector that is always so.
+pub fn do_file<W: Write>(
     rt: &HostRuntime,
     name: &str,
     options: &Options<'_>,
@@ -25,19 +28,43 @@ pub fn print_file<W: Write>(
 ) -> Result<bool, Fault> {
     let document = read_document(rt, name, options.reading)?;
     let mut page = Page { name, document };
-    clean(&mut page.document, options)?;
-    match &options.selector {
-        Some(selector) => print_matches(&page, selector, options, out),
-        None => {
+    change(&mut page.document, options)?;
+    let matched = do_job(&mut page, options, out)?;
+    if options.in_place {
+        write_back(rt, &page)?;
+    }
+    Ok(matched)
+}
+
+fn do_job<W: Write>(
+    page: &mut Page<'_>,
+    options: &Options<'_>,
+    out: &mut W,
+) -> Result<bool, Fault> {
+    match &options.job {
+        Job::Select(selector) => print_matches(page, selector, options, out),
+        Job::Document => {
+            if !options.in_place {
+                print_document(&page.document, out)?;
+            }
+            Ok(true)
+        }
+        Job::Tree => {
             let text = tree_text(&page.document, top_of(&page.document, options.reading))?;
             out.write_all(text.as_bytes())?;
+            Ok(true)
+        }
+        Job::Script(commands) => {
+            let alloc = page.document.tree.allocator();
+            run_commands(alloc, &mut page.document.tree, commands, out)?;
             Ok(true)
         }
     }
 }
 
-/// Takes out of the document what the options name.
-fn clean(document: &mut Document, options: &Options<'_>) -> Result<(), Fault> {
+/// Changes a document as the options say, before anything is printed: elements are taken out, it is
+/// sanitised, and its addresses are made whole.
+pub fn change(document: &mut Document, options: &Options<'_>) -> Result<(), Fault> {
     for selector in options.removed.as_slice() {
         let ids = document.select_matcher(selector)?.ids()?;
         if let Err(refused) = SelectionMut::new(&mut document.tree, ids).remove() {
@@ -47,5 +74,5 @@ fn clean(document: &mut Document, options: &Options<'_>) -> Result<(), Fault> {
     if options.sanitizes {
         sanitize_page(document)?;
     }
-    Ok(())
+    make_whole(document, options)
 }

@@ -1,79 +1,111 @@
-//! Attributes of matches, and the addresses in them.
+//! Attributes that hold addresses, and how these are made whole.
 
 use crate::faults::Fault;
-use crate::json::shown_as;
 use crate::options::Options;
-use dom_markup::document::Document;
-use dom_trees::node_ref::NodeRef;
+use dom_nodes::node_data::Change;
+use dom_query::{Document, NodeId, NodeRef};
 use std::alloc::Global;
 use url::{ParseError, Url};
 
-/// Whether attributes of that name hold an address.
-fn is_address(name: &str) -> bool {
-    matches!(
-        name,
-        "action"
-            | "background"
-            | "cite"
-            | "data"
-            | "formaction"
-            | "href"
-            | "icon"
-            | "longdesc"
-            | "manifest"
-            | "poster"
-            | "src"
-    )
+/// The attributes whose value is an address.
+static ADDRESSES: [&str; 11] = [
+    "action",
+    "background",
+    "cite",
+    "data",
+    "formaction",
+    "href",
+    "icon",
+    "longdesc",
+    "manifest",
+    "poster",
+    "src",
+];
+
+/// Makes the addresses of a document whole: each is resolved against the page's own base, which is
+/// itself resolved against the base of the options. Nothing changes where the options have no base;
+/// an address that can't be resolved stays as it is, and so does the `base` element's own.
+pub fn make_whole(document: &mut Document, options: &Options<'_>) -> Result<(), Fault> {
+    match &options.base {
+        Some(given) => make_whole_by(document, given),
+        None => Ok(()),
+    }
 }
 
-/// What the addresses of a document are joined to: the page's own base, itself joined to the one
-/// that was given.
-pub fn base_of(document: &Document, options: &Options<'_>) -> Result<Option<Url>, Fault> {
-    let Some(given) = &options.base else {
-        return Ok(None);
-    };
+fn make_whole_by(document: &mut Document, given: &Url) -> Result<(), Fault> {
+    let base = base_of(document, given)?;
+    for name in &ADDRESSES {
+        for (id, whole) in whole_values(document, name, &base)?.as_slice() {
+            document.tree.try_change_of(
+                id,
+                Change::SetAttr {
+                    name,
+                    value: whole.as_str(),
+                },
+            )?;
+        }
+    }
+    Ok(())
+}
+
+/// Makes the addresses of a document whole, relative to the address that it was read from. Nothing
+/// changes where that isn't a whole address.
+pub fn make_whole_at(document: &mut Document, address: &str) -> Result<(), Fault> {
+    match Url::parse(document.tree.allocator(), address) {
+        Ok(given) => make_whole_by(document, &given),
+        Err(ParseError::OutOfMemory) => Err(Fault::Memory),
+        Err(_) => Ok(()),
+    }
+}
+
+/// The base of the page's addresses.
+fn base_of(document: &Document, given: &Url) -> Result<Url, Fault> {
     let own = document.base_uri().unwrap_or("");
     if let Some(base) = joined(given, own)? {
-        return Ok(Some(base));
+        return Ok(base);
     }
-    joined(given, "")
+    match joined(given, "")? {
+        Some(base) => Ok(base),
+        None => Err(Fault::Memory),
+    }
 }
 
-/// An attribute of a match, if it has it. Of JSON there is a line for each match.
-pub fn attr_line(
+/// The elements with an attribute of that name, each with the whole address.
+fn whole_values(
+    document: &Document,
+    name: &str,
+    base: &Url,
+) -> Result<Vec<(NodeId, String)>, Fault> {
+    let alloc = document.tree.allocator();
+    let mut found = Vec::new(alloc);
+    for node in document.root().descendants_it() {
+        if let Some(whole) = whole_value(alloc, &node, name, base)? {
+            found.push((node.id, whole))?;
+        }
+    }
+    Ok(found)
+}
+
+/// The whole address of an element's attribute, if it has one that can be resolved.
+fn whole_value(
+    alloc: Global,
     node: &NodeRef<'_>,
     name: &str,
-    options: &Options<'_>,
-    base: &Option<Url>,
+    base: &Url,
 ) -> Result<Option<String>, Fault> {
-    let alloc = node.tree.allocator();
-    if let Some(value) = node.attr(name) {
-        let text = joined_value(alloc, base, name, value)?;
-        return Ok(Some(shown_as(alloc, text, options.json)?));
-    }
-    if !options.json {
+    if node.has_name("base") {
         return Ok(None);
     }
-    Ok(Some(String::from_str(alloc, "null")?))
-}
-
-/// The value of an attribute, joined to a base where there is one and the value is an address.
-fn joined_value(
-    alloc: Global,
-    base: &Option<Url>,
-    name: &str,
-    value: &str,
-) -> Result<String, Fault> {
-    if let Some(base) = base
-        && is_address(name)
-        && let Some(url) = joined(base, value)?
-    {
-        return Ok(String::from_str(alloc, url.as_str())?);
+    let Some(value) = node.attr(name) else {
+        return Ok(None);
+    };
+    match joined(base, value)? {
+        Some(url) => Ok(Some(String::from_str(alloc, url.as_str())?)),
+        None => Ok(None),
     }
-    Ok(String::from_str(alloc, value)?)
 }
 
-/// An address joined to a base, if it is one.
+/// An address resolved against a base, if it can be.
 fn joined(base: &Url, address: &str) -> Result<Option<Url>, Fault> {
     match base.join(address) {
         Ok(url) => Ok(Some(url)),

@@ -2,11 +2,8 @@
 
 use crate::addresses::is_harmless;
 use crate::faults::Fault;
-use dom_markup::document::Document;
 use dom_nodes::node_data::Change;
-use dom_nodes::node_id::NodeId;
-use dom_sanitize::sanitize::{Allow, sanitize};
-use dom_trees::node_ref::NodeRef;
+use dom_query::{Allow, Document, NodeId, NodeRef, sanitize};
 
 /// The elements that sanitising leaves.
 static ELEMENTS: [&str; 73] = [

@@ -6,35 +6,66 @@ use std::alloc::{AllocError, Global};
 use std::env;
 use std::io::ErrorKind;
 
-const USAGE: &str = "hq [OPTIONS] SELECTOR [FILE ..]\n       hq --tree [OPTIONS] [FILE ..]";
+const VERSION: &str = "1.0.0 (dom_query 0.29.0)";
 
-const AFTER: &str = "Without a FILE, or where it is -, standard input is read. \
-    The status is 0 where something matched,\n1 where nothing did, and 2 for a fault.";
+const USAGE: &str = "hq [OPTIONS] SELECTOR [FILE ..]
+       hq [OPTIONS] --document | --tree | --script LINES [FILE ..]
+       hq [OPTIONS] --jsonl SELECTOR [FILE ..]";
 
-/// The options: the name of each, what its value is called, if it takes one, another option that it
-/// can't stand beside, if there is one, and what it is for.
+const AFTER: &str = "Examples:
+  hq --text h1 page.html               the headings of a page
+  hq --attr href --base https://example.com/ 'main a' page.html
+                                       the links of its main part, as whole addresses
+  hq --document --remove script -i *.html
+                                       rewrites pages without their scripts
+
+Without a FILE, or where it is -, standard input is read. The status is 0 where something matched,
+1 where nothing did, and 2 where something failed.";
+
+/// An option: its name, its short name or a space, what its value is called (empty for an option
+/// without a value), another option that it excludes (empty where there is none), and its help.
+type Choice = (&'static str, char, &'static str, &'static str, &'static str);
+
+/// The short name of an option that has none.
+const NONE: char = ' ';
+
+/// All options, in the order in which `--help` lists them.
 #[rattlefmt::skip]
-static OPTIONS: [(&str, &str, &str, &str); 15] = [
-    ("html", "", "", "Print each match as HTML (the default)"),
-    ("inner", "", "", "Print the HTML below each match"),
-    ("tree", "", "", "Print the whole tree, in the form of html5lib's tests"),
-    ("text", "", "", "Print the text of each match"),
-    ("md", "", "", "Print what is below each match as Markdown"),
-    ("attr", "NAME", "", "Print this attribute of each match that has it"),
-    ("count", "", "json", "Print how many matches there are"),
-    ("first", "", "tree", "Take the first match of each file alone"),
-    ("json", "", "tree", "Print a line of JSON for each match"),
-    ("base", "URL", "", "Join the addresses that --attr prints to this one"),
-    ("remove", "SELECTOR", "", "Take out first what this matches; may be repeated"),
-    ("sanitize", "", "", "Leave only harmless elements and attributes first"),
-    ("explicit", "", "", "Read explicit markup, and refuse the rest"),
-    ("context", "NAME", "explicit",
-        "Read what stands in an element of this name, as tr or \"svg path\""),
-    ("scripting", "", "explicit", "Read as if scripts ran"),
+static OPTIONS: [Choice; 28] = [
+    ("html", NONE, "", "", "Print each match as HTML (the default)"),
+    ("inner", NONE, "", "", "Print what is inside each match: HTML, or with --md Markdown"),
+    ("text", 't', "", "", "Print the text of each match"),
+    ("md", 'm', "", "", "Print each match as Markdown"),
+    ("attr", 'a', "NAME", "", "Print this attribute of each match that has it"),
+    ("count", 'c', "", "json", "Print how many matches there are"),
+    ("csv", NONE, "", "json", "Print the rows of each matched table as CSV"),
+    ("document", 'd', "", "", "Print the whole document, doctype included"),
+    ("tree", NONE, "", "", "Print the whole tree, in the form of html5lib's tests"),
+    ("script", 's', "LINES", "", "Run these lines of a script on the page; may be repeated"),
+    ("json", 'j', "", "", "Print a line of JSON for each match"),
+    ("jsonl", NONE, "", "", "Read lines of JSON, a page in each, and answer each by a line"),
+    ("first", '1', "", "", "Take only the first match in each file"),
+    ("trim", NONE, "", "", "Join whitespace in what --text and --attr print"),
+    ("null", '0', "", "", "End each answer with a NUL byte instead of a line feed"),
+    ("with-filename", 'H', "", "", "Print the name of the file in front of each answer"),
+    ("color", NONE, "WHEN", "", "Colour file names: auto (the default), always or never"),
+    ("base", 'b', "URL", "", "Make addresses whole, relative to this one and the page's base"),
+    ("remove", 'r', "SELECTOR", "", "First take out what this matches; may be repeated"),
+    ("sanitize", NONE, "", "", "Then keep only harmless elements, attributes and addresses"),
+    ("in-place", 'i', "", "", "Write the document back to its file; with --document or --script"),
+    ("explicit", NONE, "", "", "Accept only explicit markup, in which every element is closed"),
+    ("context", NONE, "NAME", "explicit", "Read a fragment as in this element: tr, \"svg path\""),
+    ("scripting", NONE, "", "explicit", "Read as if scripts ran: noscript holds text"),
+    ("max-depth", NONE, "N", "explicit", "Nest elements at most this deep"),
+    ("line-buffered", NONE, "", "", "Flush the output after every line"),
+    ("progress", NONE, "", "", "Report pages, bytes and faults on standard error; with --jsonl"),
+    ("verbose", 'v', "", "", "Report how each page was read on standard error"),
 ];
 
-/// The options of which one says what is shown of a match.
-static SHOWS: [&str; 7] = ["html", "inner", "tree", "text", "md", "attr", "count"];
+/// The options that say what is printed, of which one can be given.
+static SHOWS: [&str; 9] = [
+    "html", "text", "md", "attr", "count", "csv", "document", "tree", "script",
+];
 
 /// The words of the command line, the program's name first.
 pub fn words_of(rt: &HostRuntime) -> Result<Vec<String>, Fault> {
@@ -48,14 +79,14 @@ pub fn words_of(rt: &HostRuntime) -> Result<Vec<String>, Fault> {
 /// The command line that the program takes.
 pub fn command<'a>(alloc: Global) -> Result<Command<'a>, AllocError> {
     let mut command = Command::new(alloc, "hq")
-        .version("0.29.0")
+        .version(VERSION)
         .about("Prints what a CSS selector matches in pages of the web.")
         .override_usage(USAGE)
         .after_help(AFTER)
         .arg(selector(alloc)?)?
         .arg(files(alloc))?;
-    for (name, value, other, help) in &OPTIONS {
-        command = command.arg(option(alloc, name, value, other)?.help(help))?;
+    for choice in &OPTIONS {
+        command = command.arg(option(alloc, choice)?)?;
     }
     command.group(shows(alloc)?)
 }
@@ -63,8 +94,8 @@ pub fn command<'a>(alloc: Global) -> Result<Command<'a>, AllocError> {
 fn selector<'a>(alloc: Global) -> Result<Arg<'a>, AllocError> {
     Arg::new(alloc, "selector")
         .value_name("SELECTOR")
-        .help("What to look for; with --tree the first FILE")
-        .required_unless_present("tree")
+        .help("What to look for; a FILE with --document, --tree or --script")
+        .required_unless_present_any(&["document", "tree", "script"])
 }
 
 fn files<'a>(alloc: Global) -> Arg<'a> {
@@ -75,38 +106,36 @@ fn files<'a>(alloc: Global) -> Arg<'a> {
         .help("The pages")
 }
 
-/// An option, with a value where that has a name, and another one that it can't stand beside.
-fn option<'a>(
-    alloc: Global,
-    name: &'a str,
-    value: &'a str,
-    other: &'a str,
-) -> Result<Arg<'a>, AllocError> {
-    let mut option = Arg::new(alloc, name).long(name).action(action(name, value));
+fn option<'a>(alloc: Global, choice: &Choice) -> Result<Arg<'a>, AllocError> {
+    let (name, short, value, other, help) = *choice;
+    let mut option = Arg::new(alloc, name)
+        .long(name)
+        .action(action(name, value))
+        .help(help);
+    if short != NONE {
+        option = option.short(short);
+    }
     if !value.is_empty() {
         option = option.value_name(value);
     }
     if !other.is_empty() {
         option = option.conflicts_with(other)?;
     }
-    if name == "base" {
-        return option.requires_arg("attr");
-    }
     Ok(option)
 }
 
-/// What becomes of an option that is there.
+/// What an option does where it is given.
 fn action(name: &str, value: &str) -> ArgAction {
     if value.is_empty() {
         ArgAction::SetTrue
-    } else if name == "remove" {
+    } else if matches!(name, "remove" | "script") {
         ArgAction::Append
     } else {
         ArgAction::Set
     }
 }
 
-/// One of these is shown.
+/// The group of options of which one can be given.
 fn shows<'a>(alloc: Global) -> Result<ArgGroup<'a>, AllocError> {
     let mut group = ArgGroup::new(alloc, "show");
     for name in &SHOWS {

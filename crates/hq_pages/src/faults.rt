@@ -1,8 +1,10 @@
 //! What can go wrong, and how it is reported.
 
-use dom_html5::PageFault;
-use dom_nodes::fault::{EditFault, MarkupFaultKind, OutOfMemory};
-use dom_selectors::fault::SelectorFault;
+use crate::hints::hint_of;
+use dom_query::{
+    EditFault, MarkupFaultKind, OutOfMemory, PageFault, RunFault, SelectorFault,
+    valid_selector_prefix,
+};
 use std::alloc::{AllocError, AllocFailed};
 use std::fmt;
 use std::io::{self, ErrorKind};
@@ -15,11 +17,23 @@ pub enum Fault {
     TooManyNodes,
     /// A word of the command line isn't UTF-8.
     Argument,
-    /// The text at this place of the command line is no selector.
+    /// Options of the command line don't fit each other, or a value is none of those that there are.
+    Usage(&'static str),
+    /// The text at this place of the command line isn't a selector.
     Selector {
         place: &'static str,
         fault: SelectorFault,
+        text: String,
     },
+    /// This line of the script, counted from 1, isn't one that there is.
+    Script(usize),
+    /// An edit of the script was refused on the page, at this line.
+    Edit {
+        line: usize,
+        fault: EditFault,
+    },
+    /// A file is compressed; this command decompresses it.
+    Compressed(&'static str),
     /// The base is no address.
     Base(ParseError),
     /// A file can't be read.
@@ -40,7 +54,11 @@ impl fmt::Display for Fault {
             Fault::Memory => f.write_str("out of memory"),
             Fault::TooManyNodes => f.write_str("too many nodes"),
             Fault::Argument => f.write_str("an argument isn't UTF-8"),
-            Fault::Selector { place, fault } => write!(f, "{place}: {fault}"),
+            Fault::Usage(why) => f.write_str(why),
+            Fault::Selector { place, fault, .. } => write!(f, "{place}: {fault}"),
+            Fault::Script(line) => write!(f, "--script: line {line} isn't a line of a script"),
+            Fault::Edit { line, fault } => write!(f, "--script: line {line}: {fault}"),
+            Fault::Compressed(command) => write!(f, "compressed; decompress it first: {command}"),
             Fault::Base(fault) => write!(f, "--base: {fault}"),
             Fault::File(fault) => write!(f, "{fault}"),
             Fault::Markup {
@@ -58,7 +76,11 @@ impl Fault {
     pub fn is_of_a_file(&self) -> bool {
         matches!(
             self,
-            Fault::File(_) | Fault::Markup { .. } | Fault::TooManyNodes
+            Fault::File(_)
+                | Fault::Markup { .. }
+                | Fault::TooManyNodes
+                | Fault::Edit { .. }
+                | Fault::Compressed(_)
         )
     }
 
@@ -114,9 +136,50 @@ impl From<EditFault> for Fault {
     }
 }
 
-/// Reports a fault.
+impl From<csv::Error> for Fault {
+    /// CSV is written into memory, so nothing else can go wrong.
+    fn from(_refused: csv::Error) -> Fault {
+        Fault::Memory
+    }
+}
+
+impl From<RunFault> for Fault {
+    fn from(fault: RunFault) -> Fault {
+        match fault {
+            RunFault::Edit(line, fault) => Fault::Edit { line, fault },
+            RunFault::BadScript(line) => Fault::Script(line),
+            RunFault::TooManyNodes => Fault::TooManyNodes,
+            RunFault::Memory => Fault::Memory,
+            // A page is read without a fault, so the writer is what is left.
+            RunFault::Write | RunFault::BadMarkup => Fault::Output(io::Error::from(
+                ErrorKind::Other,
+            )),
+        }
+    }
+}
+
+/// Reports a fault. Below a selector that isn't one, a caret shows where it goes wrong, and a hint
+/// says what to write instead, if the mistake is a common one.
 pub fn report(rt: &HostRuntime, fault: &Fault) {
     let _ = eprintln!(rt; "hq: {fault}");
+    if let Fault::Selector { text, .. } = fault {
+        show_place(rt, text.as_str());
+    }
+}
+
+/// Shows where a text stops being a selector.
+fn show_place(rt: &HostRuntime, text: &str) {
+    let at = valid_selector_prefix(rt.alloc(), text);
+    let column = match text.get(..at) {
+        Some(front) => front.chars().count(),
+        None => 0,
+    };
+    if !text.contains('\n') {
+        let _ = eprintln!(rt; "  {text}\n  {:>1$}", '^', column.saturating_add(1));
+    }
+    if let Some(hint) = hint_of(text) {
+        let _ = eprintln!(rt; "hint: {hint}");
+    }
 }
 
 /// Reports a fault of a file.

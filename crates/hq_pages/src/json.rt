@@ -1,9 +1,7 @@
 //! Matches as JSON.
 
 use crate::faults::Fault;
-use dom_markup::serializing::NodeMarkup;
-use dom_nodes::name::{Attr, QualName};
-use dom_trees::node_ref::NodeRef;
+use dom_query::{Attr, NodeMarkup, NodeRef, QualName};
 use serde_json::{Map, Value};
 use std::alloc::Global;
 
@@ -20,11 +18,33 @@ fn string_json(alloc: Global, text: &str) -> Result<String, Fault> {
     Ok(Value::try_from_str(alloc, text)?.to_string(alloc)?)
 }
 
-/// An element's name, attributes, text and HTML as JSON.
-pub fn summary_json(alloc: Global, node: &NodeRef<'_>) -> Result<String, Fault> {
+/// An element's name, attributes, text and HTML as JSON, and the name of its file, if that is asked.
+pub fn summary_json(
+    alloc: Global,
+    node: &NodeRef<'_>,
+    file: Option<&str>,
+) -> Result<String, Fault> {
+    Ok(summary_value(alloc, node, file)?.to_string(alloc)?)
+}
+
+/// An element's name, attributes, text and HTML as a value, and the name of its file, if that is
+/// asked.
+pub fn summary_value(
+    alloc: Global,
+    node: &NodeRef<'_>,
+    file: Option<&str>,
+) -> Result<Value, Fault> {
     let mut members = Map::new(alloc);
     add_parts(alloc, node, &mut members)?;
-    Ok(Value::Object(members).to_string(alloc)?)
+    if let Some(file) = file {
+        add(
+            alloc,
+            &mut members,
+            "file",
+            Value::try_from_str(alloc, file)?,
+        )?;
+    }
+    Ok(Value::Object(members))
 }
 
 fn add_parts(
@@ -65,7 +85,7 @@ fn name_of(alloc: Global, name: &QualName) -> Result<String, Fault> {
     Ok(written)
 }
 
-fn add(
+pub(crate) fn add(
     alloc: Global,
     members: &mut Map<String, Value>,
     name: &str,

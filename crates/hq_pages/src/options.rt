@@ -2,9 +2,7 @@
 
 use crate::faults::Fault;
 use clap::ArgMatches;
-use dom_html5::Context;
-use dom_select::matcher::Matcher;
-use dom_selectors::fault::SelectorFault;
+use dom_query::{Command, Context, Matcher, ScriptFault, SelectorFault, read_script};
 use std::alloc::Global;
 use url::{ParseError, Url};
 
@@ -14,18 +12,62 @@ pub struct Options<'a> {
     pub reading: Reading<'a>,
     /// What is taken out of a page first.
     pub removed: Vec<Matcher>,
-    /// Whether a page is sanitised first.
+    /// Whether a page is sanitised before anything is printed.
     pub sanitizes: bool,
-    /// What is looked for; the whole tree is printed where there is none.
-    pub selector: Option<Matcher>,
-    pub show: Show<'a>,
-    /// Whether the first match of each file is enough.
-    pub first: bool,
-    /// Whether what is shown is JSON.
-    pub json: bool,
-    /// What addresses are joined to.
+    /// What relative addresses are made whole with.
     pub base: Option<Url>,
+    pub job: Job,
+    pub printing: Printing<'a>,
+    /// Whether the document is written back to its file.
+    pub in_place: bool,
+    /// Whether it is reported how each page was read.
+    pub verbose: bool,
+    pub stream: Stream,
     pub files: Vec<&'a str>,
+}
+
+/// What is done with a page once it has been read, and changed as the options say.
+#[derive(Drop)]
+pub enum Job {
+    /// What a selector matches is printed.
+    Select(Matcher),
+    /// The whole document is printed as HTML.
+    Document,
+    /// The whole tree is printed in the form of html5lib's tests.
+    Tree,
+    /// The commands of a script are run.
+    Script(Vec<Command>),
+}
+
+/// How matches are printed.
+#[derive(Clone, Copy, Drop)]
+pub struct Printing<'a> {
+    pub show: Show<'a>,
+    /// Whether what is inside a match is printed, without the match itself.
+    pub inner: bool,
+    /// Whether only the first match of each file is printed.
+    pub first: bool,
+    /// Whether each answer is JSON.
+    pub json: bool,
+    /// Whether whitespace is joined in texts and attributes.
+    pub trims: bool,
+    /// The byte that ends each answer.
+    pub end: u8,
+    /// Whether the name of the file stands in front of each answer.
+    pub names: bool,
+    /// Whether names of files are coloured.
+    pub colored: bool,
+}
+
+/// How a stream of JSON lines is answered.
+#[derive(Clone, Copy, Drop)]
+pub struct Stream {
+    /// Whether the input is a stream of JSON lines.
+    pub jsonl: bool,
+    /// Whether every line is flushed.
+    pub line_buffered: bool,
+    /// Whether pages, bytes and faults are counted on standard error.
+    pub progress: bool,
 }
 
 /// How a page is read.
@@ -35,47 +77,52 @@ pub enum Reading<'a> {
     Page {
         context: Option<Context<'a>>,
         scripting: bool,
+        max_depth: Option<usize>,
     },
 }
 
-/// What is shown of a match.
+/// What is printed of a match.
 #[derive(Clone, Copy, Drop)]
 pub enum Show<'a> {
     Html,
-    Inner,
     Text,
     Attr(&'a str),
     Markdown,
-    /// How many there are.
+    /// How many matches there are.
     Count,
+    /// The rows of tables.
+    Csv,
     /// Its name, attributes, text and HTML.
     All,
 }
 
 impl<'a> Options<'a> {
-    /// The options that were given.
-    pub fn new(alloc: Global, matches: &ArgMatches<'a>) -> Result<Options<'a>, Fault> {
+    /// Returns the options of a command line. `terminal` says whether standard output is one.
+    ///
+    /// Fails where a value is not what its option takes (a selector, an address, a number), where
+    /// options don't fit each other, and where memory runs out.
+    pub fn new(
+        alloc: Global,
+        matches: &ArgMatches<'a>,
+        terminal: bool,
+    ) -> Result<Options<'a>, Fault> {
         let mut options = Options {
-            reading: reading_of(matches),
+            reading: reading_of(matches)?,
             removed: Vec::new(alloc),
             sanitizes: matches.get_flag("sanitize"),
-            selector: None,
-            show: show_of(matches),
-            first: matches.get_flag("first"),
-            json: matches.get_flag("json"),
             base: None,
+            job: job_of(alloc, matches)?,
+            printing: printing_of(matches, terminal)?,
+            in_place: matches.get_flag("in-place"),
+            verbose: matches.get_flag("verbose"),
+            stream: stream_of(matches),
             files: Vec::new(alloc),
         };
-        options.read(alloc, matches)?;
+        options.read_removed(alloc, matches)?;
+        options.read_base(alloc, matches)?;
+        options.read_files(matches)?;
+        options.check()?;
         Ok(options)
-    }
-
-    /// Reads the options that take memory.
-    fn read(&mut self, alloc: Global, matches: &ArgMatches<'a>) -> Result<(), Fault> {
-        self.read_removed(alloc, matches)?;
-        self.read_selector(alloc, matches)?;
-        self.read_base(alloc, matches)?;
-        self.read_files(matches)
     }
 
     fn read_removed(&mut self, alloc: Global, matches: &ArgMatches<'a>) -> Result<(), Fault> {
@@ -87,15 +134,6 @@ impl<'a> Options<'a> {
         Ok(())
     }
 
-    /// What is looked for; nothing where the whole tree is printed.
-    fn read_selector(&mut self, alloc: Global, matches: &ArgMatches<'a>) -> Result<(), Fault> {
-        if !matches.get_flag("tree") {
-            let text = matches.get_str("selector").unwrap_or("");
-            self.selector = Some(matcher_of(alloc, text, "SELECTOR")?);
-        }
-        Ok(())
-    }
-
     fn read_base(&mut self, alloc: Global, matches: &ArgMatches<'a>) -> Result<(), Fault> {
         if let Some(written) = matches.get_str("base") {
             self.base = Some(base_of(alloc, written)?);
@@ -103,9 +141,10 @@ impl<'a> Options<'a> {
         Ok(())
     }
 
-    /// The files, or standard input where there is none.
+    /// Reads the names of the files; standard input is read where there is none. Without a selector
+    /// the first argument is a file too.
     fn read_files(&mut self, matches: &ArgMatches<'a>) -> Result<(), Fault> {
-        if matches.get_flag("tree")
+        if !matches!(self.job, Job::Select(_))
             && let Some(name) = matches.get_str("selector")
         {
             self.files.push(name)?;
@@ -120,19 +159,132 @@ impl<'a> Options<'a> {
         }
         Ok(())
     }
+
+    /// Fails where options don't fit each other.
+    fn check(&self) -> Result<(), Fault> {
+        if let Some(why) = self.misfit() {
+            return Err(Fault::Usage(why));
+        }
+        Ok(())
+    }
+
+    /// What doesn't fit, if anything.
+    fn misfit(&self) -> Option<&'static str> {
+        let selects = matches!(self.job, Job::Select(_));
+        if self.base.is_some() && !self.prints_addresses() {
+            return Some("--base: nothing that is printed holds an address to make whole");
+        }
+        if self.in_place && !matches!(self.job, Job::Document | Job::Script(_)) {
+            return Some("--in-place: only with --document or --script");
+        }
+        if self.in_place && self.files.as_slice().contains(&"-") {
+            return Some("--in-place: standard input can't be written back");
+        }
+        if self.stream.jsonl && (self.in_place || matches!(self.job, Job::Tree)) {
+            return Some("--jsonl: not with --in-place or --tree");
+        }
+        if self.stream.progress && !self.stream.jsonl {
+            return Some("--progress: only with --jsonl");
+        }
+        if self.printing.inner && !matches!(self.printing.show, Show::Html | Show::Markdown) {
+            return Some("--inner: only HTML and Markdown have an inside");
+        }
+        if !selects && (self.printing.json || self.printing.first || self.printing.inner) {
+            return Some("--json, --first and --inner: only with a SELECTOR");
+        }
+        None
+    }
+
+    /// Whether what is printed may hold addresses.
+    fn prints_addresses(&self) -> bool {
+        match self.job {
+            Job::Select(_) => !matches!(self.printing.show, Show::Text | Show::Count | Show::Csv),
+            _ => true,
+        }
+    }
 }
 
-fn reading_of<'a>(matches: &ArgMatches<'a>) -> Reading<'a> {
-    if matches.get_flag("explicit") {
-        return Reading::Explicit;
+fn job_of(alloc: Global, matches: &ArgMatches<'_>) -> Result<Job, Fault> {
+    if matches.get_flag("tree") {
+        return Ok(Job::Tree);
     }
-    Reading::Page {
+    if matches.get_flag("document") {
+        return Ok(Job::Document);
+    }
+    if let Some(lines) = matches.get_strs("script") {
+        return script_of(alloc, lines);
+    }
+    let text = matches.get_str("selector").unwrap_or("");
+    Ok(Job::Select(matcher_of(alloc, text, "SELECTOR")?))
+}
+
+/// The script that texts of lines make together.
+fn script_of(alloc: Global, texts: &[&str]) -> Result<Job, Fault> {
+    let mut script = String::new(alloc);
+    for text in texts {
+        script.push_str(text)?;
+        script.push('\n')?;
+    }
+    match read_script(alloc, script.as_bytes()) {
+        Ok(commands) => Ok(Job::Script(commands)),
+        Err(ScriptFault::BadLine(line)) => Err(Fault::Script(line)),
+        Err(ScriptFault::TooManyNodes) => Err(Fault::TooManyNodes),
+        Err(ScriptFault::Memory) => Err(Fault::Memory),
+    }
+}
+
+fn printing_of<'a>(matches: &ArgMatches<'a>, terminal: bool) -> Result<Printing<'a>, Fault> {
+    Ok(Printing {
+        show: show_of(matches),
+        inner: matches.get_flag("inner"),
+        first: matches.get_flag("first"),
+        json: matches.get_flag("json"),
+        trims: matches.get_flag("trim"),
+        end: if matches.get_flag("null") { 0 } else { b'\n' },
+        names: matches.get_flag("with-filename"),
+        colored: is_colored(matches, terminal)?,
+    })
+}
+
+fn is_colored(matches: &ArgMatches<'_>, terminal: bool) -> Result<bool, Fault> {
+    match matches.get_str("color") {
+        None | Some("auto") => Ok(terminal),
+        Some("always") => Ok(true),
+        Some("never") => Ok(false),
+        Some(_) => Err(Fault::Usage("--color: auto, always or never")),
+    }
+}
+
+fn stream_of(matches: &ArgMatches<'_>) -> Stream {
+    Stream {
+        jsonl: matches.get_flag("jsonl"),
+        line_buffered: matches.get_flag("line-buffered"),
+        progress: matches.get_flag("progress"),
+    }
+}
+
+fn reading_of<'a>(matches: &ArgMatches<'a>) -> Result<Reading<'a>, Fault> {
+    if matches.get_flag("explicit") {
+        return Ok(Reading::Explicit);
+    }
+    Ok(Reading::Page {
         context: context_of(matches),
         scripting: matches.get_flag("scripting"),
+        max_depth: max_depth_of(matches)?,
+    })
+}
+
+fn max_depth_of(matches: &ArgMatches<'_>) -> Result<Option<usize>, Fault> {
+    let Some(written) = matches.get_str("max-depth") else {
+        return Ok(None);
+    };
+    match written.parse::<usize>() {
+        Ok(depth) => Ok(Some(depth)),
+        Err(_) => Err(Fault::Usage("--max-depth: a number of elements")),
     }
 }
 
-/// The context of a fragment: the name of an element of HTML, or one behind `svg` or `math`.
+/// The context of a fragment: the name of an HTML element, or one behind `svg` or `math`.
 fn context_of<'a>(matches: &ArgMatches<'a>) -> Option<Context<'a>> {
     let written = matches.get_str("context")?;
     if let Some(name) = written.strip_prefix("svg ") {
@@ -149,17 +301,21 @@ fn matcher_of(alloc: Global, text: &str, place: &'static str) -> Result<Matcher,
     match Matcher::new(alloc, text) {
         Ok(matcher) => Ok(matcher),
         Err(SelectorFault::Memory) => Err(Fault::Memory),
-        Err(fault) => Err(Fault::Selector { place, fault }),
+        Err(fault) => Err(Fault::Selector {
+            place,
+            fault,
+            text: String::from_str(alloc, text)?,
+        }),
     }
 }
 
-/// The flags of which one says what is shown.
+/// The flags of which one says what is printed of a match.
 static SHOWN: [(&str, Show<'static>); 5] = [
     ("html", Show::Html),
-    ("inner", Show::Inner),
     ("text", Show::Text),
     ("md", Show::Markdown),
     ("count", Show::Count),
+    ("csv", Show::Csv),
 ];
 
 fn show_of<'a>(matches: &ArgMatches<'a>) -> Show<'a> {
@@ -171,13 +327,14 @@ fn show_of<'a>(matches: &ArgMatches<'a>) -> Show<'a> {
             return *show;
         }
     }
-    if matches.get_flag("json") {
+    let as_json = matches.get_flag("json") || matches.get_flag("jsonl");
+    if as_json && !matches.get_flag("inner") {
         return Show::All;
     }
     Show::Html
 }
 
-/// The address that addresses are joined to.
+/// The address that relative addresses are made whole with.
 fn base_of(alloc: Global, written: &str) -> Result<Url, Fault> {
     match Url::parse(alloc, written) {
         Ok(base) => Ok(base),

@@ -1,11 +1,11 @@
 //! Reading files as pages.
 
+use crate::compressed::command_for;
 use crate::faults::Fault;
 use crate::options::Reading;
-use dom_html5::{Context, Options as PageOptions, PageParser};
-use dom_markup::document::Document;
-use dom_nodes::fault::{MarkupFault, MarkupFaultKind};
-use dom_nodes::node_id::NodeId;
+use dom_query::{
+    Context, Document, MarkupFault, MarkupFaultKind, NodeId, Options as PageOptions, PageParser,
+};
 use std::alloc::Global;
 use std::fs;
 use std::io::Read;
@@ -55,11 +55,27 @@ fn read_from<R: Read>(
 ) -> Result<Document, Fault> {
     match reading {
         Reading::Explicit => read_explicit(alloc, reader),
-        Reading::Page { context, scripting } => {
-            let mut parser = parser_of(alloc, context, scripting)?;
+        Reading::Page { context, .. } => {
+            let mut parser = parser_of(alloc, context, page_options(reading))?;
             read_pieces(alloc, reader, &mut parser)?;
             Ok(parser.finish()?)
         }
+    }
+}
+
+/// The options of the library by which a page is read.
+pub fn page_options(reading: Reading<'_>) -> PageOptions {
+    match reading {
+        Reading::Explicit => PageOptions::default(),
+        Reading::Page {
+            scripting,
+            max_depth,
+            ..
+        } => PageOptions {
+            scripting,
+            max_depth,
+            ..PageOptions::default()
+        },
     }
 }
 
@@ -67,12 +83,8 @@ fn read_from<R: Read>(
 fn parser_of(
     alloc: Global,
     context: Option<Context<'_>>,
-    scripting: bool,
+    options: PageOptions,
 ) -> Result<PageParser, Fault> {
-    let options = PageOptions {
-        scripting,
-        ..PageOptions::default()
-    };
     match context {
         None => Ok(PageParser::new(alloc, options)?),
         Some(context) => Ok(PageParser::for_fragment(alloc, context, options)?),
@@ -86,29 +98,27 @@ fn read_pieces<R: Read>(
     parser: &mut PageParser,
 ) -> Result<(), Fault> {
     let mut room = vec![in alloc; 0; PIECE]?;
-    for _ in 0..u64::MAX {
-        if !read_piece(reader, &mut room, parser)? {
+    for count in 0..u64::MAX {
+        let Some(piece) = next_piece(reader, &mut room)? else {
             break;
+        };
+        if count == 0
+            && let Some(command) = command_for(piece)
+        {
+            return Err(Fault::Compressed(command));
         }
+        parser.feed_bytes(piece)?;
     }
     Ok(())
 }
 
-/// Reads what there is, and returns whether it was something.
-fn read_piece<R: Read>(
-    reader: &mut R,
-    room: &mut [u8],
-    parser: &mut PageParser,
-) -> Result<bool, Fault> {
-    let count = match reader.read(room) {
-        Ok(count) => count,
-        Err(fault) => return Err(Fault::File(fault)),
-    };
-    let Some(piece) = room.get(..count) else {
-        return Ok(false);
-    };
-    parser.feed_bytes(piece)?;
-    Ok(!piece.is_empty())
+/// Returns the next bytes of a reader, or `None` at its end.
+fn next_piece<'a, R: Read>(reader: &mut R, room: &'a mut [u8]) -> Result<Option<&'a [u8]>, Fault> {
+    match reader.read(room) {
+        Ok(0) => Ok(None),
+        Ok(count) => Ok(room.get(..count)),
+        Err(fault) => Err(Fault::File(fault)),
+    }
 }
 
 /// The document that explicit markup spells.

@@ -1,10 +1,7 @@
 //! A tree in the form of html5lib's tests of tree construction.
 
 use crate::faults::Fault;
-use dom_markup::document::Document;
-use dom_nodes::name::{NameRef, NamespaceRef, QualName};
-use dom_nodes::node_data::{Element, NodeData};
-use dom_nodes::node_id::NodeId;
+use dom_query::{Document, Element, NameRef, NamespaceRef, NodeData, NodeId, QualName};
 use std::alloc::{AllocError, Global};
 
 /// A node that is still to be written, and how many nodes it lies in.

@@ -1,9 +1,9 @@
-//! An attribute of a tag.
+//! The attribute of a tag.
 
 ghost use Rattle.std.specs.Prelude.{◌≡◌, ◌<◌, length, map, string_bytes};
 ghost use Rattle.std.specs.Char.{to_ascii_lowercase};
 
-/// An attribute of a tag. Its name has a character at least, and no letter from A to Z.
+/// An attribute of a tag. Its name is not empty and contains no ASCII upper-case letter.
 #[derive(Drop)]
 pub struct TagAttr {
     pub name: String,

@@ -11,17 +11,18 @@ use std::alloc::{AllocError, Global};
 use std::collections::BTreeSet;
 use std::mem;
 
-/// A name is compared with so many before it; older ones are looked up in a set.
+/// How many of the latest attributes a new name is compared with one by one; the names before them
+/// are looked up in a set.
 const RECENT: usize = 16;
 
-/// Whether some attribute has the name.
+/// Returns whether one of the attributes has the name.
 fn has_attr(attrs: &[TagAttr], name: &str) -> bool
     ensures { result ≡ list_any (is_named name.now) attrs.now }
 {
     attrs.iter().any(|attr| attr.name.as_str() == name)
 }
 
-/// Puts a name into the set.
+/// Adds a name to the set.
 fn insert(names: &mut BTreeSet<String>, name: String) -> Result<(), AllocError>
     ensures ok { OnOk result (Gains (string_bytes name) names.old names.new) }
     ensures err { OnErr result (IsUnchanged names.old names.new) }
@@ -30,7 +31,7 @@ fn insert(names: &mut BTreeSet<String>, name: String) -> Result<(), AllocError>
     Ok(())
 }
 
-/// Adds an attribute behind the others.
+/// Appends an attribute.
 fn push(attrs: &mut Vec<TagAttr>, attr: TagAttr) -> Result<(), AllocError>
     ensures ok { OnOk result (attrs.new.items ≡ attrs.old.items ++ attr ∷ []) }
     ensures err { OnErr result (attrs.new.items ≡ attrs.old.items) }
@@ -39,7 +40,7 @@ fn push(attrs: &mut Vec<TagAttr>, attr: TagAttr) -> Result<(), AllocError>
     Ok(())
 }
 
-/// Moves attributes to those whose memory is spare, as far as there is memory.
+/// Moves all attributes to the list whose memory is reused; what does not fit is dropped.
 fn spare_all(spare: &mut Vec<TagAttr>, attrs: &mut Vec<TagAttr>)
     ensures { attrs.new.items ≡ [] }
 {
@@ -51,14 +52,15 @@ fn spare_all(spare: &mut Vec<TagAttr>, attrs: &mut Vec<TagAttr>)
     attrs.clear();
 }
 
-/// The attributes of a tag so far, no two of one name. The names of all but the last few stand in a
-/// set too, so that a tag of many attributes is read quickly, whatever their names are.
+/// The attributes of a tag so far, no two with the same name. The names of all but the latest few
+/// are also in a set, so that a tag with many attributes is read in little time, whatever their
+/// names are.
 #[derive(Drop)]
 pub struct Attributes {
     kept: Vec<TagAttr>,
     noted: usize,
     older: BTreeSet<String>,
-    /// Attributes of earlier tags, whose memory serves for those to come.
+    /// Attributes of earlier tags, whose memory is reused.
     spare: Vec<TagAttr>,
     ghost distinct: { are_distinct kept.items ≡ true },
     ghost within: { noted ≤ length kept.items },
@@ -67,7 +69,7 @@ pub struct Attributes {
 }
 
 impl Attributes {
-    /// No attributes.
+    /// Returns an empty list of attributes.
     pub fn new(alloc: Global) -> Attributes
         ensures { result.kept.items ≡ [] }
     {
@@ -79,14 +81,14 @@ impl Attributes {
         }
     }
 
-    /// Whether there is none.
+    /// Returns whether there are no attributes.
     pub fn is_empty(&self) -> bool
         ensures { result ≡ true ↔ self.now.kept.items ≡ [] }
     {
         self.kept.is_empty()
     }
 
-    /// Whether some attribute has the name.
+    /// Returns whether one of the attributes has the name.
     pub fn has(&self, name: &str) -> bool
         ensures { result ≡ list_any (is_named name.now) self.now.kept.items }
     {
@@ -97,7 +99,7 @@ impl Attributes {
         self.older.contains(name) || has_attr(recent, name)
     }
 
-    /// Puts the oldest name that isn't in the set there, where many aren't.
+    /// Adds the oldest name that isn't in the set yet, if `RECENT` names or more are not in it.
     fn note(&mut self, alloc: Global) -> Result<(), AllocError> {
         if self.kept.len() - self.noted < RECENT {
             return Ok(());
@@ -108,8 +110,8 @@ impl Attributes {
         Ok(())
     }
 
-    /// Adds an attribute, with the letters from A to Z of its name in lower case, unless one of its
-    /// name is there.
+    /// Appends an attribute, its name in ASCII lower case, unless an attribute has that name
+    /// already.
     pub fn add(&mut self, alloc: Global, name: String, value: String) -> Result<(), AllocError>
         requires { 0 < length (string_bytes name) }
     {
@@ -122,7 +124,8 @@ impl Attributes {
         self.note(alloc)
     }
 
-    /// The same of a copy of the name and the value.
+    /// Appends an attribute with a copy of the name and the value, unless an attribute has that
+    /// name.
     pub fn add_copy(&mut self, alloc: Global, name: &str, value: &str) -> Result<(), AllocError>
         requires { 0 < length name.now }
     {
@@ -132,7 +135,7 @@ impl Attributes {
         self.add(alloc, own_name, own_value)
     }
 
-    /// Two empty texts, with memory that is at hand.
+    /// Returns two empty strings, with memory of an earlier attribute if there is any.
     fn at_hand(&mut self, alloc: Global) -> (String, String)
         ensures name { string_bytes result.0 ≡ [] }
         ensures value { string_bytes result.1 ≡ [] }
@@ -152,7 +155,7 @@ impl Attributes {
         }
     }
 
-    /// Takes all attributes out.
+    /// Takes all attributes out; the list is then empty.
     pub fn take(&mut self, alloc: Global) -> Vec<TagAttr>
         ensures distinct { are_distinct result.items ≡ true }
         ensures all { result.items ≡ self.old.kept.items }
@@ -161,7 +164,7 @@ impl Attributes {
         taken.kept
     }
 
-    /// Puts all attributes there, in place of those of an earlier tag.
+    /// Puts all attributes into `attrs`, in place of those of an earlier tag, whose memory is kept.
     pub fn exchange(&mut self, alloc: Global, attrs: &mut Vec<TagAttr>)
         ensures distinct { are_distinct attrs.new.items ≡ true }
         ensures all { attrs.new.items ≡ self.old.kept.items }

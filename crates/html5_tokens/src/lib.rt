@@ -1,7 +1,7 @@
-//! The tokens of a page: the tokenization of the HTML Standard (13.2.5).
+//! The tokenizer for web pages: tokenization as in the HTML Standard (13.2.5).
 //!
-//! A [`tokenizer::Tokenizer`] is given the page in stretches and hands out tags, comments and
-//! doctypes; the characters between two tokens are kept until they are taken.
+//! Start at [`tokenizer::Tokenizer`]. It reads a page in parts and returns tags, comments and
+//! doctypes; the characters between two tokens are collected until the caller takes them.
 #![tactic(auto)]
 
 pub mod attribute;

@@ -1,4 +1,4 @@
-//! The named character references (13.5): which names begin with what was read so far.
+//! The named character references (13.5), as a search for the names that start with what was read.
 
 mod table;
 
@@ -13,8 +13,8 @@ use table::{FIRSTS, LETTERS, SECONDS, STARTS};
 /// The number of names.
 const COUNT: usize = 2231;
 
-/// The names that begin with the characters that were read so far: those from `low` on, before
-/// `high`, and how many characters these are.
+/// The names that start with the characters read so far: those at the indexes from `low` up to, not
+/// including, `high` of the sorted table. `place` is the number of characters read.
 #[derive(Clone, Copy, Drop)]
 pub struct Names {
     low: usize,
@@ -23,7 +23,7 @@ pub struct Names {
     ghost exactly: { AreNames low high place },
 }
 
-/// The characters that a name stands for.
+/// The characters that a name means: one or two.
 #[derive(Clone, Copy, Drop)]
 pub struct Value {
     pub first: char,
@@ -34,7 +34,7 @@ impl Names {
     ghost use Rattle.html5_tokens.specs.NamedReferences.{read_of, AreNamesFrom};
     ghost use Rattle.html5_tokens.specs.NamedReferences.{IsNoName, IsValueOf};
 
-    /// All names.
+    /// Returns all names, with nothing read.
     pub fn all() -> Names
         ensures { read_of result ≡ [] }
     {
@@ -45,7 +45,7 @@ impl Names {
         }
     }
 
-    /// Those of the names that go on with this character; none where no name does.
+    /// Returns the names that continue with this character, or `None` if there are none.
     pub fn with(self, letter: u8) -> Option<Names>
         ensures { AreNamesFrom (read_of self ++ letter ∷ []) result }
     {
@@ -61,7 +61,7 @@ impl Names {
         })
     }
 
-    /// The first of the names whose next character is this one or a greater one.
+    /// Returns the index of the first name whose next character is this one or a greater one.
     fn first_from(self, letter: u16) -> usize
         ensures { ArePartedAt self.low self.high self.place letter result }
     {
@@ -78,7 +78,7 @@ impl Names {
         low
     }
 
-    /// What the characters that were read stand for, where they are a whole name.
+    /// Returns what the characters read so far mean, if they are a whole name.
     pub fn value(self) -> Option<Value>
         ensures { MatchOption result (IsNoName (read_of self)) (IsValueOf (read_of self)) }
     {
@@ -90,7 +90,7 @@ impl Names {
     }
 }
 
-/// The bytes of a name.
+/// Returns the bytes of the name at an index.
 fn name(index: usize) -> &'static [u8]
     requires { index < 2231 }
     ensures { result.now ≡ name_at index }
@@ -100,7 +100,7 @@ fn name(index: usize) -> &'static [u8]
     part(&LETTERS, start, end)
 }
 
-/// The letters from one place up to another.
+/// Returns the bytes from `start` up to `end`.
 fn part(letters: &[u8], start: usize, end: usize) -> &[u8]
     requires ordered { start ≤ end }
     requires within { end ≤ length letters.now }
@@ -109,7 +109,8 @@ fn part(letters: &[u8], start: usize, end: usize) -> &[u8]
     &letters[start..end]
 }
 
-/// Whether the byte of a name at a place is below a letter, or the name ends before it.
+/// Returns whether the byte of a name at a position is less than the letter, or the name ends
+/// before it.
 fn is_below(index: usize, place: usize, letter: u16) -> bool
     requires { index < 2231 }
     ensures { result ≡ nat_le (rank_at place (name_at index)) letter }
@@ -122,7 +123,7 @@ fn is_below(index: usize, place: usize, letter: u16) -> bool
     }
 }
 
-/// The characters that a name stands for.
+/// Returns the characters that the name at an index means.
 fn value_at(index: usize) -> Option<Value>
     requires { index < 2231 }
     ensures { result ≡ Some (value_at index) }
@@ -130,7 +131,7 @@ fn value_at(index: usize) -> Option<Value>
     value_of(FIRSTS[index], SECONDS[index])
 }
 
-/// One character, or two where the second is not 0.
+/// Returns one character, or two if the second is not 0.
 fn value_of(first: u32, second: u16) -> Option<Value>
     requires first { IsScalar first }
     requires second { IsScalar second }

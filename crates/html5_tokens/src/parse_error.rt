@@ -1,9 +1,9 @@
-//! The parse errors of tokenization, as the HTML Standard names them (13.2.2).
+//! The parse errors of the tokenizer, with the names that the HTML Standard gives them (13.2.2).
 
 use std::error::Error;
 use std::fmt;
 
-/// A parse error. Its text is the standard's code.
+/// A parse error. It is displayed as the standard's code, such as `eof-in-tag`.
 #[derive(Clone, Copy, PartialEq, Eq, Debug, Drop)]
 pub enum ParseError {
     AbruptClosingOfEmptyComment,
@@ -55,7 +55,7 @@ pub enum ParseError {
     UnknownNamedCharacterReference,
 }
 
-/// The code of each error, in the order of the errors.
+/// The standard's code of each error, in the order of the variants.
 static CODES: [&str; 47] = [
     "abrupt-closing-of-empty-comment",
     "abrupt-doctype-public-identifier",
@@ -123,11 +123,11 @@ impl fmt::Display for ParseError {
 
 impl Error for ParseError {}
 
-/// A parse error and where it was found.
+/// A parse error and its position.
 #[derive(Clone, Copy, PartialEq, Eq, Debug, Drop)]
 pub struct ErrorAt {
-    /// The bytes before the character at which the error was found, or of the whole page where that
-    /// is its end.
+    /// The byte offset of the character at which the error was found, or the length of the page for
+    /// an error at its end.
     pub offset: usize,
     pub error: ParseError,
 }

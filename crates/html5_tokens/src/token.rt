@@ -14,8 +14,8 @@ pub enum TagKind {
     End,
 }
 
-/// A tag. Its name has a character at least, and no letter from A to Z; no two of its attributes
-/// have one name, since of attributes with one name the first is kept.
+/// A tag. Its name is not empty and contains no ASCII upper-case letter. No two attributes have the
+/// same name: if a name is repeated, the first attribute is kept.
 #[derive(Drop)]
 pub struct Tag {
     pub kind: TagKind,
@@ -28,8 +28,8 @@ pub struct Tag {
 }
 
 impl Tag {
-    /// A tag without attributes. Letters from A to Z of the name become lower case. Errors where
-    /// memory is refused.
+    /// Returns a tag without attributes, its name in ASCII lower case. Fails only when memory runs
+    /// out.
     pub fn new(alloc: Global, kind: TagKind, name: &str) -> Result<Tag, AllocError>
         requires { 0 < length name.now }
         ensures kind { IfOk result (λ tag. tag.kind ≡ kind) }
@@ -48,18 +48,19 @@ impl Tag {
     }
 }
 
-/// A doctype. What isn't written is `None`, which differs from an empty text.
+/// A doctype. A part that is missing in the source is `None`, which differs from an empty string.
 #[derive(Drop)]
 pub struct Doctype {
     pub name: Option<String>,
     pub public_id: Option<String>,
     pub system_id: Option<String>,
-    /// Whether the document is in quirks mode whatever the name and the identifiers are.
+    /// The force-quirks flag of the standard: the document is in quirks mode whatever the name and
+    /// the identifiers are.
     pub force_quirks: bool,
 }
 
 impl Doctype {
-    /// A doctype of which nothing is written.
+    /// Returns a doctype without a name and identifiers.
     pub fn new() -> Doctype {
         Doctype {
             name: None,
@@ -70,7 +71,7 @@ impl Doctype {
     }
 }
 
-/// Which of the three a token is.
+/// The kind of a token.
 #[derive(Clone, Copy, PartialEq, Eq, Debug, Drop)]
 pub enum TokenKind {
     Tag,
@@ -78,7 +79,7 @@ pub enum TokenKind {
     Doctype,
 }
 
-/// What is read between runs of characters.
+/// A token. The characters between tokens are not tokens here; the tokenizer collects them.
 #[derive(Drop)]
 pub enum Token {
     Tag(Tag),

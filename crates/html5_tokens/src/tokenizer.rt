@@ -1,4 +1,5 @@
-//! The tokenizer: a state machine that is given the page in stretches.
+//! The tokenizer: a state machine that reads a page in parts. Start at `Tokenizer::new`, then call
+//! `read_kind` or `read_token` until the text is used up, and `end` at the end of the page.
 
 mod attributes;
 mod comments;
@@ -29,57 +30,58 @@ use state::{Place, Raw, ScriptState};
 use std::alloc::{AllocError, Global};
 use std::mem;
 
-/// What was read of a page, and how the next character is read.
+/// The state of the tokenizer, and what it has read of the current token.
 #[derive(Drop)]
 pub struct Tokenizer {
     alloc: Global,
     state: State,
     /// Whether the last character was a carriage return.
     after_return: bool,
-    /// Whether `<![CDATA[` begins a section here.
+    /// Whether `<![CDATA[` starts a CDATA section here.
     in_foreign: bool,
-    /// The characters that stand before the next token.
+    /// The characters before the next token.
     text: String,
     tag: TagDraft,
-    /// The last tag that ended. Its memory serves for those to come.
+    /// The last finished tag. Its memory is reused for later tags.
     ended: Option<Tag>,
     /// The name of the last start tag.
     last_start: String,
-    /// The temporary buffer of script data.
+    /// The temporary buffer of the script data states.
     letters: String,
     comment: String,
     doctype: Doctype,
     reference: Reference,
-    /// A reference as it is written, and what of it stands behind the longest name.
+    /// A character reference as in the source, and the part of it after the longest name.
     written: String,
     behind: String,
-    /// The bytes before the character that is being read.
+    /// The byte offset of the character that is being read.
     offset: usize,
-    /// The parse errors, where they are collected.
+    /// The parse errors, if they are collected.
     errors: Option<Vec<ErrorAt>>,
-    /// Whether memory was refused for what a character came to.
+    /// Whether memory ran out while the current character was processed.
     refused: bool,
 }
 
-/// The token that ends at a character, if one does. Errors where memory is refused.
+/// The token that ends at a character, or `None`. An error means that memory ran out.
 pub type Step = Result<Option<Token>, AllocError>;
 
-/// The kind of the token that ends at a character, if one does. The token itself is kept. Errors
-/// where memory is refused.
+/// The kind of the token that ends at a character, or `None`; the tokenizer keeps the token itself.
+/// An error means that memory ran out.
 type Progress = Result<Option<TokenKind>, AllocError>;
 
-/// What stands in place of a character that may not stand in a page.
+/// The replacement character, which takes the place of a null.
 const REPLACEMENT: char = '\u{fffd}';
 
-/// Tab, line feed, form feed and space; a carriage return is never seen.
+/// Returns whether the character is a tab, line feed, form feed or space. Carriage returns are
+/// converted before.
 fn is_space(c: char) -> bool {
     matches!(c, '\t' | '\n' | '\u{c}' | ' ')
 }
 
-/// What of a text is left to be read. Errors where memory is refused.
+/// The text that is left to read. An error means that memory ran out.
 type Rest<'a> = Result<&'a str, AllocError>;
 
-/// Puts a text behind another one.
+/// Appends a text to another one.
 fn append(text: &mut String, more: &str) -> Result<(), AllocError>
     ensures { OnOk result (string_bytes text.new ≡ string_bytes text.old ++ more.now) }
 {
@@ -87,7 +89,7 @@ fn append(text: &mut String, more: &str) -> Result<(), AllocError>
     Ok(())
 }
 
-/// Puts a character behind a text; no token ends at it.
+/// Appends a character to a text; no token ends there.
 fn push(text: &mut String, c: char) -> Progress {
     text.push(c)?;
     Ok(None)
@@ -98,7 +100,7 @@ impl Tokenizer {
     ghost use Rattle.html5_tokens.specs.Reading.{IsInText, text_of};
     ghost use Rattle.html5_tokens.specs.Tags.{TakesTag};
 
-    /// A tokenizer at the beginning of a page.
+    /// Returns a tokenizer at the start of a page, in the data state.
     pub fn new(alloc: Global) -> Tokenizer
         ensures start { IsInText result }
         ensures empty { text_of result ≡ [] }
@@ -124,14 +126,14 @@ impl Tokenizer {
         }
     }
 
-    /// The characters that stand before the next token, as far as they are read.
+    /// Returns the characters before the next token, as far as they are read.
     pub fn text(&self) -> &str
         ensures { result.now ≡ text_of self.now }
     {
         self.text.as_str()
     }
 
-    /// Takes the characters that stand before the next token.
+    /// Takes the characters before the next token, as far as they are read.
     pub fn take_text(&mut self) -> String
         ensures taken { string_bytes result ≡ text_of self.old }
         ensures left { text_of self.new ≡ [] }
@@ -139,36 +141,35 @@ impl Tokenizer {
         mem::replace(&mut self.text, String::new(self.alloc))
     }
 
-    /// Drops the characters that stand before the next token, and keeps their memory for those to
-    /// come.
+    /// Drops the characters before the next token, and keeps their memory for later ones.
     pub fn clear_text(&mut self)
         ensures { text_of self.new ≡ [] }
     {
         self.text.clear();
     }
 
-    /// The last tag, from its end to the end of the next.
+    /// Returns the last tag. It is kept until the next tag ends.
     pub fn tag(&self) -> Option<&Tag>
         ensures { option_copied result ≡ self.now.ended }
     {
         self.ended.as_ref()
     }
 
-    /// The last comment, from its end to the beginning of the next.
+    /// Returns the last comment. It is kept until the next comment starts.
     pub fn comment(&self) -> &str
         ensures { result.now ≡ string_bytes self.now.comment }
     {
         self.comment.as_str()
     }
 
-    /// The last doctype, from its end to the beginning of the next.
+    /// Returns the last doctype. It is kept until the next doctype starts.
     pub fn doctype(&self) -> &Doctype
         ensures { result.now ≡ self.now.doctype }
     {
         &self.doctype
     }
 
-    /// Takes the token of that kind that ended last, if there is one.
+    /// Takes the last token of this kind out of the tokenizer, if there is one.
     fn take_token(&mut self, kind: Option<TokenKind>) -> Option<Token>
         ensures none { kind ≡ None → (result ≡ None) × (self.new ≡ self.old) }
         ensures tag { TakesTag kind self.old self.new result }
@@ -186,7 +187,7 @@ impl Tokenizer {
         }
     }
 
-    /// Puts the token of that kind that ended last there, if there is one.
+    /// Stores the last token of this kind in `token`; with no kind, nothing changes.
     fn put_token(&mut self, kind: Option<TokenKind>, token: &mut Option<Token>)
         ensures none { kind ≡ None → (token.new ≡ token.old) × (self.new ≡ self.old) }
         ensures tag { TakesTag kind self.old self.new token.new }
@@ -198,23 +199,23 @@ impl Tokenizer {
         drop(mem::replace(token, made));
     }
 
-    /// Switches to the state in which what follows a start tag is read.
+    /// Sets the state in which the text after a start tag is read, as tree construction asks for.
     pub fn switch_to(&mut self, state: State)
         ensures { self.new ≡ record self.old { state = state } }
     {
         self.state = state;
     }
 
-    /// Whether the adjusted current node is an element outside the HTML namespace, in which
-    /// `<![CDATA[` begins a CDATA section.
+    /// Sets whether the adjusted current node is an element outside the HTML namespace, in which
+    /// `<![CDATA[` starts a CDATA section.
     pub fn set_in_foreign(&mut self, in_foreign: bool)
         ensures { self.new ≡ record self.old { in_foreign = in_foreign } }
     {
         self.in_foreign = in_foreign;
     }
 
-    /// Reads a character. A carriage return is a line feed, and with a line feed behind it they are
-    /// one.
+    /// Processes a character. A carriage return, with or without a line feed after it, becomes one
+    /// line feed.
     fn step(&mut self, letter: char) -> Progress {
         let follows = self.after_return;
         self.after_return = letter == '\r';
@@ -228,7 +229,7 @@ impl Tokenizer {
         self.read(c)
     }
 
-    /// Reads a character outside a reference.
+    /// Processes a character outside a character reference, by the state.
     fn read(&mut self, c: char) -> Progress {
         match self.state {
             State::Data => self.in_data(c),
@@ -247,13 +248,14 @@ impl Tokenizer {
         }
     }
 
-    /// Goes on in a state.
+    /// Changes to a state; no token ends.
     fn then(&mut self, state: State) -> Progress {
         self.state = state;
         Ok(None)
     }
 
-    /// Goes on in the state of the characters themselves, with this one.
+    /// Changes back to the state for the characters of the element, and processes this character
+    /// there.
     fn back_to(&mut self, raw: Raw, c: char) -> Progress {
         self.state = raw.state();
         match raw {

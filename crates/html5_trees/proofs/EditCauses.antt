@@ -9,11 +9,11 @@ use Rattle.dom_links.specs.Forest.{Forest, children_of}
 use Rattle.dom_links.specs.Growth.{DataCause, NodeCause, NoRoom}
 use Rattle.dom_links.specs.ListMoves.{AllowedList}
 use Rattle.dom_links.specs.Sound.{AtOrBelow, IsOpenGap, is_open, target}
-use Rattle.dom_links.specs.declared.gap.Gap.{Gap}
-use Rattle.dom_links.specs.declared.gap.Gap.TheVariants.{After, Before, EndOf, FrontOf}
-use Rattle.dom_links.specs.declared.gap.Moving.TheVariants.{Node}
+use Rattle.dom_links.specs.declared.gap.InsertionPoint.{InsertionPoint}
+use Rattle.dom_links.specs.declared.gap.InsertionPoint.TheVariants.{After, Before, EndOf, FrontOf}
+use Rattle.dom_links.specs.declared.gap.MovedNodes.TheVariants.{Node}
 use Rattle.dom_trees.specs.Edits.{MayMove, MayReparentOf}
-use Rattle.dom_trees.specs.Growing.{AddTextCause, AttrsCause, ElementCause}
+use Rattle.dom_trees.specs.TreeUnderConstruction.{AddTextCause, AttrsCause, ElementCause}
 use Rattle.dom_trees.specs.Refusals.{KnownCause, LacksChildren, LacksSiblings, ListCause, MoveCause, ReparentCause}
 use Rattle.html5_trees.specs.Elements.{IsElement, IsLimit, IsRooted}
 use Rattle.html5_trees.proofs.MadeNodes.{element_known, holder_known, root_opens}
@@ -21,20 +21,20 @@ use Rattle.html5_trees.proofs.MadeNodes.{element_known, holder_known, root_opens
 no_both : (b : Bool) → b ≡ true → b ≡ false → ⊥
 no_both b t f = cc
 
-lacks_children : (f : Forest) (gap : Gap) → is_open gap f ≡ true → LacksChildren f gap → ⊥
+lacks_children : (f : Forest) (gap : InsertionPoint) → is_open gap f ≡ true → LacksChildren f gap → ⊥
 lacks_children f (EndOf t) opens lacks = no_both _ opens lacks
 lacks_children f (FrontOf t) opens lacks = no_both _ opens lacks
 lacks_children f (Before t) opens lacks = lacks
 lacks_children f (After t) opens lacks = lacks
 
-lacks_siblings : (f : Forest) (gap : Gap) → is_open gap f ≡ true → LacksSiblings f gap → ⊥
+lacks_siblings : (f : Forest) (gap : InsertionPoint) → is_open gap f ≡ true → LacksSiblings f gap → ⊥
 lacks_siblings f (EndOf t) opens lacks = lacks
 lacks_siblings f (FrontOf t) opens lacks = lacks
 lacks_siblings f (Before t) opens lacks = no_both _ opens (ap not lacks)
 lacks_siblings f (After t) opens lacks = no_both _ opens (ap not lacks)
 
 -- a list that may be moved isn't refused
-list_refused : (f : Forest) (gap : Gap) (x : ℕ) (moved : List ℕ) (fault : EditFault) → x < length f.content → AllowedList f gap moved → ListCause f gap x moved fault → ⊥
+list_refused : (f : Forest) (gap : InsertionPoint) (x : ℕ) (moved : List ℕ) (fault : EditFault) → x < length f.content → AllowedList f gap moved → ListCause f gap x moved fault → ⊥
 list_refused f gap x moved UnknownNode known may (inl far) = (let here = may.target_known in absurd (omega (arith, far, here)))
 list_refused f gap x moved UnknownNode known may (inr far) = absurd (omega (arith, far, known))
 list_refused f gap x moved NoChildrenHere known may lacks = lacks_children f gap may.open_here lacks
@@ -47,7 +47,7 @@ list_refused f gap x moved Cycle known may some = circle some.2
     circle (inr way) = (may.may some.0 some.1).free way
 list_refused f gap x moved _ known may none = none
 
-pub move_refused : (f : Forest) (gap : Gap) (x : ℕ) (fault : EditFault) → MayMove gap (Node x) f → MoveCause gap (Node x) f fault → ⊥
+pub move_refused : (f : Forest) (gap : InsertionPoint) (x : ℕ) (fault : EditFault) → MayMove gap (Node x) f → MoveCause gap (Node x) f fault → ⊥
 move_refused f gap x fault may cause = list_refused f gap x (x ∷ []) fault may.known may.list cause
 
 pub reparent_refused : (f : Forest) (x p : ℕ) (fault : EditFault) → MayReparentOf x (Some p) f → ReparentCause x (Some p) f fault → ⊥
@@ -62,7 +62,7 @@ pub limits_alone : {A : Type 0} (r : Result A EditFault) (Cause : EditFault → 
 limits_alone (Ok x) Cause then h = h
 limits_alone (Err fault) Cause then h = then fault h
 
-pub text_limit : (f : Forest) (gap : Gap) (fault : EditFault) → IsOpenGap gap f → AddTextCause gap f fault → IsLimit fault
+pub text_limit : (f : Forest) (gap : InsertionPoint) (fault : EditFault) → IsOpenGap gap f → AddTextCause gap f fault → IsLimit fault
 text_limit f gap UnknownNode opens far = (let known = opens.0 in absurd (omega (arith, known, far)))
 text_limit f gap NoChildrenHere opens lacks = absurd (lacks_children f gap opens.1 lacks)
 text_limit f gap RootOrFragment opens lacks = absurd (lacks_siblings f gap opens.1 lacks)

@@ -13,28 +13,28 @@ use Rattle.dom_nodes.specs.Kinds.{is_comment}
 use Rattle.dom_trees.specs.NewNodes.{bare_element, html_name}
 use Rattle.dom_trees.specs.Views.{node_is}
 use Rattle.html5_trees.specs.Shape.{IsPage, besides_comments, elements_of, is_html}
-use Rattle.dom_links.specs.declared.gap.Gap.{Gap}
-use Rattle.dom_links.specs.declared.gap.Gap.TheVariants.{EndOf}
-use Rattle.dom_links.specs.Moves.{children_with, cut, moved_to}
+use Rattle.dom_links.specs.declared.gap.InsertionPoint.{InsertionPoint}
+use Rattle.dom_links.specs.declared.gap.InsertionPoint.TheVariants.{EndOf}
+use Rattle.dom_links.specs.Moves.{children_with, detach, moved_to}
 use Rattle.dom_links.proofs.forest.Grown.{children-more, slice_get-before, slice_get-there}
 use Rattle.dom_links.proofs.forest.Places.{get_or-map_all, length-map_from}
 use Rattle.dom_links.proofs.moves.BlockLists.{without_all}
-use Rattle.dom_links.proofs.moves.Cuts.{children-cut}
+use Rattle.dom_links.proofs.moves.Cuts.{children-detach}
 
 pub children_into : (forest : Forest) (t p : ℕ) (moved : List ℕ) → p < length forest.children →
     children_of (moved_to moved (EndOf t) forest) p ≡ cond (p == t) (without moved (children_of forest p) ++ moved) (without moved (children_of forest p))
 children_into forest t p moved h =
-    let middle = cut moved forest in
+    let middle = detach moved forest in
     let long : length middle.children ≡ length forest.children = length-map forest.children (without moved) in
-    get_or-map_all (children_with (EndOf t) moved) middle.children p (omega arith) ∙ ap (λ ns. cond (p == t) (ns ++ moved) ns) (children-cut moved forest p)
+    get_or-map_all (children_with (EndOf t) moved) middle.children p (omega arith) ∙ ap (λ ns. cond (p == t) (ns ++ moved) ns) (children-detach moved forest p)
 
-pub children_count : (forest : Forest) (gap : Gap) (moved : List ℕ) → length ((moved_to moved gap forest).children) ≡ length forest.children
+pub children_count : (forest : Forest) (gap : InsertionPoint) (moved : List ℕ) → length ((moved_to moved gap forest).children) ≡ length forest.children
 children_count forest gap moved =
-    let middle = cut moved forest in
+    let middle = detach moved forest in
     let one : length ((moved_to moved gap forest).children) ≡ length middle.children = length-map_from 0 (children_with gap moved) middle.children in
     one ∙ length-map forest.children (without moved)
 
--- one node that isn't the other, cut out
+-- one node that isn't the other, detached
 kept : (m n : ℕ) → (m ≡ n → ⊥) → without (m ∷ []) (n ∷ []) ≡ n ∷ []
 kept m n h = rw (ne_eqb m n h) refl
 

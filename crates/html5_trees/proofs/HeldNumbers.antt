@@ -6,7 +6,7 @@ use Rattle.std.proofs.lemmas.List.Elements.{All-append, All-cons, All-drop, All-
 use Rattle.std.proofs.lemmas.Option.{IfSome_then}
 use Rattle.dom_links.specs.Forest.{Forest}
 use Rattle.dom_links.specs.Moves.{moved_to}
-use Rattle.dom_links.specs.declared.gap.Gap.{Gap}
+use Rattle.dom_links.specs.declared.gap.InsertionPoint.{InsertionPoint}
 use Rattle.dom_links.specs.Sound.{IsForest, IsOpenGap, target}
 use Rattle.html5_trees.specs.Elements.{AreElements, AreOpen, Grows, IsAround, IsElement, IsEntry, IsForm, IsFresh, IsInOrder, IsInside, LiesIn}
 use Rattle.html5_trees.specs.declared.fault.PageFault.{PageFault}
@@ -114,7 +114,7 @@ pub entry_renewed : (f : Forest) (os : List Open) (es fs : List Entry) (h : Opti
 entry_renewed f os es fs h m c i o all element e = with_entries f os es fs h m c all (All-same (IsEntry f) fs (slice_set es i (Element o)) e (All-set (IsEntry f) es i (Element o) element all.formatting))
 
 -- an are element is moved into those before it
-pub stack_moved : (f g : Forest) (os : List Open) (es : List Entry) (h : Option ℕ) (m : FormPointer) (c : Option Open) (n : ℕ) (gap : Gap) (last : Open) → IsForest f → AreElements f os es h m c → slice_get os (n + 1) ≡ Some last →
+pub stack_moved : (f g : Forest) (os : List Open) (es : List Entry) (h : Option ℕ) (m : FormPointer) (c : Option Open) (n : ℕ) (gap : InsertionPoint) (last : Open) → IsForest f → AreElements f os es h m c → slice_get os (n + 1) ≡ Some last →
     IsOpenGap gap f → LiesIn f (take n os) (target gap) → g ≡ moved_to (last.id ∷ []) gap f → AreElements g os es h m c
 stack_moved f g os es h m c n gap last good all there opens lies e =
     let keeps = keeps_contents f g (ap (λ (k : Forest). k.content) e) in

@@ -11,12 +11,12 @@ use Rattle.dom_nodes.specs.declared.name.Attr.{Attr}
 use Rattle.dom_nodes.specs.Elements.{Element as Parts}
 use Rattle.dom_nodes.specs.declared.node_data.NodeData.{NodeData}
 use Rattle.dom_nodes.specs.declared.node_data.NodeData.TheVariants.{Document, Fragment, Text, Element}
-use Rattle.dom_links.specs.Lists.{stands_in}
+use Rattle.dom_links.specs.Lists.{is_member}
 use Rattle.dom_links.specs.Forest.{Forest, children_of, parent}
 use Rattle.dom_links.specs.Growth.{IsFree, with_lone_template, with_node}
 use Rattle.dom_links.specs.ListMoves.{AllowedList, element_at}
-use Rattle.dom_links.specs.declared.gap.Gap.{Gap}
-use Rattle.dom_links.specs.declared.gap.Gap.TheVariants.{After, Before, EndOf, FrontOf}
+use Rattle.dom_links.specs.declared.gap.InsertionPoint.{InsertionPoint}
+use Rattle.dom_links.specs.declared.gap.InsertionPoint.TheVariants.{After, Before, EndOf, FrontOf}
 use Rattle.dom_links.specs.Sound.{IsForest, IsHostAncestor, IsOpenGap, IsParentOrHost, MayPlace, children_allowed_at, contents_at, is_open, one_step, stays, target, then_step}
 use Rattle.dom_links.proofs.forest.Climbs.{contents_at-known, fragment_is_top, no_way}
 use Rattle.dom_links.proofs.forest.Depth.{child_step, parent_inside}
@@ -29,9 +29,9 @@ use Rattle.dom_links.proofs.texts.AddingTexts.{keeps_longer as kind_longer}
 use Rattle.std.proofs.Common.{Result, Ok, Err, IfOk}
 use Rattle.dom_nodes.specs.declared.fault.EditFault.{EditFault}
 use Rattle.dom_nodes.specs.declared.name.NameParts.{NameParts}
-use Rattle.dom_links.specs.declared.gap.Moving.TheVariants.{Node}
+use Rattle.dom_links.specs.declared.gap.MovedNodes.TheVariants.{Node}
 use Rattle.dom_trees.specs.Edits.{Makes, MayMove, MayReparentOf, making}
-use Rattle.dom_trees.specs.Growing.{flagged_element, making_element, with_new_element}
+use Rattle.dom_trees.specs.TreeUnderConstruction.{flagged_element, making_element, with_new_element}
 use Rattle.dom_trees.specs.NewNodes.{comment_node}
 use Rattle.dom_trees.specs.declared.tree.growing.ElementFlags.{ElementFlags}
 use Rattle.std.specs.Prelude.{MatchResult}
@@ -156,7 +156,7 @@ stays-new f g id n new h = ap (λ o. (n == 0) || option_map_or is_top o false) (
 allowed-new : (f g : Forest) (id n : ℕ) → IsNew f g id → n < length f.content → children_allowed_at g n ≡ children_allowed_at f n
 allowed-new f g id n new h = ap (λ o. option_map_or children_allowed o false) (kept_new f g id n new h)
 
-opens-new : (f g : Forest) (id : ℕ) (gap : Gap) → IsNew f g id → target gap < length f.content → is_open gap g ≡ is_open gap f
+opens-new : (f g : Forest) (id : ℕ) (gap : InsertionPoint) → IsNew f g id → target gap < length f.content → is_open gap g ≡ is_open gap f
 opens-new f g id (EndOf t) new h = allowed-new f g id t new h
 opens-new f g id (FrontOf t) new h = allowed-new f g id t new h
 opens-new f g id (Before t) new h = ap not (stays-new f g id t new h)
@@ -171,11 +171,11 @@ known_new f g id new = elim new.made [
       let e = ap (λ (h : Forest). length h.content) holds.1 in (omega (arith, long, more, e), omega (arith, long, more, e, new.number)))
 ]
 
-pub one_of : (x n : ℕ) → stands_in n (x ∷ []) ≡ true → x ≡ n
+pub one_of : (x n : ℕ) → is_member n (x ∷ []) ≡ true → x ≡ n
 one_of x n s = elim (cases_Bool (x == n)) [ inl t ↦ eqb-true x n t | inr f ↦ (let no = rw f at s in cc) ]
 
 -- the move of one node is allowed
-pub one_allowed : (f : Forest) (gap : Gap) (x : ℕ) → IsOpenGap gap f → MayPlace f (target gap) x → AllowedList f gap (x ∷ [])
+pub one_allowed : (f : Forest) (gap : InsertionPoint) (x : ℕ) → IsOpenGap gap f → MayPlace f (target gap) x → AllowedList f gap (x ∷ [])
 one_allowed f gap x opens may = record {
   target_known = opens.0;
   open_here = opens.1;
@@ -183,7 +183,7 @@ one_allowed f gap x opens may = record {
 }
 
 -- a new node may be put at an opens gap
-pub new_allowed : (f g : Forest) (id : ℕ) (gap : Gap) → IsForest f → IsNew f g id → IsOpenGap gap f → AllowedList g gap (id ∷ [])
+pub new_allowed : (f g : Forest) (id : ℕ) (gap : InsertionPoint) → IsForest f → IsNew f g id → IsOpenGap gap f → AllowedList g gap (id ∷ [])
 new_allowed f g id gap good new opens =
     let known = known_new f g id new in
     let t = opens.0 in
@@ -304,11 +304,11 @@ element_changed change keeps y h =
     let is : y ≡ Element found.0 = (let some = found.1 in cc) in
     ap (λ (z : NodeData). is_element (change z)) is ∙ keeps found.0
 
-keeps_more : (before : Option ℕ) (gap : Gap) (text : List ℕ) (f : Forest) → Keeps f (with_more before gap text f)
+keeps_more : (before : Option ℕ) (gap : InsertionPoint) (text : List ℕ) (f : Forest) → Keeps f (with_more before gap text f)
 keeps_more None gap text f = keeps_on f (with_node (Text text) f) _ (keeps_node (Text text) f) (keeps_contents (with_node (Text text) f) (with_node_at gap (Text text) f) refl)
 keeps_more (Some n) gap text f = keeps_changed f n (lengthened text) (element_changed (lengthened text) (λ e. refl)) (λ y top. (kind_longer text y).top ∙ top)
 
-pub keeps_text : (f g : Forest) (gap : Gap) (text : List ℕ) → g ≡ with_text_at gap text f → Keeps f g
+pub keeps_text : (f g : Forest) (gap : InsertionPoint) (text : List ℕ) → g ≡ with_text_at gap text f → Keeps f g
 keeps_text f g gap text e = keeps_on f (with_text_at gap text f) g (keeps_more (text_before gap f) gap text f) (keeps_same _ g e)
 
 pub keeps_attrs : (f g : Forest) (x : ℕ) (change : List Attr → List Attr) → g ≡ with_content x (with_attrs change) f → Keeps f g
@@ -372,7 +372,7 @@ comment_call (Ok n) call f g text is makes =
     record { content = comment_node text; number = done.number; movable = refl; made = inl (refl, done.ok) }
 
 -- a new node may be put at an open gap, and elements stay elements
-pub new_moves : (f g : Forest) (id : ℕ) (gap : Gap) → IsForest f → IsNew f g id → IsOpenGap gap f → MayMove gap (Node id) g
+pub new_moves : (f g : Forest) (id : ℕ) (gap : InsertionPoint) → IsForest f → IsNew f g id → IsOpenGap gap f → MayMove gap (Node id) g
 new_moves f g id gap good new opens = record { known = (known_new f g id new).1; list = new_allowed f g id gap good new opens }
 
 pub keeps_put : (f g h : Forest) (id : ℕ) → IsNew f g id → h.content ≡ g.content → Keeps f h

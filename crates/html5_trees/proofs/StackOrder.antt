@@ -11,9 +11,9 @@ use Rattle.std.proofs.lemmas.List.Quantifiers.{all_pairs_push, all_pairs_remove}
 use Rattle.std.proofs.lemmas.Option.{get_or_from_slice_get, slice_get_within}
 use Rattle.dom_links.specs.Forest.{Forest}
 use Rattle.dom_links.specs.Moves.{moved_to, owner_at}
-use Rattle.dom_links.specs.declared.gap.Gap.{Gap}
+use Rattle.dom_links.specs.declared.gap.InsertionPoint.{InsertionPoint}
 use Rattle.dom_links.specs.Sound.{AtOrBelow, IsForest, IsHostAncestor, IsOpenGap, target}
-use Rattle.dom_links.specs.declared.gap.Moving.TheVariants.{Node}
+use Rattle.dom_links.specs.declared.gap.MovedNodes.TheVariants.{Node}
 use Rattle.dom_trees.specs.Edits.{MayMove}
 use Rattle.html5_trees.specs.Elements.{AreOpen, Grows, IsAround, IsElement, IsFresh, IsInOrder, IsInside, IsRooted, LiesIn}
 use Rattle.html5_trees.specs.declared.stack.Open.{Open}
@@ -159,7 +159,7 @@ none_before f os n j d le within order =
     subst (λ (o : Open). AtOrBelow f (get_or os j d).id o.id → ⊥) (sym (get_or-take n os i d low)) (order i j d (omega (arith, low, le)) within)))
 
 -- it may be moved to a gap that lies in those
-pub open_moves : (f : Forest) (os : List Open) (n : ℕ) (gap : Gap) (last : Open) → IsRooted f → AreOpen f os → IsInOrder f os → slice_get os (n + 1) ≡ Some last → IsOpenGap gap f → LiesIn f (take n os) (target gap) → MayMove gap (Node last.id) f
+pub open_moves : (f : Forest) (os : List Open) (n : ℕ) (gap : InsertionPoint) (last : Open) → IsRooted f → AreOpen f os → IsInOrder f os → slice_get os (n + 1) ≡ Some last → IsOpenGap gap f → LiesIn f (take n os) (target gap) → MayMove gap (Node last.id) f
 open_moves f os n gap last rooted are order there opens lies =
     let here = slice_get_within os (n + 1) last there in
     let is = get_or_from_slice_get os (n + 1) last last there in
@@ -175,7 +175,7 @@ open_moves f os n gap last rooted are order there opens lies =
     }
 
 -- and the order stays
-pub order_moved : (f g : Forest) (os : List Open) (n : ℕ) (gap : Gap) (last : Open) → IsForest f → AreOpen f os → IsInOrder f os → slice_get os (n + 1) ≡ Some last → IsOpenGap gap f → LiesIn f (take n os) (target gap) →
+pub order_moved : (f g : Forest) (os : List Open) (n : ℕ) (gap : InsertionPoint) (last : Open) → IsForest f → AreOpen f os → IsInOrder f os → slice_get os (n + 1) ≡ Some last → IsOpenGap gap f → LiesIn f (take n os) (target gap) →
     g ≡ moved_to (last.id ∷ []) gap f → IsInOrder g os
 order_moved f g os n gap last good are order there opens lies e i j d lt within at =
     let here = slice_get_within os (n + 1) last there in

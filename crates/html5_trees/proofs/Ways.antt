@@ -15,12 +15,12 @@ use Rattle.dom_links.specs.Contents.{KeepsKind, changed_at, with_content}
 use Rattle.dom_links.specs.Forest.{Forest, StandsOnce, children_of, parent, siblings}
 use Rattle.dom_links.specs.Growth.{HasFreeContents, with_child, with_node}
 use Rattle.dom_links.specs.ListMoves.{AreNodes, reparented}
-use Rattle.dom_links.specs.Lists.{stands_in}
-use Rattle.dom_links.specs.Moves.{cut, moved_to, owner_at, put}
-use Rattle.dom_links.specs.declared.gap.Gap.{Gap}
-use Rattle.dom_links.specs.declared.gap.Gap.TheVariants.{After as after_node, Before as before_node, EndOf as end_of, FrontOf as front_of}
+use Rattle.dom_links.specs.Lists.{is_member}
+use Rattle.dom_links.specs.Moves.{detach, moved_to, owner_at, put}
+use Rattle.dom_links.specs.declared.gap.InsertionPoint.{InsertionPoint}
+use Rattle.dom_links.specs.declared.gap.InsertionPoint.TheVariants.{After as after_node, Before as before_node, EndOf as end_of, FrontOf as front_of}
 use Rattle.dom_links.specs.Sound.{AtOrBelow, IsForest, IsHostAncestor, IsOpenGap, IsParentOrHost, children_allowed_at, contents_at, one_step, stays, target, then_step}
-use Rattle.dom_links.proofs.forest.Appends.{cut-alone, new_alone}
+use Rattle.dom_links.proofs.forest.Appends.{detach-alone, new_alone}
 use Rattle.dom_links.proofs.forest.Changing.{keeps_attrs as kind_with_attrs}
 use Rattle.dom_links.proofs.forest.Climbs.{fragment_is_top, no_way, one_above}
 use Rattle.dom_links.proofs.forest.Depth.{child_step, step_inside}
@@ -32,11 +32,11 @@ use Rattle.dom_links.proofs.moves.BlockCuts.{once-cut_list}
 use Rattle.dom_links.proofs.moves.BlockFills.{FilledList, parent-put_in, parent-put_out}
 use Rattle.dom_links.proofs.moves.BlockGaps.{put-after, put-before, put-end_of, put-front_of}
 use Rattle.dom_links.proofs.moves.BlockKept.{alone-cut_list, children_are}
-use Rattle.dom_links.proofs.moves.Cuts.{no_other, parent-cut}
+use Rattle.dom_links.proofs.moves.Cuts.{no_other, parent-detach}
 use Rattle.dom_links.proofs.texts.AddingTexts.{keeps_longer as kind_longer}
-use Rattle.dom_links.specs.declared.gap.Moving.TheVariants.{Node}
+use Rattle.dom_links.specs.declared.gap.MovedNodes.TheVariants.{Node}
 use Rattle.dom_trees.specs.Edits.{Edits, Makes, MayMove, appending}
-use Rattle.dom_trees.specs.Growing.{adding_attrs, adding_text}
+use Rattle.dom_trees.specs.TreeUnderConstruction.{adding_attrs, adding_text}
 use Rattle.std.specs.Option.{option_map_or, unwrap_or}
 use Rattle.html5_trees.specs.Elements.{Grows, IsAround, IsCopy, IsElement, IsFresh, IsInside, IsMade, IsNew, IsRooted, limit_of}
 use Rattle.html5_trees.specs.declared.fault.PageFault.{PageFault}
@@ -131,45 +131,45 @@ ways_into f h From Into steps _ _ (then_step m k n way step) = elim (ways_into f
   ])
 ]
 
-filled_steps : (f filled : Forest) (moved : List ℕ) (owner : Option ℕ) (front back : List ℕ) → StandsOnce (cut moved f) → filled.content ≡ f.content → FilledList (cut moved f) filled moved owner front back →
-    Steps f filled (λ m. owner ≡ Some m) (λ n. stands_in n moved ≡ true)
+filled_steps : (f filled : Forest) (moved : List ℕ) (owner : Option ℕ) (front back : List ℕ) → StandsOnce (detach moved f) → filled.content ≡ f.content → FilledList (detach moved f) filled moved owner front back →
+    Steps f filled (λ m. owner ≡ Some m) (λ n. is_member n moved ≡ true)
 filled_steps f filled moved owner front back once same fill m n (inr held) = inl (inr (ap (λ (cs : List NodeData). option_and_then contents_named (slice_get cs m)) (sym same) ∙ held))
-filled_steps f filled moved owner front back once same fill m n (inl p) = elim (cases_Bool (stands_in n moved)) [
-  | inl t ↦ inr (sym (parent-put_in (cut moved f) filled moved owner front back n once fill t) ∙ p, t)
-  | inr g ↦ inl (inl (sym (parent-put_out (cut moved f) filled moved owner front back n fill g ∙ parent-cut moved f n ∙ cond-false (stands_in n moved) None (parent f n) g) ∙ p))
+filled_steps f filled moved owner front back once same fill m n (inl p) = elim (cases_Bool (is_member n moved)) [
+  | inl t ↦ inr (sym (parent-put_in (detach moved f) filled moved owner front back n once fill t) ∙ p, t)
+  | inr g ↦ inl (inl (sym (parent-put_out (detach moved f) filled moved owner front back n fill g ∙ parent-detach moved f n ∙ cond-false (is_member n moved) None (parent f n) g) ∙ p))
 ]
 
 -- the same where they are put into the list of a node that is not one of them
-beside_steps : (f filled : Forest) (moved : List ℕ) (t : ℕ) → StandsOnce f → AreNodes f moved → stands_in t moved ≡ false → (front back : List ℕ) → filled.content ≡ f.content →
-    FilledList (cut moved f) filled moved (parent (cut moved f) t) front back → Steps f filled (λ m. parent f t ≡ Some m) (λ n. stands_in n moved ≡ true)
+beside_steps : (f filled : Forest) (moved : List ℕ) (t : ℕ) → StandsOnce f → AreNodes f moved → is_member t moved ≡ false → (front back : List ℕ) → filled.content ≡ f.content →
+    FilledList (detach moved f) filled moved (parent (detach moved f) t) front back → Steps f filled (λ m. parent f t ≡ Some m) (λ n. is_member n moved ≡ true)
 beside_steps f filled moved t once are out front back same fill =
-    let above : parent (cut moved f) t ≡ parent f t = parent-cut moved f t ∙ cond-false (stands_in t moved) None (parent f t) out in
-    subst (λ (o : Option ℕ). Steps f filled (λ m. o ≡ Some m) (λ n. stands_in n moved ≡ true)) above
-    (filled_steps f filled moved (parent (cut moved f) t) front back (once-cut_list f moved once are) same fill)
+    let above : parent (detach moved f) t ≡ parent f t = parent-detach moved f t ∙ cond-false (is_member t moved) None (parent f t) out in
+    subst (λ (o : Option ℕ). Steps f filled (λ m. o ≡ Some m) (λ n. is_member n moved ≡ true)) above
+    (filled_steps f filled moved (parent (detach moved f) t) front back (once-cut_list f moved once are) same fill)
 
 -- a step after a move is an old one, or goes to what was moved from what it then lies in
-moved_steps : (f : Forest) (gap : Gap) (moved : List ℕ) → StandsOnce f → AreNodes f moved → stands_in (target gap) moved ≡ false → target gap < length f.content →
-    Steps f (moved_to moved gap f) (λ m. owner_at gap f ≡ Some m) (λ n. stands_in n moved ≡ true)
+moved_steps : (f : Forest) (gap : InsertionPoint) (moved : List ℕ) → StandsOnce f → AreNodes f moved → is_member (target gap) moved ≡ false → target gap < length f.content →
+    Steps f (moved_to moved gap f) (λ m. owner_at gap f ≡ Some m) (λ n. is_member n moved ≡ true)
 moved_steps f (end_of t) moved once are out known =
-    filled_steps f (moved_to moved (end_of t) f) moved (Some t) (children_of (cut moved f) t) [] (once-cut_list f moved once are) refl
-    (put-end_of (cut moved f) moved t (once-cut_list f moved once are) (alone-cut_list f moved once are) known)
+    filled_steps f (moved_to moved (end_of t) f) moved (Some t) (children_of (detach moved f) t) [] (once-cut_list f moved once are) refl
+    (put-end_of (detach moved f) moved t (once-cut_list f moved once are) (alone-cut_list f moved once are) known)
 moved_steps f (front_of t) moved once are out known =
-    filled_steps f (moved_to moved (front_of t) f) moved (Some t) [] (children_of (cut moved f) t) (once-cut_list f moved once are) refl
-    (put-front_of (cut moved f) moved t (once-cut_list f moved once are) (alone-cut_list f moved once are) known)
+    filled_steps f (moved_to moved (front_of t) f) moved (Some t) [] (children_of (detach moved f) t) (once-cut_list f moved once are) refl
+    (put-front_of (detach moved f) moved t (once-cut_list f moved once are) (alone-cut_list f moved once are) known)
 moved_steps f (before_node t) moved once are out known =
     let now = once-cut_list f moved once are in
-    let parts = around t (siblings (cut moved f) t) (siblings_once (cut moved f) t now) (now.placed t known) in
-    beside_steps f _ moved t once are out parts.front (t ∷ parts.back) refl (put-before (cut moved f) moved t now (alone-cut_list f moved once are) out known parts)
+    let parts = around t (siblings (detach moved f) t) (siblings_once (detach moved f) t now) (now.placed t known) in
+    beside_steps f _ moved t once are out parts.front (t ∷ parts.back) refl (put-before (detach moved f) moved t now (alone-cut_list f moved once are) out known parts)
 moved_steps f (after_node t) moved once are out known =
     let now = once-cut_list f moved once are in
-    let parts = around t (siblings (cut moved f) t) (siblings_once (cut moved f) t now) (now.placed t known) in
-    beside_steps f _ moved t once are out (parts.front ++ t ∷ []) parts.back refl (put-after (cut moved f) moved t now (alone-cut_list f moved once are) out known parts)
+    let parts = around t (siblings (detach moved f) t) (siblings_once (detach moved f) t now) (now.placed t known) in
+    beside_steps f _ moved t once are out (parts.front ++ t ∷ []) parts.back refl (put-after (detach moved f) moved t now (alone-cut_list f moved once are) out known parts)
 
 one_node : (f : Forest) (x : ℕ) → x < length f.content → AreNodes f (x ∷ [])
 one_node f x known = record { once = (refl, tt); known = λ n s. subst (λ (k : ℕ). k < length f.content) (one_of x n s) known }
 
 -- the same of one node that was moved
-pub node_steps : (f h : Forest) (gap : Gap) (x : ℕ) → IsForest f → x < length f.content → target gap < length f.content → (x ≡ target gap → ⊥) → h ≡ moved_to (x ∷ []) gap f →
+pub node_steps : (f h : Forest) (gap : InsertionPoint) (x : ℕ) → IsForest f → x < length f.content → target gap < length f.content → (x ≡ target gap → ⊥) → h ≡ moved_to (x ∷ []) gap f →
     Steps f h (λ m. owner_at gap f ≡ Some m) (λ n. x ≡ n)
 node_steps f h gap x good known there apart e m n step =
     elim (moved_steps f gap (x ∷ []) good.once (one_node f x known) (no_other (target gap) x apart) there m n (subst (λ (k : Forest). IsParentOrHost k m n) e step)) [
@@ -178,7 +178,7 @@ node_steps f h gap x good known there apart e m n step =
     ]
 
 -- who is above what a node at the gap lies in is above the gap's node
-pub owner_target : (f : Forest) (gap : Gap) (o m : ℕ) → owner_at gap f ≡ Some o → AtOrBelow f m o → AtOrBelow f m (target gap)
+pub owner_target : (f : Forest) (gap : InsertionPoint) (o m : ℕ) → owner_at gap f ≡ Some o → AtOrBelow f m o → AtOrBelow f m (target gap)
 owner_target f (end_of t) o m is at = (let e : o ≡ t = cc in subst (AtOrBelow f m) e at)
 owner_target f (front_of t) o m is at = (let e : o ≡ t = cc in subst (AtOrBelow f m) e at)
 owner_target f (before_node t) o m is at = inr (further f m o t at (inl is))
@@ -187,14 +187,14 @@ owner_target f (after_node t) o m is at = inr (further f m o t at (inl is))
 -- ---- a new node is put at a gap
 
 -- the steps then: the node was apart from the gap's
-put_steps : (f g h : Forest) (id : ℕ) (gap : Gap) → IsForest g → IsNew f g id → IsOpenGap gap f → h ≡ moved_to (id ∷ []) gap g → Steps g h (λ m. owner_at gap g ≡ Some m) (λ n. id ≡ n)
+put_steps : (f g h : Forest) (id : ℕ) (gap : InsertionPoint) → IsForest g → IsNew f g id → IsOpenGap gap f → h ≡ moved_to (id ∷ []) gap g → Steps g h (λ m. owner_at gap g ≡ Some m) (λ n. id ≡ n)
 put_steps f g h id gap after new opens e =
     let known = known_new f g id new in
     let there = opens.0 in
     let number = new.number in
     node_steps g h gap id after known.1 (omega (arith, known.0, there)) (λ same. absurd (omega (arith, number, there, same))) e
 
-pub grows_put : (f g h : Forest) (id : ℕ) (gap : Gap) → IsForest f → IsForest g → IsNew f g id → IsOpenGap gap f → h ≡ moved_to (id ∷ []) gap g → Grows f h
+pub grows_put : (f g h : Forest) (id : ℕ) (gap : InsertionPoint) → IsForest f → IsForest g → IsNew f g id → IsOpenGap gap f → h ≡ moved_to (id ∷ []) gap g → Grows f h
 grows_put f g h id gap good after new opens e =
     grows_of f h (keeps_put f g h id new (ap (λ (k : Forest). k.content) e)) (λ m n one other way.
     elim (ways_into g h (λ k. owner_at gap g ≡ Some k) (λ k. id ≡ k) (put_steps f g h id gap after new opens e) m n way) [
@@ -203,7 +203,7 @@ grows_put f g h id gap good after new opens e =
     ])
 
 -- no node that was there is below it then
-pub leaf_put : (f g h : Forest) (id : ℕ) (gap : Gap) → IsForest f → IsForest g → IsNew f g id → IsOpenGap gap f → h ≡ moved_to (id ∷ []) gap g → (n : ℕ) → IsElement f n → AtOrBelow h id n → ⊥
+pub leaf_put : (f g h : Forest) (id : ℕ) (gap : InsertionPoint) → IsForest f → IsForest g → IsNew f g id → IsOpenGap gap f → h ≡ moved_to (id ∷ []) gap g → (n : ℕ) → IsElement f n → AtOrBelow h id n → ⊥
 leaf_put f g h id gap good after new opens e n element (inl same) = none_below f g id n good new (element_known f n element) (inl same)
 leaf_put f g h id gap good after new opens e n element (inr way) =
     elim (ways_into g h (λ k. owner_at gap g ≡ Some k) (λ k. id ≡ k) (put_steps f g h id gap after new opens e) id n way) [
@@ -211,13 +211,13 @@ leaf_put f g h id gap good after new opens e n element (inr way) =
       | inr both ↦ none_below f g id n good new (element_known f n element) (subst (λ (k : ℕ). AtOrBelow g k n) (sym both.1.1) both.1.2)
     ]
 
-pub fresh_made : (f g h : Forest) (id : ℕ) (gap : Gap) → IsForest f → IsForest g → IsMade f g id → IsOpenGap gap f → h ≡ moved_to (id ∷ []) gap g → IsFresh f h id
+pub fresh_made : (f g h : Forest) (id : ℕ) (gap : InsertionPoint) → IsForest f → IsForest g → IsMade f g id → IsOpenGap gap f → h ≡ moved_to (id ∷ []) gap g → IsFresh f h id
 fresh_made f g h id gap good after made opens e = record {
   element = made_put f g h id made (ap (λ (k : Forest). k.content) e);
   below = leaf_put f g h id gap good after made.node opens e;
 }
 
-pub fresh_copy : (f g h : Forest) (id : ℕ) (gap : Gap) → IsForest f → IsCopy f g id → IsOpenGap gap f → h ≡ moved_to (id ∷ []) gap g → IsFresh f h id
+pub fresh_copy : (f g h : Forest) (id : ℕ) (gap : InsertionPoint) → IsForest f → IsCopy f g id → IsOpenGap gap f → h ≡ moved_to (id ∷ []) gap g → IsFresh f h id
 fresh_copy f g h id gap good copy opens e = record {
   element = copy_put f g h id copy (ap (λ (k : Forest). k.content) e);
   below = leaf_put f g h id gap good (forest_copied f g id good copy) (copy_is_new f g id copy) opens e;
@@ -286,10 +286,10 @@ record Middle (f h : Forest) (id p : ℕ) : Type 0 where
   pub below : (n : ℕ) → n < length f.content → AtOrBelow h id n → IsHostAncestor f p n
   pub above : (m : ℕ) → m < length f.content → AtOrBelow h m id → ⊥
 
-middle_steps : (f g h : Forest) (id p : ℕ) → IsForest f → IsCopy f g id → h ≡ reparented p (Some id) g → Steps g h (λ m. Some id ≡ Some m) (λ n. stands_in n (children_of g p) ≡ true)
+middle_steps : (f g h : Forest) (id p : ℕ) → IsForest f → IsCopy f g id → h ≡ reparented p (Some id) g → Steps g h (λ m. Some id ≡ Some m) (λ n. is_member n (children_of g p) ≡ true)
 middle_steps f g h id p good copy e m n step =
     let after = forest_copied f g id good copy in
-    let out : stands_in id (children_of g p) ≡ false = elim (cases_Bool (stands_in id (children_of g p))) [
+    let out : is_member id (children_of g p) ≡ false = elim (cases_Bool (is_member id (children_of g p))) [
       | inr out ↦ out
       | inl s ↦ absurd (none_above f g id p good copy (child_step g p id after s))
     ] in
@@ -297,7 +297,7 @@ middle_steps f g h id p good copy e m n step =
     (subst (λ (k : Forest). IsParentOrHost k m n) e step)
 
 -- who is at or below a child of p is below p
-below_child : (g : Forest) (p n : ℕ) → IsForest g → Beyond g (λ x. stands_in x (children_of g p) ≡ true) n → IsHostAncestor g p n
+below_child : (g : Forest) (p n : ℕ) → IsForest g → Beyond g (λ x. is_member x (children_of g p) ≡ true) n → IsHostAncestor g p n
 below_child g p n good (x, s, inl e) = subst (IsHostAncestor g p) e (one_step p x (child_step g p x good s))
 below_child g p n good (x, s, inr way) = onward g p x n (one_step p x (child_step g p x good s)) way
 
@@ -306,15 +306,15 @@ middle f g h id p good element copy e =
     let steps = middle_steps f g h id p good copy e in
     let new = copy_is_new f g id copy in
     record {
-      ways = λ m n known way. elim (ways_into g h (λ k. Some id ≡ Some k) (λ k. stands_in k (children_of g p) ≡ true) steps m n way) [
+      ways = λ m n known way. elim (ways_into g h (λ k. Some id ≡ Some k) (λ k. is_member k (children_of g p) ≡ true) steps m n way) [
         | inl old ↦ way_new f g id good new m n old known
         | inr both ↦ absurd (no_onto f g id m good copy known both.0)
       ];
       below = λ n known at.
           way_new f g id good new p n
-          (below_child g p n (forest_copied f g id good copy) (below_copy f g h id (λ k. stands_in k (children_of g p) ≡ true) good copy steps n known at))
+          (below_child g p n (forest_copied f g id good copy) (below_copy f g h id (λ k. is_member k (children_of g p) ≡ true) good copy steps n known at))
           (element_known f p element);
-      above = λ m known at. above_copy f g h id (λ k. stands_in k (children_of g p) ≡ true) good copy steps m known at;
+      above = λ m known at. above_copy f g h id (λ k. is_member k (children_of g p) ≡ true) good copy steps m known at;
     }
 
 -- then the copy may be put into the element
@@ -385,7 +385,7 @@ is_inside f g h k id p good after element copy e e' = record {
           | inr both ↦ onto_element f h id p m (middle f g h id p good element copy e) known both.0
         ]
 
--- ---- texts, attributes, doctypes, and what is cut out
+-- ---- texts, attributes, doctypes, and what is detached
 
 named_changed : (change : NodeData → NodeData) → KeepsKind change → (cs : List NodeData) (x n : ℕ) → option_and_then contents_named (slice_get (changed_at x change cs) n) ≡ option_and_then contents_named (slice_get cs n)
 named_changed change kind [] x n = refl
@@ -403,13 +403,13 @@ grows_changed f g x change kind keeps e = grows_of f g keeps (λ m n one other w
     ways_back f (with_content x change f) (step_changed f x change kind) m n (subst (λ (h : Forest). IsHostAncestor h m n) e way))
 
 -- a text
-grows_more : (f g : Forest) (before : Option ℕ) (gap : Gap) (text : List ℕ) → IsForest f → IsOpenGap gap f → Keeps f g → g ≡ with_more before gap text f → Grows f g
+grows_more : (f g : Forest) (before : Option ℕ) (gap : InsertionPoint) (text : List ℕ) → IsForest f → IsOpenGap gap f → Keeps f g → g ≡ with_more before gap text f → Grows f g
 grows_more f g None gap text good opens keeps e =
     let free : HasFreeContents f (Text text) = λ c named. (let none : None ≡ Some c = named in cc) in
     grows_put f (with_node (Text text) f) g (length f.content) gap good (forest-more (Text text) f good free) (record { content = Text text; number = refl; movable = refl; made = inl (refl, refl) }) opens e
 grows_more f g (Some n) gap text good opens keeps e = grows_changed f g n (lengthened text) (kind_longer text) keeps e
 
-pub text_call : (r : Result Unit EditFault) (f g : Forest) (gap : Gap) (text : List ℕ) → IsForest f → IsOpenGap gap f → Edits r f g (adding_text gap text) → Grows f g
+pub text_call : (r : Result Unit EditFault) (f g : Forest) (gap : InsertionPoint) (text : List ℕ) → IsForest f → IsOpenGap gap f → Edits r f g (adding_text gap text) → Grows f g
 text_call (Ok done) f g gap text good opens edits = grows_more f g (text_before gap f) gap text good opens (keeps_text f g gap text edits.ok) edits.ok
 text_call (Err fault) f g gap text good opens edits = grows_same f g edits.err
 
@@ -424,7 +424,7 @@ forest_alone f content good plain = forest-more content f good (λ c named. (let
 -- to make it as the last child of another is to make it and to put it there
 child_put : (f : Forest) (t : ℕ) (content : NodeData) → IsForest f → contents_named content ≡ None → with_child t content f ≡ moved_to (length f.content ∷ []) (end_of t) (with_node content f)
 child_put f t content good plain =
-    ap (put (end_of t) (length f.content ∷ [])) (sym (cut-alone (with_node content f) (length f.content) (forest_alone f content good plain).once (new_alone content f good.once)))
+    ap (put (end_of t) (length f.content ∷ [])) (sym (detach-alone (with_node content f) (length f.content) (forest_alone f content good plain).once (new_alone content f good.once)))
 
 pub grows_child : (f g : Forest) (t : ℕ) (content : NodeData) → IsForest f → IsOpenGap (end_of t) f → contents_named content ≡ None → is_top content ≡ false → g ≡ with_child t content f → Grows f g
 grows_child f g t content good opens plain low e =
@@ -452,16 +452,16 @@ fresh_call (Ok n) call f g t element is makes good opens plain =
     (done.ok ∙ child_put f t content good plain ∙ ap (λ (k : ℕ). moved_to (k ∷ []) (end_of t) (with_node content f)) (sym done.number))
 fresh_call (Err fault) call f g t element is makes good opens plain = tt
 
-step_cut : (f : Forest) (moved : List ℕ) (m n : ℕ) → IsParentOrHost (cut moved f) m n → IsParentOrHost f m n
+step_cut : (f : Forest) (moved : List ℕ) (m n : ℕ) → IsParentOrHost (detach moved f) m n → IsParentOrHost f m n
 step_cut f moved m n (inr held) = inr held
-step_cut f moved m n (inl p) = elim (cases_Bool (stands_in n moved)) [
-  | inr g ↦ inl (sym (parent-cut moved f n ∙ cond-false (stands_in n moved) None (parent f n) g) ∙ p)
-  | inl t ↦ (let none : parent (cut moved f) n ≡ None = parent-cut moved f n ∙ rw t refl in cc)
+step_cut f moved m n (inl p) = elim (cases_Bool (is_member n moved)) [
+  | inr g ↦ inl (sym (parent-detach moved f n ∙ cond-false (is_member n moved) None (parent f n) g) ∙ p)
+  | inl t ↦ (let none : parent (detach moved f) n ≡ None = parent-detach moved f n ∙ rw t refl in cc)
 ]
 
-pub grows_cut : (f g : Forest) (x : ℕ) → g ≡ cut (x ∷ []) f → Grows f g
+pub grows_cut : (f g : Forest) (x : ℕ) → g ≡ detach (x ∷ []) f → Grows f g
 grows_cut f g x e = grows_of f g (keeps_contents f g (ap (λ (h : Forest). h.content) e)) (λ m n one other way.
-    ways_back f (cut (x ∷ []) f) (step_cut f (x ∷ [])) m n (subst (λ (h : Forest). IsHostAncestor h m n) e way))
+    ways_back f (detach (x ∷ []) f) (step_cut f (x ∷ [])) m n (subst (λ (h : Forest). IsHostAncestor h m n) e way))
 
 -- ---- places
 

@@ -1,13 +1,14 @@
--- The kinds of elements that rules on calm trees tell apart, and their names.
+-- Categories of elements, as the rules on calm pages need them, and the element names of each. A calm page is explicit markup
+-- that tree construction leaves as it is; `dom_html5` defines it.
 use Rattle.std.specs.Prelude.{ℕ, Bool, true, false, ◌&&◌, ◌||◌, List, [], ◌∷◌, codes, if◌then◌else◌}
 use Rattle.dom_nodes.specs.Words.{is_among}
-use Rattle.html5_trees.specs.declared.element_kinds.Kind.{Kind}
-use Rattle.html5_trees.specs.declared.element_kinds.Kind.TheVariants.{Document, Html, Head, Body, Metadata, Verbatim, Phrase, Anchor, Button, Paragraph, Block, Heading, Form, Pre, ItemList, Item, DescriptionList, Description, Table, Caption, ColumnGroup, Column, RowGroup, TableRow, Cell, Other}
+use Rattle.html5_trees.specs.declared.element_kinds.ElementCategory.{ElementCategory}
+use Rattle.html5_trees.specs.declared.element_kinds.ElementCategory.TheVariants.{Document, Html, Head, Body, Metadata, Verbatim, Phrase, Anchor, Button, Paragraph, Block, Heading, Form, Pre, ItemList, Item, DescriptionList, Description, Table, Caption, ColumnGroup, Column, RowGroup, TableRow, Cell, Other}
 use Rattle.html5_trees.specs.declared.element_kinds.Role.{Role}
 use Rattle.html5_trees.specs.declared.element_kinds.Role.TheVariants.{Flow, FlowHolder, FlowLeaf, FlowTable, Parts, Apart}
 
--- the names of the elements of a kind
-unfoldable pub names_of : Kind → List (List ℕ)
+-- the names of the elements in a category
+unfoldable pub names_of : ElementCategory → List (List ℕ)
 names_of Html = codes "html" ∷ []
 names_of Head = codes "head" ∷ []
 names_of Body = codes "body" ∷ []
@@ -34,21 +35,21 @@ names_of TableRow = codes "tr" ∷ []
 names_of Cell = codes "td" ∷ codes "th" ∷ []
 names_of _ = []
 
--- the kinds that have names
-abbrev pub named_kinds : List Kind
+-- the categories that have names
+abbrev pub named_kinds : List ElementCategory
 named_kinds = Html ∷ Head ∷ Body ∷ Metadata ∷ Verbatim ∷ Phrase ∷ Anchor ∷ Button ∷ Paragraph ∷ Block ∷ Heading ∷ Form ∷ Pre ∷ ItemList ∷ Item ∷ DescriptionList ∷ Description ∷ Table ∷ Caption ∷ ColumnGroup ∷ Column ∷ RowGroup ∷ TableRow ∷ Cell ∷ []
 
--- the first of the kinds that has the name
-abbrev pub kind_among : List ℕ → List Kind → Kind
+-- the first category of the list that has the name
+abbrev pub kind_among : List ℕ → List ElementCategory → ElementCategory
 kind_among name [] = Other
 kind_among name (kind ∷ kinds) = if is_among name (names_of kind) then kind else kind_among name kinds
 
--- the kind of the element of that name
-unfoldable pub kind_of : List ℕ → Kind
+-- the category of the element with that name
+unfoldable pub kind_of : List ℕ → ElementCategory
 kind_of name = kind_among name named_kinds
 
--- what the elements of a kind are to the contents of a body
-abbrev pub role_of : Kind → Role
+-- whether elements of a category occur in the content of a body, and whether they may hold such content
+abbrev pub role_of : ElementCategory → Role
 role_of Phrase = Flow
 role_of Anchor = Flow
 role_of Button = Flow
@@ -72,20 +73,20 @@ role_of RowGroup = Parts
 role_of TableRow = Parts
 role_of _ = Apart
 
--- the elements that hold what a body holds
-abbrev pub holds_flow : Kind → Bool
+-- whether elements of the category may hold the same content as a body
+abbrev pub holds_flow : ElementCategory → Bool
 holds_flow kind = elim (role_of kind) [ Flow ↦ true | FlowHolder ↦ true | FlowLeaf ↦ false | FlowTable ↦ false | Parts ↦ false | Apart ↦ false ]
 
--- the elements that may stand where a body's contents may
-abbrev pub is_flow : Kind → Bool
+-- whether elements of the category may occur in the content of a body
+abbrev pub is_flow : ElementCategory → Bool
 is_flow kind = elim (role_of kind) [ Flow ↦ true | FlowHolder ↦ false | FlowLeaf ↦ true | FlowTable ↦ true | Parts ↦ false | Apart ↦ false ]
 
--- the elements that hold elements of certain kinds, whitespace and comments alone
-abbrev pub holds_parts : Kind → Bool
+-- whether elements of the category hold only certain elements, whitespace and comments
+abbrev pub holds_parts : ElementCategory → Bool
 holds_parts kind = elim (role_of kind) [ Flow ↦ false | FlowHolder ↦ false | FlowLeaf ↦ false | FlowTable ↦ true | Parts ↦ true | Apart ↦ false ]
 
--- whether an element of the second kind may be a child of one of the first
-abbrev pub may_hold : Kind → Kind → Bool
+-- whether an element of the second category may be a child of one of the first
+abbrev pub may_hold : ElementCategory → ElementCategory → Bool
 may_hold Document Html = true
 may_hold Html Head = true
 may_hold Html Body = true
@@ -102,11 +103,11 @@ may_hold RowGroup TableRow = true
 may_hold TableRow Cell = true
 may_hold parent kind = holds_flow parent && is_flow kind
 
--- the elements that hold comments
-abbrev pub holds_comments : Kind → Bool
+-- whether comments may be children of elements of the category
+abbrev pub holds_comments : ElementCategory → Bool
 holds_comments parent = holds_parts parent || holds_flow parent
 
--- a doctype may stand there
-abbrev pub holds_doctype : Kind → Bool
+-- whether a doctype may be a child: only the document may have one
+abbrev pub holds_doctype : ElementCategory → Bool
 holds_doctype Document = true
 holds_doctype parent = false

@@ -1,4 +1,4 @@
--- What tree construction holds of the tree that it builds: numbers of elements. And the edits that it makes, which limits alone refuse.
+-- What tree construction knows about the nodes that it refers to by id, and its edits, which fail only because of limits.
 use Rattle.std.specs.Prelude.{ℕ, ◌≡◌, ◌+◌, ◌⊎◌, true, false, List, Option, Some, None, All, IfSome, length, slice_get}
 use Rattle.std.specs.List.{AllPairs}
 use Rattle.std.specs.Option.{option_map_or}
@@ -20,9 +20,9 @@ use Rattle.html5_trees.specs.declared.pointers.FormPointer.{FormPointer}
 use Rattle.html5_trees.specs.declared.pointers.FormPointer.TheVariants.{Element as TheForm}
 use Rattle.html5_trees.specs.declared.stack.Open.{Open}
 
--- ---- numbers
+-- ---- node ids
 
--- an element has that number
+-- the node with this id is an element
 abbrev pub IsElement : Forest → ℕ → Type 0
 IsElement forest n = element_at forest n ≡ true
 
@@ -30,26 +30,27 @@ IsElement forest n = element_at forest n ≡ true
 abbrev pub IsRooted : Forest → Type 0
 IsRooted forest = option_map_or is_top (slice_get forest.content 0) false ≡ true
 
--- what is open are elements
+-- every entry of the stack of open elements is an element
 abbrev pub AreOpen : Forest → List Open → Type 0
 AreOpen forest stack = All (λ o. IsElement forest o.id) stack
 
--- no open element is a later one, or below it
+-- no open element is the same as, or a descendant of, one that was opened later
 abbrev pub IsInOrder : Forest → List Open → Type 0
 IsInOrder forest stack = AllPairs (λ earlier later. AtOrBelow forest later.id earlier.id → ⊥) stack
 
--- what an entry of the list of active formatting elements names is an element; a marker names nothing
+-- an entry of the list of active formatting elements is an element or a marker
 abbrev pub IsEntry : Forest → Entry → Type 0
 IsEntry forest (Element element) = IsElement forest element.id
 IsEntry forest _ = Unit {0}
 
--- the form element pointer names an element, or nothing in the tree
+-- the form element pointer is an element of the tree, or no node of the tree
 abbrev pub IsForm : Forest → FormPointer → Type 0
 IsForm forest (TheForm n) = IsElement forest n
 IsForm forest _ = Unit {0}
 
--- The numbers in the stack of open elements, in the list of active formatting elements, of the head and the form element
--- pointer, and of the root that stands for a context element, are numbers of elements; and the stack is in order
+-- Every node id that tree construction keeps is the id of an element: in the stack of open elements, in the list of active
+-- formatting elements, in the head and form element pointers, and of the root that represents a context element. The stack is in
+-- order.
 pub record AreElements (forest : Forest) (elements : List Open) (entries : List Entry) (the_head : Option ℕ) (the_form : FormPointer) (the_context : Option Open) : Type 0 where
   pub root : IsRooted forest
   pub stack : AreOpen forest elements
@@ -59,65 +60,65 @@ pub record AreElements (forest : Forest) (elements : List Open) (entries : List 
   pub form : IsForm forest the_form
   pub context : IfSome the_context (λ o. IsElement forest o.id)
 
--- where a node may go: to the end of a node that may have children, or by a table and another element
+-- a place for a node: the end of a node that may have children, or beside a table, with the element before it on the stack
 abbrev pub IsPlace : Forest → Place → Type 0
 IsPlace forest (EndOf n) = children_allowed_at forest n ≡ true
 IsPlace forest (Table table other) = IsElement forest table × IsElement forest other
 
--- an element at or above that node is at or above one of these open elements
+-- every element that contains or is node `n` also contains or is one of these open elements
 abbrev pub LiesIn : Forest → List Open → ℕ → Type 0
 LiesIn forest elements n =
     (x : ℕ) → IsElement forest x → All (λ o. AtOrBelow forest x o.id → ⊥) elements → AtOrBelow forest x n → ⊥
 
--- the same of the nodes that a place names
+-- `LiesIn` for the nodes of a place
 abbrev pub LiesAt : Forest → List Open → Place → Type 0
 LiesAt forest elements (EndOf n) = LiesIn forest elements n
 LiesAt forest elements (Table table other) = LiesIn forest elements table × LiesIn forest elements other
 
--- elements stay elements, the root stays a document or a fragment, and no element comes below another
+-- Elements stay elements, the root stays a document or a fragment, and no element becomes an ancestor of another.
 pub record Grows (old new : Forest) : Type 0 where
   pub elements : (n : ℕ) → IsElement old n → IsElement new n
   pub root : IsRooted old → IsRooted new
   pub ways : (m n : ℕ) → IsElement old m → IsElement old n → IsHostAncestor new m n → IsHostAncestor old m n
 
--- an element was made that no other is below
+-- an element was made, and no other element is the same or a descendant of it
 pub record IsFresh (old new : Forest) (id : ℕ) : Type 0 where
   pub element : IsElement new id
   pub below : (n : ℕ) → IsElement old n → AtOrBelow new id n → ⊥
 
--- an element was made and x was put into it: it is below no other, and what is below it is x, or below x
+-- An element was made and `x` was moved into it. Its only descendants are `x` and those of `x`, and it has no element ancestors.
 pub record IsAround (old new : Forest) (id x : ℕ) : Type 0 where
   pub element : IsElement new id
   pub below : (n : ℕ) → IsElement old n → AtOrBelow new id n → AtOrBelow old x n
   pub above : (n : ℕ) → IsElement old n → AtOrBelow new n id → ⊥
 
--- an element was made and put into x: it is below what is x or above x, and what is below it is below x
+-- An element was made and moved into `x`. Its ancestors are `x` and those of `x`, and its descendants were descendants of `x`.
 pub record IsInside (old new : Forest) (id x : ℕ) : Type 0 where
   pub element : IsElement new id
   pub below : (n : ℕ) → IsElement old n → AtOrBelow new id n → IsHostAncestor old x n
   pub above : (n : ℕ) → IsElement old n → AtOrBelow new n id → AtOrBelow old n x
 
--- a node without contents was made
+-- a node without template contents was made
 abbrev pub IsPlainNode : NodeData → Forest → Forest → Type 0
 IsPlainNode content old new = (contents_named content ≡ None) × (new ≡ with_node content old)
 
--- a node was made, and the fragment that is its contents at the number after it
+-- a template was made, and its contents fragment with the next id
 abbrev pub IsTemplateNode : NodeData → Forest → Forest → Type 0
 IsTemplateNode content old new = (contents_named content ≡ Some (length old.content + 1)) × (new ≡ with_lone_template content old)
 
--- a node was made at the next number, and stands alone
+-- a detached node was made with the next id
 pub record IsNew (old new : Forest) (id : ℕ) : Type 0 where
   pub content : NodeData
   pub number : id ≡ length old.content
   pub movable : is_top content ≡ false
   pub made : IsPlainNode content old new ⊎ IsTemplateNode content old new
 
--- the same of an element
+-- `IsNew`, and the node is an element
 pub record IsMade (old new : Forest) (id : ℕ) : Type 0 where
   pub node : IsNew old new id
   pub element : is_element node.content ≡ true
 
--- the same of an element without contents
+-- a detached element without template contents was made with the next id
 pub record IsCopy (old new : Forest) (id : ℕ) : Type 0 where
   pub content : NodeData
   pub number : id ≡ length old.content
@@ -126,13 +127,13 @@ pub record IsCopy (old new : Forest) (id : ℕ) : Type 0 where
 
 -- ---- faults
 
--- memory or numbers ran out
+-- memory or node ids ran out
 abbrev pub IsLimit : EditFault → Type 0
 IsLimit TooManyNodes = Unit {0}
 IsLimit Memory = Unit {0}
 IsLimit _ = ⊥
 
--- the limit that a page's fault reports
+-- the limit that a `PageFault` reports
 abbrev pub limit_of : PageFault → EditFault
 limit_of NoMemory = Memory
 limit_of NoNumber = TooManyNodes

@@ -1,9 +1,9 @@
-//! Names and attributes of elements, as the tree has them.
+//! Element names and attributes of tags, in the form in which the tree stores them.
 
 use crate::adjusting::{mathml_attr, svg_attr, svg_tag};
 use crate::fault::PageFault;
 use crate::name::Name;
-use crate::stack::Ns;
+use crate::stack::ElementNamespace;
 use dom_nodes::name::{Attr, LocalName, NameParts, Namespace, QualName};
 use dom_nodes::node_data::Attrs;
 use dom_nodes::text::{RareText, Text};
@@ -11,32 +11,38 @@ use dom_nodes::words::is_one_of;
 use html5_tokens::token::{Tag, TagAttr};
 use std::alloc::Global;
 
-fn namespace(ns: Ns) -> Namespace {
+fn namespace(ns: ElementNamespace) -> Namespace {
     match ns {
-        Ns::Html => Namespace::Html,
-        Ns::Svg => Namespace::Svg,
-        Ns::MathMl => Namespace::MathMl,
+        ElementNamespace::Html => Namespace::Html,
+        ElementNamespace::Svg => Namespace::Svg,
+        ElementNamespace::MathMl => Namespace::MathMl,
     }
 }
 
-/// The local name of a tag's element.
-fn local_name(ns: Ns, name: Name, tag: &Tag) -> &str {
+/// Returns the local name of the element that a tag makes. An HTML `image` becomes `img`.
+fn local_name(ns: ElementNamespace, name: Name, tag: &Tag) -> &str {
     match ns {
-        Ns::Svg => svg_tag(tag.name.as_str()),
-        Ns::Html if name == Name::Img => "img",
+        ElementNamespace::Svg => svg_tag(tag.name.as_str()),
+        ElementNamespace::Html if name == Name::Img => "img",
         _ => tag.name.as_str(),
     }
 }
 
-/// The name of a tag's element.
-pub fn element_name(alloc: Global, ns: Ns, name: Name, tag: &Tag) -> Result<QualName, PageFault> {
+/// Returns the qualified name of the element that a tag makes. Fails only when memory runs out.
+pub fn element_name(
+    alloc: Global,
+    ns: ElementNamespace,
+    name: Name,
+    tag: &Tag,
+) -> Result<QualName, PageFault> {
     let local = LocalName::new(alloc, local_name(ns, name, tag))?;
     let prefix = None;
     let ns = namespace(ns);
     Ok(QualName::new(alloc, NameParts { prefix, ns, local })?)
 }
 
-/// The attributes that foreign content has in a namespace, as they are written.
+/// The attributes that have a namespace in foreign content, as they are in the source (13.2.6.1,
+/// "adjust foreign attributes").
 static NAMESPACED: [&str; 11] = [
     "xlink:actuate",
     "xlink:arcrole",
@@ -59,7 +65,7 @@ fn prefix_of(alloc: Global, prefix: &str) -> Result<Option<RareText>, PageFault>
     Ok(Some(prefix))
 }
 
-/// What stands before the colon of a name, and what behind it.
+/// Splits a name at its colon. Without a colon the first part is empty.
 fn parts_of(name: &str) -> (&str, &str) {
     match name.split_once(':') {
         Some(parts) => parts,
@@ -77,7 +83,7 @@ fn namespace_of(name: &str) -> Namespace {
     }
 }
 
-/// The name of an attribute in a namespace: prefix, colon and local name, or `xmlns`.
+/// Returns the qualified name of an attribute in a namespace, from `prefix:local` or `xmlns`.
 fn qualified(alloc: Global, name: &str) -> Result<QualName, PageFault> {
     let (prefix, local) = parts_of(name);
     let prefix = prefix_of(alloc, prefix)?;
@@ -86,32 +92,36 @@ fn qualified(alloc: Global, name: &str) -> Result<QualName, PageFault> {
     Ok(QualName::new(alloc, NameParts { prefix, ns, local })?)
 }
 
-/// The name of an attribute in no namespace, as foreign content writes it.
-fn adjusted_attr(ns: Ns, name: &str) -> &str {
+/// Returns the name of an attribute without a namespace, in its proper case in foreign content.
+fn adjusted_attr(ns: ElementNamespace, name: &str) -> &str {
     match ns {
-        Ns::Html => name,
-        Ns::Svg => svg_attr(name),
-        Ns::MathMl => mathml_attr(name),
+        ElementNamespace::Html => name,
+        ElementNamespace::Svg => svg_attr(name),
+        ElementNamespace::MathMl => mathml_attr(name),
     }
 }
 
-fn attr_name(alloc: Global, ns: Ns, name: &str) -> Result<QualName, PageFault> {
-    if ns != Ns::Html && is_one_of(name, &NAMESPACED) {
+fn attr_name(alloc: Global, ns: ElementNamespace, name: &str) -> Result<QualName, PageFault> {
+    if ns != ElementNamespace::Html && is_one_of(name, &NAMESPACED) {
         return qualified(alloc, name);
     }
     let local = LocalName::new(alloc, adjusted_attr(ns, name))?;
     Ok(QualName::plain(local))
 }
 
-/// An attribute of a tag's element.
-fn attr_of(alloc: Global, ns: Ns, given: &TagAttr) -> Result<Attr, PageFault> {
+/// Returns an attribute of the element that a tag makes.
+fn attr_of(alloc: Global, ns: ElementNamespace, given: &TagAttr) -> Result<Attr, PageFault> {
     let name = attr_name(alloc, ns, given.name.as_str())?;
     let value = Text::new(alloc, given.value.as_str())?;
     Ok(Attr { name, value })
 }
 
-/// The attributes of a tag's element.
-pub fn attrs_of(alloc: Global, ns: Ns, given: &[TagAttr]) -> Result<Attrs, PageFault> {
+/// Returns the attributes of the element that a tag makes. Fails only when memory runs out.
+pub fn attrs_of(
+    alloc: Global,
+    ns: ElementNamespace,
+    given: &[TagAttr],
+) -> Result<Attrs, PageFault> {
     let mut attrs = Attrs::new(alloc);
     attrs.reserve(given.len());
     for attr in given {
@@ -120,7 +130,7 @@ pub fn attrs_of(alloc: Global, ns: Ns, given: &[TagAttr]) -> Result<Attrs, PageF
     Ok(attrs)
 }
 
-/// The value of a tag's attribute.
+/// Returns the value of a tag's attribute, if the tag has it.
 pub fn value_of<'a>(tag: &'a Tag, name: &str) -> Option<&'a str> {
     for attr in tag.attrs.as_slice() {
         if attr.name.as_str() == name {
@@ -130,7 +140,7 @@ pub fn value_of<'a>(tag: &'a Tag, name: &str) -> Option<&'a str> {
     None
 }
 
-/// Whether an `input` is hidden.
+/// Returns whether an `input` is hidden, that is, has `type=hidden`.
 pub fn is_hidden(tag: &Tag) -> bool {
     match value_of(tag, "type") {
         Some(kind) => kind.eq_ignore_ascii_case("hidden"),
@@ -138,9 +148,10 @@ pub fn is_hidden(tag: &Tag) -> bool {
     }
 }
 
-/// Whether an element is an `annotation-xml` whose encoding is HTML.
-pub fn holds_html(ns: Ns, name: Name, tag: &Tag) -> bool {
-    if ns != Ns::MathMl || name != Name::AnnotationXml {
+/// Returns whether the element is an `annotation-xml` whose encoding is HTML or XHTML, and so an
+/// HTML integration point.
+pub fn holds_html(ns: ElementNamespace, name: Name, tag: &Tag) -> bool {
+    if ns != ElementNamespace::MathMl || name != Name::AnnotationXml {
         return false;
     }
     match value_of(tag, "encoding") {

@@ -1,4 +1,4 @@
-//! The state of tree construction.
+//! The state of tree construction (13.2.4), besides the tree and the stack.
 
 use crate::fault::PageFault;
 use crate::growing::{GrowingTree, Placing};
@@ -6,7 +6,7 @@ use crate::reading::Options;
 use html5_tokens::tokenizer::State;
 use std::alloc::Global;
 
-/// The insertion mode: by which rules a token is read.
+/// The insertion mode (13.2.4.1), which chooses the rules for a token.
 #[derive(Clone, Copy, PartialEq, Eq, Drop)]
 pub enum Mode {
     Initial,
@@ -34,38 +34,38 @@ pub enum Mode {
     AfterAfterFrameset,
 }
 
-/// Whether a token is done with, or is reprocessed in the insertion mode that now holds.
+/// Whether a token is processed, or has to be reprocessed in the current insertion mode.
 #[derive(Clone, Copy, PartialEq, Eq, Drop)]
 pub enum Next {
     Done,
     Again,
 }
 
-/// The least bound on depth: `html`, `body`, and one more.
+/// The smallest limit on depth: `html`, `body`, and one more element.
 const LEAST_DEPTH: usize = 3;
 
-/// A document that is filled by tokens, and where the next one finds it.
+/// The state of tree construction: the tree, the insertion mode and the flags of the standard.
 #[derive(Drop)]
 pub struct TreeBuilder {
     pub alloc: Global,
     pub tree: GrowingTree,
     pub placing: Placing,
     pub mode: Mode,
-    /// The mode that a text element or a table's characters return to.
+    /// The original insertion mode, to which the text and table text modes return.
     pub original: Mode,
     pub template_modes: Vec<Mode>,
     pub frameset_ok: bool,
-    /// Whether a line feed that comes next is dropped.
+    /// Whether the next character is ignored if it is a line feed.
     pub skip_line_feed: bool,
     pub scripting: bool,
     /// Whether the document is in quirks mode.
     pub quirks: bool,
-    /// The pending table characters.
+    /// The pending table character tokens.
     pub table_text: String,
     pub table_text_has_letters: bool,
-    /// How the tokenizer reads what comes next, where that changes.
+    /// The state to which the tokenizer has to switch, if any.
     pub switch: Option<State>,
-    /// The first fault. The rules go on to the end of the token; then nothing more is read.
+    /// The first fault. The current token is processed to its end; then nothing more is read.
     pub fault: Option<PageFault>,
 }
 
@@ -93,7 +93,7 @@ impl TreeBuilder {
         }
     }
 
-    /// Keeps the fault of an edit, if it is the first one.
+    /// Stores the fault of an edit, if it is the first one.
     pub fn keep(&mut self, done: Result<(), PageFault>) {
         if let Err(fault) = done
             && self.fault.is_none()
@@ -102,7 +102,7 @@ impl TreeBuilder {
         }
     }
 
-    /// The fault with which reading ended.
+    /// Returns the first fault as an error, if there is one.
     pub fn settled(&self) -> Result<(), PageFault> {
         match self.fault {
             Some(fault) => Err(fault),
@@ -120,7 +120,8 @@ impl TreeBuilder {
         Next::Again
     }
 
-    /// How often a token is reprocessed at most, before the rules for "in body" take it.
+    /// Returns how often a token may be reprocessed before the rules for "in body" process it at
+    /// last.
     pub fn turns(&self) -> usize {
         self.tree.open().len().saturating_mul(4).saturating_add(64)
     }

@@ -1,4 +1,4 @@
-//! Pages whose bytes come in pieces.
+//! Pages that come as bytes, in pieces.
 
 ghost use Rattle.std.specs.Prelude.{◌≡◌, ◌≤◌, drop, length, take};
 ghost use Rattle.html5_trees.specs.Framed.{IsFramed, byte_order_mark};
@@ -8,35 +8,35 @@ use crate::reading::PageReader;
 use std::alloc::Global;
 use std::mem;
 
-/// The bytes of a page that can't be read yet: those of a character that isn't whole.
+/// The bytes of a character whose other bytes have not come yet.
 #[derive(Drop)]
-pub(crate) struct Waiting {
+pub(crate) struct PendingBytes {
     bytes: Vec<u8>,
-    /// Whether bytes were read before, so that no byte order mark comes any more.
+    /// Whether bytes were read before, so that no byte order mark can follow.
     is_begun: bool,
 }
 
-impl Waiting {
-    /// Before the first piece.
-    pub(crate) fn new(alloc: Global) -> Waiting {
-        Waiting {
+impl PendingBytes {
+    /// Returns the state before the first piece.
+    pub(crate) fn new(alloc: Global) -> PendingBytes {
+        PendingBytes {
             bytes: Vec::new(alloc),
             is_begun: false,
         }
     }
 
-    /// Has bytes wait behind the others.
+    /// Appends bytes to the pending ones.
     fn wait(&mut self, bytes: &[u8]) -> Result<(), PageFault> {
         self.bytes.extend_from_slice(bytes)?;
         Ok(())
     }
 
-    /// Takes the bytes that wait.
+    /// Takes the pending bytes.
     fn take(&mut self, alloc: Global) -> Vec<u8> {
         mem::replace(&mut self.bytes, Vec::new(alloc))
     }
 
-    /// The bytes without a byte order mark, if they are the first ones.
+    /// Removes a byte order mark, if these are the first bytes.
     fn without_mark<'b>(&mut self, bytes: &'b [u8]) -> &'b [u8] {
         if self.is_begun || bytes.is_empty() {
             return bytes;
@@ -46,7 +46,8 @@ impl Waiting {
     }
 }
 
-/// The bytes without a byte order mark at their beginning. The frame of a calm page has none.
+/// Returns the bytes without a UTF-8 byte order mark at their start. The start of a calm page is
+/// none, so such a page is returned unchanged.
 pub fn without_mark(bytes: &[u8]) -> &[u8]
     ensures framed { IsFramed bytes.now → result.now ≡ bytes.now }
     ensures marked { take 3 bytes.now ≡ byte_order_mark → result.now ≡ drop 3 bytes.now }
@@ -58,7 +59,7 @@ pub fn without_mark(bytes: &[u8]) -> &[u8]
     }
 }
 
-/// How many bytes the character takes that begins with this byte.
+/// Returns how many bytes a UTF-8 character has that starts with this byte.
 fn char_len(first: u8) -> usize {
     match first {
         0xc2..=0xdf => 2,
@@ -68,7 +69,7 @@ fn char_len(first: u8) -> usize {
     }
 }
 
-/// How many bytes come before a character at the end that may go on in the next piece.
+/// Returns how many bytes come before a character at the end that the next piece may continue.
 fn whole_len(bytes: &[u8]) -> usize
     ensures { result ≤ length bytes.now }
 {
@@ -90,7 +91,7 @@ fn whole_len(bytes: &[u8]) -> usize
 }
 
 impl PageReader {
-    /// Reads the next bytes of a page.
+    /// Reads the next bytes of a page. Fails with the first fault: memory or node ids ran out.
     pub fn feed_bytes(&mut self, piece: &[u8]) -> Result<(), PageFault> {
         self.builder.settled()?;
         self.read_bytes(piece);
@@ -107,7 +108,7 @@ impl PageReader {
         self.read_whole(&bytes);
     }
 
-    /// Reads the whole characters, and has the others wait.
+    /// Reads the complete characters, and keeps the rest for the next piece.
     fn read_whole(&mut self, bytes: &[u8]) {
         let (whole, rest) = bytes.split_at(whole_len(bytes));
         let whole = self.waiting.without_mark(whole);
@@ -116,7 +117,7 @@ impl PageReader {
         self.builder.keep(waited);
     }
 
-    /// Reads the bytes that are still waiting, since no more come.
+    /// Reads the pending bytes at the end of the page.
     pub(crate) fn read_waiting(&mut self) {
         if !self.waiting.bytes.is_empty() {
             let bytes = self.waiting.take(self.builder.alloc);

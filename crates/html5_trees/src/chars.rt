@@ -1,4 +1,4 @@
-//! Character tokens.
+//! Character tokens, which come as runs.
 
 use crate::builder::{Mode, Next, TreeBuilder};
 use crate::fault::PageFault;
@@ -9,10 +9,10 @@ use crate::stack::Open;
 use std::mem;
 use std::simd::prelude::*;
 
-/// The characters that are white space to tree construction.
+/// The characters that tree construction treats as whitespace.
 const SPACES: [char; 5] = ['\t', '\n', '\u{c}', '\r', ' '];
 
-/// Whether a character of the text is null.
+/// Returns whether the text contains a null.
 fn has_null(text: &str) -> bool {
     let (blocks, rest) = text.as_bytes().as_chunks::<16>();
     for block in blocks {
@@ -32,7 +32,7 @@ fn has_null(text: &str) -> bool {
     false
 }
 
-/// What follows the white space at the front of a text.
+/// Returns the text without its leading whitespace.
 fn behind_spaces(text: &str) -> &str {
     let mut count: usize = 0;
     for byte in text.as_bytes() {
@@ -44,7 +44,7 @@ fn behind_spaces(text: &str) -> &str {
     text.get(count..).unwrap_or(text)
 }
 
-/// What the characters of a run are: nulls, white space alone, or others too.
+/// The kinds of runs of characters: nulls, whitespace alone, or any others.
 #[derive(Clone, Copy, PartialEq, Eq, Drop)]
 pub enum Run {
     Nulls,
@@ -52,7 +52,7 @@ pub enum Run {
     Letters,
 }
 
-/// Whether white space goes where the letters behind it go, and does nothing else.
+/// Returns whether in this mode whitespace is inserted like the letters after it.
 fn joins_spaces(mode: Mode) -> bool {
     matches!(
         mode,
@@ -60,7 +60,7 @@ fn joins_spaces(mode: Mode) -> bool {
     )
 }
 
-/// Whether the mode may drop letters but keep the white space between them.
+/// Returns whether this mode may ignore letters but keep the whitespace between them.
 fn drops_letters(mode: Mode) -> bool {
     matches!(
         mode,
@@ -68,13 +68,13 @@ fn drops_letters(mode: Mode) -> bool {
     )
 }
 
-/// Whether characters in that element are table characters.
+/// Returns whether characters in that element are pending table character tokens.
 fn holds_table_text(open: &Open) -> bool {
     open.is_html(Name::Template) || is_foster_target(open)
 }
 
 impl TreeBuilder {
-    /// Reads the characters between two tokens.
+    /// Processes the characters between two tokens.
     pub fn characters(&mut self, text: &str) {
         let mut text = text;
         if self.skip_line_feed && !text.is_empty() {
@@ -95,7 +95,7 @@ impl TreeBuilder {
         }
     }
 
-    /// Reads characters of which none but the last may be null.
+    /// Processes characters of which only the last may be a null.
     fn stretch_to_null(&mut self, text: &str) {
         let Some(front) = text.strip_suffix('\0') else {
             return self.stretch(text);
@@ -104,8 +104,8 @@ impl TreeBuilder {
         self.run(Run::Nulls, "\0")
     }
 
-    /// Reads characters of which none is null: white space first, and then the others; in one run
-    /// where the mode reads them alike.
+    /// Processes characters without nulls: leading whitespace and then the rest, or all as one run
+    /// if the mode treats them alike.
     fn stretch(&mut self, text: &str) {
         let rest = behind_spaces(text);
         if !rest.is_empty() && joins_spaces(self.mode) {
@@ -121,28 +121,28 @@ impl TreeBuilder {
         self.run(Run::Letters, rest)
     }
 
-    /// Reads words and the white space between them one by one.
+    /// Processes words, and the whitespace between them, one by one.
     fn words(&mut self, text: &str) {
         for piece in text.split_inclusive(SPACES) {
             self.word(piece);
         }
     }
 
-    /// Reads a word and the white space behind it.
+    /// Processes a word and the whitespace after it.
     fn word(&mut self, piece: &str) {
         let word = piece.trim_end_matches(SPACES);
         self.run(Run::Letters, word);
         self.run(Run::Spaces, piece.get(word.len()..).unwrap_or(""))
     }
 
-    /// Reads a run of characters, if there are any.
+    /// Processes a run of characters, unless it is empty.
     fn run(&mut self, kind: Run, text: &str) {
         if !text.is_empty() {
             self.process(Token::Run(kind, text));
         }
     }
 
-    /// Reads a run by the rules that now hold.
+    /// Processes a run by the rules of the current insertion mode, or of foreign content.
     pub fn run_step(&mut self, kind: Run, text: &str) -> Next {
         if let Some(open) = self.tree.adjusted_current()
             && open.holds_foreign()
@@ -209,7 +209,7 @@ impl TreeBuilder {
         }
     }
 
-    /// Leaves a mode that has no place for what comes.
+    /// Leaves a mode that can't process the token, by the steps for "anything else".
     pub fn leave_mode(&mut self) -> Next {
         match self.mode {
             Mode::Initial => self.leave_initial(),
@@ -229,7 +229,7 @@ impl TreeBuilder {
         Next::Done
     }
 
-    /// Characters by the rules for "in body".
+    /// Processes characters by the rules for "in body".
     pub fn body_run(&mut self, kind: Run, text: &str) -> Next {
         if kind == Run::Nulls {
             return Next::Done;
@@ -254,7 +254,7 @@ impl TreeBuilder {
         self.fostered(Token::Run(kind, text))
     }
 
-    /// Adds to the pending table characters.
+    /// Appends to the pending table character tokens.
     fn pending_run(&mut self, kind: Run, text: &str) -> Next {
         if kind == Run::Letters {
             self.table_text_has_letters = true;
@@ -265,7 +265,7 @@ impl TreeBuilder {
         Next::Done
     }
 
-    /// Another token ends the pending table characters.
+    /// Processes the pending table character tokens, because another token comes.
     pub fn flush_table_text(&mut self) {
         if self.mode != Mode::InTableText {
             return;
@@ -275,7 +275,8 @@ impl TreeBuilder {
         self.put_table_text(text.as_str())
     }
 
-    /// Puts table characters into the table if they are white space, and else before it.
+    /// Inserts pending table characters into the table if they are whitespace, and otherwise before
+    /// it (foster parenting).
     fn put_table_text(&mut self, text: &str) {
         if text.is_empty() {
             return;

@@ -1,4 +1,5 @@
-//! The kinds of elements that the rules on calm trees tell apart.
+//! Categories of elements, as the rules on calm pages need them. A calm page is explicit markup
+//! that tree construction leaves as it is.
 
 ghost use Rattle.std.specs.Prelude.{◌≡◌, map};
 ghost use Rattle.html5_trees.specs.ElementKinds.{holds_comments, holds_doctype, holds_flow};
@@ -10,33 +11,33 @@ use crate::name::KNOWN;
 use dom_nodes::name::LocalRef;
 use dom_nodes::words::is_one_of;
 
-/// The kind of an element, by its name.
+/// The category of an element, by its name.
 #[derive(Clone, Copy, Drop)]
-pub enum Kind {
-    /// The document itself; no name is of this kind.
+pub enum ElementCategory {
+    /// The document itself; no element name is in this category.
     Document,
     Html,
     Head,
     Body,
     /// `base`, `link`, `meta`.
     Metadata,
-    /// `script`, `style`, `title`: they hold a text alone.
+    /// `script`, `style`, `title`: their content is text.
     Verbatim,
-    /// What may stand wherever a body's contents may.
+    /// Phrasing content, which may occur anywhere in the content of a body.
     Phrase,
-    /// `a`, not inside another.
+    /// `a`, which may not be inside another.
     Anchor,
-    /// Not inside another.
+    /// `button`, which may not be inside another.
     Button,
     /// `p`.
     Paragraph,
-    /// What ends an open `p`.
+    /// Block elements, whose start tag closes an open `p`.
     Block,
     /// `h1` to `h6`.
     Heading,
-    /// Not inside another.
+    /// `form`, which may not be inside another.
     Form,
-    /// `pre`, whose first line feed is dropped.
+    /// `pre`, after whose start tag a line feed is ignored.
     Pre,
     /// `dir`, `menu`, `ol`, `ul`.
     ItemList,
@@ -55,76 +56,76 @@ pub enum Kind {
     TableRow,
     /// `td`, `th`.
     Cell,
-    /// What no calm tree has.
+    /// Elements that no calm page has.
     Other,
 }
 
-/// What an element is to the contents of a body.
+/// Whether an element occurs in the content of a body, and what its own content is.
 #[derive(Clone, Copy, Drop)]
 pub enum Role {
-    /// It stands among them, and holds them too.
+    /// It occurs in the content of a body, and may hold the same.
     Flow,
-    /// It holds them, and stands elsewhere.
+    /// It may hold the same content as a body, but occurs elsewhere.
     FlowHolder,
-    /// It stands among them, and holds text alone.
+    /// It occurs in the content of a body, and holds text alone.
     FlowLeaf,
-    /// It stands among them, and holds parts of its own: elements, white space and comments.
+    /// It occurs in the content of a body, and holds certain elements, whitespace and comments.
     FlowTable,
-    /// It holds such parts, and stands elsewhere.
+    /// It holds certain elements, whitespace and comments, and occurs elsewhere.
     Parts,
-    /// It has nothing to do with them.
+    /// None of these.
     Apart,
 }
 
-/// The kinds that have names.
-const NAMED: [Kind; 24] = [
-    Kind::Html,
-    Kind::Head,
-    Kind::Body,
-    Kind::Metadata,
-    Kind::Verbatim,
-    Kind::Phrase,
-    Kind::Anchor,
-    Kind::Button,
-    Kind::Paragraph,
-    Kind::Block,
-    Kind::Heading,
-    Kind::Form,
-    Kind::Pre,
-    Kind::ItemList,
-    Kind::Item,
-    Kind::DescriptionList,
-    Kind::Description,
-    Kind::Table,
-    Kind::Caption,
-    Kind::ColumnGroup,
-    Kind::Column,
-    Kind::RowGroup,
-    Kind::TableRow,
-    Kind::Cell,
+/// The categories that have names.
+const NAMED: [ElementCategory; 24] = [
+    ElementCategory::Html,
+    ElementCategory::Head,
+    ElementCategory::Body,
+    ElementCategory::Metadata,
+    ElementCategory::Verbatim,
+    ElementCategory::Phrase,
+    ElementCategory::Anchor,
+    ElementCategory::Button,
+    ElementCategory::Paragraph,
+    ElementCategory::Block,
+    ElementCategory::Heading,
+    ElementCategory::Form,
+    ElementCategory::Pre,
+    ElementCategory::ItemList,
+    ElementCategory::Item,
+    ElementCategory::DescriptionList,
+    ElementCategory::Description,
+    ElementCategory::Table,
+    ElementCategory::Caption,
+    ElementCategory::ColumnGroup,
+    ElementCategory::Column,
+    ElementCategory::RowGroup,
+    ElementCategory::TableRow,
+    ElementCategory::Cell,
 ];
 
-impl Kind {
-    /// The kind of the elements of that name.
-    pub fn of(name: &LocalRef<'_>) -> Kind
+impl ElementCategory {
+    /// Returns the category of elements with that name.
+    pub fn of(name: &LocalRef<'_>) -> ElementCategory
         ensures { result ≡ kind_of name.now }
     {
         match name.number() {
             Some(number) => KNOWN[number as usize].1,
-            None => Kind::of_text(name.as_str()),
+            None => ElementCategory::of_text(name.as_str()),
         }
     }
 
-    /// The same, where the tree knows the name by no number.
+    /// Returns the category of elements with a name that has no number in the tree.
     #[tactic(auto, unfolding(crate::specs::ElementKinds::kind_of))]
-    fn of_text(name: &str) -> Kind
+    fn of_text(name: &str) -> ElementCategory
         ensures { result ≡ kind_of name.now }
     {
-        Kind::among(name, &NAMED)
+        ElementCategory::among(name, &NAMED)
     }
 
-    /// The first of the kinds that has the name.
-    fn among(name: &str, kinds: &[Kind]) -> Kind
+    /// Returns the first category of the list that has the name.
+    fn among(name: &str, kinds: &[ElementCategory]) -> ElementCategory
         ensures { result ≡ kind_among name.now kinds.now }
     {
         let mut rest = kinds;
@@ -134,28 +135,28 @@ impl Kind {
             }
             rest = others;
         }
-        Kind::Other
+        ElementCategory::Other
     }
 
-    /// Whether elements of that name are of this kind.
+    /// Returns whether elements with that name are in this category.
     fn is_named(self, name: &str) -> bool
         ensures { result ≡ is_among name.now (names_of self) }
     {
         is_one_of(name, self.names())
     }
 
-    /// The names of the elements of this kind.
+    /// Returns the element names in this category.
     #[tactic(auto, unfolding(crate::specs::ElementKinds::names_of))]
     fn names(self) -> &'static [&'static str]
         ensures { map (λ name. name.now) result.now ≡ names_of self }
     {
         match self {
-            Kind::Html => &["html"],
-            Kind::Head => &["head"],
-            Kind::Body => &["body"],
-            Kind::Metadata => &["base", "link", "meta"],
-            Kind::Verbatim => &["script", "style", "title"],
-            Kind::Phrase => &[
+            ElementCategory::Html => &["html"],
+            ElementCategory::Head => &["head"],
+            ElementCategory::Body => &["body"],
+            ElementCategory::Metadata => &["base", "link", "meta"],
+            ElementCategory::Verbatim => &["script", "style", "title"],
+            ElementCategory::Phrase => &[
                 "abbr", "acronym", "area", "audio", "b", "bdi", "bdo", "big", "br", "canvas",
                 "cite", "code", "data", "datalist", "del", "dfn", "em", "embed", "font", "i",
                 "img", "input", "ins", "kbd", "label", "legend", "map", "mark", "meter", "output",
@@ -163,10 +164,10 @@ impl Kind {
                 "strike", "strong", "sub", "sup", "time", "track", "tt", "u", "var", "video",
                 "wbr",
             ],
-            Kind::Anchor => &["a"],
-            Kind::Button => &["button"],
-            Kind::Paragraph => &["p"],
-            Kind::Block => &[
+            ElementCategory::Anchor => &["a"],
+            ElementCategory::Button => &["button"],
+            ElementCategory::Paragraph => &["p"],
+            ElementCategory::Block => &[
                 "address",
                 "article",
                 "aside",
@@ -188,100 +189,108 @@ impl Kind {
                 "section",
                 "summary",
             ],
-            Kind::Heading => &["h1", "h2", "h3", "h4", "h5", "h6"],
-            Kind::Form => &["form"],
-            Kind::Pre => &["pre"],
-            Kind::ItemList => &["dir", "menu", "ol", "ul"],
-            Kind::Item => &["li"],
-            Kind::DescriptionList => &["dl"],
-            Kind::Description => &["dd", "dt"],
-            Kind::Table => &["table"],
-            Kind::Caption => &["caption"],
-            Kind::ColumnGroup => &["colgroup"],
-            Kind::Column => &["col"],
-            Kind::RowGroup => &["tbody", "tfoot", "thead"],
-            Kind::TableRow => &["tr"],
-            Kind::Cell => &["td", "th"],
-            Kind::Document | Kind::Other => &[],
+            ElementCategory::Heading => &["h1", "h2", "h3", "h4", "h5", "h6"],
+            ElementCategory::Form => &["form"],
+            ElementCategory::Pre => &["pre"],
+            ElementCategory::ItemList => &["dir", "menu", "ol", "ul"],
+            ElementCategory::Item => &["li"],
+            ElementCategory::DescriptionList => &["dl"],
+            ElementCategory::Description => &["dd", "dt"],
+            ElementCategory::Table => &["table"],
+            ElementCategory::Caption => &["caption"],
+            ElementCategory::ColumnGroup => &["colgroup"],
+            ElementCategory::Column => &["col"],
+            ElementCategory::RowGroup => &["tbody", "tfoot", "thead"],
+            ElementCategory::TableRow => &["tr"],
+            ElementCategory::Cell => &["td", "th"],
+            ElementCategory::Document | ElementCategory::Other => &[],
         }
     }
 
-    /// What elements of this kind are to the contents of a body.
+    /// Returns the role of elements in this category.
     fn role(self) -> Role
         ensures { result ≡ role_of self }
     {
         match self {
-            Kind::Phrase
-            | Kind::Anchor
-            | Kind::Button
-            | Kind::Paragraph
-            | Kind::Block
-            | Kind::Heading
-            | Kind::Form
-            | Kind::Pre
-            | Kind::ItemList
-            | Kind::DescriptionList => Role::Flow,
-            Kind::Body | Kind::Item | Kind::Description | Kind::Caption | Kind::Cell => {
-                Role::FlowHolder
-            }
-            Kind::Verbatim => Role::FlowLeaf,
-            Kind::Table => Role::FlowTable,
-            Kind::Head | Kind::ColumnGroup | Kind::RowGroup | Kind::TableRow => Role::Parts,
+            ElementCategory::Phrase
+            | ElementCategory::Anchor
+            | ElementCategory::Button
+            | ElementCategory::Paragraph
+            | ElementCategory::Block
+            | ElementCategory::Heading
+            | ElementCategory::Form
+            | ElementCategory::Pre
+            | ElementCategory::ItemList
+            | ElementCategory::DescriptionList => Role::Flow,
+            ElementCategory::Body
+            | ElementCategory::Item
+            | ElementCategory::Description
+            | ElementCategory::Caption
+            | ElementCategory::Cell => { Role::FlowHolder }
+            ElementCategory::Verbatim => Role::FlowLeaf,
+            ElementCategory::Table => Role::FlowTable,
+            ElementCategory::Head
+            | ElementCategory::ColumnGroup
+            | ElementCategory::RowGroup
+            | ElementCategory::TableRow => Role::Parts,
             _ => Role::Apart,
         }
     }
 
-    /// Whether such elements hold what a body holds.
+    /// Returns whether such elements may hold the same content as a body.
     pub fn holds_flow(self) -> bool
         ensures { result ≡ holds_flow self }
     {
         matches!(self.role(), Role::Flow | Role::FlowHolder)
     }
 
-    /// Whether such elements may stand where a body's contents may.
+    /// Returns whether such elements may occur in the content of a body.
     pub fn is_flow(self) -> bool
         ensures { result ≡ is_flow self }
     {
         matches!(self.role(), Role::Flow | Role::FlowLeaf | Role::FlowTable)
     }
 
-    /// Whether such elements hold elements of certain kinds, white space and comments alone.
+    /// Returns whether such elements hold only certain elements, whitespace and comments.
     pub fn holds_parts(self) -> bool
         ensures { result ≡ holds_parts self }
     {
         matches!(self.role(), Role::FlowTable | Role::Parts)
     }
 
-    /// Whether an element of the other kind may be a child of one of this kind.
-    pub fn may_hold(self, kind: Kind) -> bool
+    /// Returns whether an element of the other category may be a child of one of this category.
+    pub fn may_hold(self, kind: ElementCategory) -> bool
         ensures { result ≡ may_hold self kind }
     {
         match (self, kind) {
-            (Kind::Document, Kind::Html)
-            | (Kind::Html, Kind::Head | Kind::Body)
-            | (Kind::Head, Kind::Metadata | Kind::Verbatim)
-            | (Kind::ItemList, Kind::Item)
-            | (Kind::DescriptionList, Kind::Description)
-            | (Kind::Table, Kind::Caption | Kind::ColumnGroup | Kind::RowGroup)
-            | (Kind::ColumnGroup, Kind::Column)
-            | (Kind::RowGroup, Kind::TableRow)
-            | (Kind::TableRow, Kind::Cell) => true,
-            (Kind::Heading, Kind::Heading) => false,
+            (ElementCategory::Document, ElementCategory::Html)
+            | (ElementCategory::Html, ElementCategory::Head | ElementCategory::Body)
+            | (ElementCategory::Head, ElementCategory::Metadata | ElementCategory::Verbatim)
+            | (ElementCategory::ItemList, ElementCategory::Item)
+            | (ElementCategory::DescriptionList, ElementCategory::Description)
+            | (
+                ElementCategory::Table,
+                ElementCategory::Caption | ElementCategory::ColumnGroup | ElementCategory::RowGroup,
+            )
+            | (ElementCategory::ColumnGroup, ElementCategory::Column)
+            | (ElementCategory::RowGroup, ElementCategory::TableRow)
+            | (ElementCategory::TableRow, ElementCategory::Cell) => true,
+            (ElementCategory::Heading, ElementCategory::Heading) => false,
             _ => self.holds_flow() && kind.is_flow(),
         }
     }
 
-    /// Whether such elements hold comments.
+    /// Returns whether comments may be children of such elements.
     pub fn holds_comments(self) -> bool
         ensures { result ≡ holds_comments self }
     {
         self.holds_parts() || self.holds_flow()
     }
 
-    /// Whether a doctype may stand there.
+    /// Returns whether a doctype may be a child: only the document may have one.
     pub fn holds_doctype(self) -> bool
         ensures { result ≡ holds_doctype self }
     {
-        matches!(self, Kind::Document)
+        matches!(self, ElementCategory::Document)
     }
 }

@@ -1,4 +1,4 @@
-//! Why a page isn't read.
+//! Why a page could not be read.
 
 ghost use Rattle.std.specs.Prelude.{◌≡◌, Err, IfErr, MatchResult, Ok};
 ghost use Rattle.html5_trees.specs.Elements.{IsLimit, limit_of};
@@ -10,12 +10,13 @@ use std::alloc::{AllocError, AllocFailed};
 use std::error::Error;
 use std::fmt;
 
-/// Why a page isn't read. Every text stands for a document, so limits alone are left.
+/// Why a page could not be read. The HTML Standard gives every text a document, so only limits
+/// remain.
 #[derive(Clone, Copy, PartialEq, Eq, Debug, Drop)]
 pub enum PageFault {
-    /// Memory was refused.
+    /// Memory ran out.
     Memory,
-    /// A number past the last one would be given.
+    /// All node ids are used.
     TooManyNodes,
 }
 
@@ -54,7 +55,7 @@ impl From<OutOfMemory> for PageFault {
     }
 }
 
-/// What an edit comes to that limits alone refuse.
+/// Converts the result of an edit that fails only because of limits.
 pub fn settled(done: Result<(), EditFault>) -> Result<(), PageFault>
     requires { IfErr done IsLimit }
     ensures { MatchResult result (λ _. done ≡ Ok tt) (λ fault. done ≡ Err (limit_of fault)) }
@@ -67,7 +68,7 @@ pub fn settled(done: Result<(), EditFault>) -> Result<(), PageFault>
     }
 }
 
-/// What making a node comes to, which limits alone refuse.
+/// Converts the result of making a node, which fails only because of limits.
 pub fn made(id: Result<NodeId, EditFault>) -> Result<NodeId, PageFault>
     requires { IfErr id IsLimit }
     ensures { MatchResult result (λ n. id ≡ Ok n) (λ fault. id ≡ Err (limit_of fault)) }

@@ -1,48 +1,51 @@
-//! SVG and MathML.
+//! Foreign content: SVG and MathML (13.2.6.5).
 
 use crate::attributes::value_of;
 use crate::builder::{Next, TreeBuilder};
 use crate::growing::ForeignEnd;
 use crate::name::Name;
 use crate::sets::breaks_out;
-use crate::stack::{Ns, Open};
+use crate::stack::{ElementNamespace, Open};
 use html5_tokens::token::{Tag, TagKind};
 
 impl Open {
-    /// A MathML text integration point.
+    /// Returns whether the element is a MathML text integration point.
     pub fn is_text_point(&self) -> bool {
-        self.ns == Ns::MathMl
+        self.ns == ElementNamespace::MathMl
             && matches!(
                 self.name,
                 Name::Mi | Name::Mo | Name::Mn | Name::Ms | Name::Mtext
             )
     }
 
-    /// An HTML integration point.
+    /// Returns whether the element is an HTML integration point.
     pub fn is_html_point(&self) -> bool {
         match self.ns {
-            Ns::Svg => matches!(self.name, Name::Foreignobject | Name::Desc | Name::Title),
-            Ns::MathMl => self.holds_html,
-            Ns::Html => false,
+            ElementNamespace::Svg => matches!(
+                self.name,
+                Name::Foreignobject | Name::Desc | Name::Title
+            ),
+            ElementNamespace::MathMl => self.holds_html,
+            ElementNamespace::Html => false,
         }
     }
 }
 
 impl Open {
-    /// Whether what stands in the element is read by the rules for foreign content, but for some
-    /// tags.
+    /// Returns whether the content of the element is parsed by the rules for foreign content, apart
+    /// from some tags.
     pub fn holds_foreign(&self) -> bool {
-        self.ns != Ns::Html && !self.is_text_point() && !self.is_html_point()
+        self.ns != ElementNamespace::Html && !self.is_text_point() && !self.is_html_point()
     }
 }
 
 impl TreeBuilder {
-    /// Whether a tag is read by the rules for foreign content.
+    /// Returns whether a tag is processed by the rules for foreign content.
     pub fn is_tag_foreign(&self, kind: TagKind, name: Name) -> bool {
         let Some(open) = self.tree.adjusted_current() else {
             return false;
         };
-        if open.ns == Ns::Html {
+        if open.ns == ElementNamespace::Html {
             return false;
         }
         if kind == TagKind::End {
@@ -51,17 +54,20 @@ impl TreeBuilder {
         if open.is_text_point() && !matches!(name, Name::Mglyph | Name::Malignmark) {
             return false;
         }
-        if open.ns == Ns::MathMl && open.name == Name::AnnotationXml && name == Name::Svg {
+        if open.ns == ElementNamespace::MathMl
+            && open.name == Name::AnnotationXml
+            && name == Name::Svg
+        {
             return false;
         }
         !open.is_html_point()
     }
 
-    /// Whether the adjusted current node is foreign. A comment then stands in it, and a CDATA
-    /// section may begin.
+    /// Returns whether the adjusted current node is an SVG or MathML element. A comment is then
+    /// inserted there, and a CDATA section may start.
     pub fn is_current_foreign(&self) -> bool {
         match self.tree.adjusted_current() {
-            Some(open) => open.ns != Ns::Html,
+            Some(open) => open.ns != ElementNamespace::Html,
             None => false,
         }
     }
@@ -85,7 +91,7 @@ impl TreeBuilder {
         }
         let ns = match self.tree.adjusted_current() {
             Some(open) => open.ns,
-            None => Ns::Html,
+            None => ElementNamespace::Html,
         };
         self.insert_foreign(ns, name, tag)
     }

@@ -1,4 +1,4 @@
-//! The list of active formatting elements.
+//! The list of active formatting elements (13.2.4.3).
 
 ghost use Rattle.std.specs.Prelude.{◌≡◌, [], ◌∷◌, ◌++◌, Contains, IfNone, IfSome, OnErr, OnOk};
 ghost use Rattle.std.specs.Prelude.{insert, remove, slice_get, slice_set};
@@ -15,7 +15,7 @@ use dom_trees::tree::Tree;
 use std::alloc::Global;
 use std::hash::{DefaultHasher, Hash, Hasher};
 
-/// Among fewer entries an element is compared with each, without fingerprints.
+/// With fewer entries than this, an element is compared with each of them directly, without hashes.
 const FEW: usize = 8;
 
 /// An entry of the list of active formatting elements.
@@ -40,7 +40,7 @@ fn has_attr(element: &Element, attr: &Attr) -> bool {
     false
 }
 
-/// Whether two elements have the same name and the same attributes, in whatever order.
+/// Returns whether two elements have the same name and the same attributes, in any order.
 fn is_same_element(one: &Element, other: &Element) -> bool {
     if !one.name().is_same(&other.name()) {
         return false;
@@ -66,7 +66,7 @@ fn are_same(tree: &Tree, one: NodeId, other: NodeId) -> bool {
     }
 }
 
-/// A number that the same attributes have, in whatever order they stand.
+/// Returns a hash of the attributes that does not depend on their order.
 fn fingerprint(element: &Element) -> u32 {
     let mut sum: u32 = 0;
     for attr in element.attrs().as_slice() {
@@ -102,7 +102,7 @@ impl ActiveFormatting {
         self.entries.get(index).copied()
     }
 
-    /// Adds an entry.
+    /// Appends an entry. Fails only when memory runs out.
     pub fn push(&mut self, entry: Entry) -> Result<(), PageFault>
         ensures ok { let old = self.old.entries.items in
             OnOk result (self.new.entries.items ≡ old ++ entry ∷ []) }
@@ -112,8 +112,8 @@ impl ActiveFormatting {
         Ok(())
     }
 
-    /// The fingerprint of an element that is to be added; 0 where the entries are so few that it is
-    /// sooner compared with them as it is.
+    /// Returns the hash of an element that is to be added, or 0 if there are so few entries that
+    /// comparing directly is faster.
     pub fn fingerprint_for(&self, tree: &Tree, id: NodeId) -> u32 {
         if self.entries.len() < FEW {
             return 0;
@@ -127,7 +127,8 @@ impl ActiveFormatting {
         }
     }
 
-    /// The third entry since the last marker, from the end, that is the same element.
+    /// Returns the index of the third entry, from the end and after the last marker, with the same
+    /// name and attributes (the Noah's Ark clause).
     pub fn third_same(&self, tree: &Tree, open: &Open) -> Option<usize> {
         let mut same: usize = 0;
         for index in (0..self.entries.len()).rev() {
@@ -144,7 +145,7 @@ impl ActiveFormatting {
         None
     }
 
-    /// Takes the last entry off the list.
+    /// Removes the last entry and returns it.
     pub fn take(&mut self) -> Option<Entry>
         ensures items { self.old.entries.items ≡ self.new.entries.items ++ option_to_list result }
         ensures none { IfNone result (self.old.entries.items ≡ []) }
@@ -179,7 +180,7 @@ impl ActiveFormatting {
         }
     }
 
-    /// Where the entry of an element stands.
+    /// Returns the index of an element's entry.
     pub fn index_of(&self, id: NodeId) -> Option<usize> {
         for index in (0..self.entries.len()).rev() {
             if let Some(Entry::Element(open)) = self.get(index)
@@ -191,7 +192,7 @@ impl ActiveFormatting {
         None
     }
 
-    /// The last element of that name since the last marker.
+    /// Returns the last element with that name after the last marker.
     pub fn named(&self, name: Name) -> Option<Open> {
         for index in (0..self.entries.len()).rev() {
             let Some(Entry::Element(open)) = self.get(index) else {

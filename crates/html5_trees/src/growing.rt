@@ -1,5 +1,5 @@
-//! The tree that tree construction builds, and what it holds of it: the stack of open elements, the
-//! list of active formatting elements, the head and the form element pointer.
+//! The tree under construction, and the elements that tree construction keeps: the stack of open
+//! elements, the list of active formatting elements, and the head and form element pointers.
 
 ghost use Rattle.std.specs.Prelude.{◌≡◌, IfOk};
 ghost use Rattle.dom_links.specs.Growth.{lone};
@@ -15,8 +15,8 @@ use crate::fault::PageFault;
 use crate::formatting::{ActiveFormatting, Entry};
 use crate::name::Name;
 use crate::pointers::FormPointer;
-use crate::stack::{Ns, Open, OpenElements};
-use dom_links::gap::Gap;
+use crate::stack::{ElementNamespace, Open, OpenElements};
+use dom_links::gap::InsertionPoint;
 use dom_nodes::node_data::NodeData;
 use dom_nodes::node_id::NodeId;
 use dom_trees::quirks::QuirksMode;
@@ -29,7 +29,7 @@ pub use popping::ForeignEnd;
 use std::alloc::Global;
 use std::marker::Model;
 
-/// A tree that was built, and what was noted while its text was read.
+/// A finished tree, the parse errors of its text, and its quirks mode.
 #[derive(Drop)]
 pub struct BuiltTree {
     pub tree: Tree,
@@ -37,8 +37,8 @@ pub struct BuiltTree {
     pub quirks_mode: QuirksMode,
 }
 
-/// A tree that is built. A contract sees it as the forest of its tree. Each number that it holds is
-/// the number of an element: no number comes in from outside.
+/// A tree under construction. A contract sees it as a forest. Each node id that it keeps is the id
+/// of an element; no id comes from outside.
 #[derive(Drop)]
 pub struct GrowingTree {
     tree: Tree,
@@ -48,7 +48,7 @@ pub struct GrowingTree {
     formatting: ActiveFormatting,
     head: Option<NodeId>,
     form: FormPointer,
-    /// The context element of a fragment, with the number of the root that stands for it.
+    /// The context element of a fragment, with the id of the root that represents it.
     context: Option<Open>,
 }
 
@@ -65,17 +65,17 @@ impl Model for GrowingTree {
 }
 
 impl GrowingTree {
-    /// A page with nothing in it.
+    /// Returns an empty page. Fails only when memory runs out.
     pub fn page(alloc: Global) -> Result<GrowingTree, PageFault> {
         Ok(GrowingTree::over(alloc, lone(alloc, NodeData::Document)?))
     }
 
-    /// A fragment with nothing in it.
+    /// Returns an empty fragment. Fails only when memory runs out.
     pub fn fragment(alloc: Global) -> Result<GrowingTree, PageFault> {
         Ok(GrowingTree::over(alloc, lone(alloc, NodeData::Fragment)?))
     }
 
-    /// A tree of which nothing is known yet.
+    /// Returns the state for a tree, with no open elements.
     fn over(alloc: Global, tree: Tree) -> GrowingTree
         requires { IsRooted tree }
         ensures { result ≡ tree }
@@ -92,7 +92,7 @@ impl GrowingTree {
         }
     }
 
-    /// The tree, once all is read.
+    /// Returns the finished tree.
     pub fn into_built(self) -> BuiltTree {
         BuiltTree {
             tree: self.tree,
@@ -114,13 +114,13 @@ impl GrowingTree {
         !self.form.is_none()
     }
 
-    /// Whether what is read is a fragment.
+    /// Returns whether a fragment is parsed.
     pub fn is_fragment(&self) -> bool {
         self.context.is_some()
     }
 
-    /// Whether no form may begin in a table.
-    pub fn bars_form(&self) -> bool {
+    /// Returns whether a `form` in a table is ignored, because a form or a template is open.
+    pub fn ignores_form(&self) -> bool {
         self.has_form() || self.stack.has(Name::Template)
     }
 
@@ -128,24 +128,24 @@ impl GrowingTree {
         self.context
     }
 
-    /// The element at a place of the stack; in a fragment the context element stands for the
-    /// outermost one.
-    pub fn adjusted(&self, place: usize) -> Option<Open> {
+    /// Returns the element at an index of the stack; in a fragment, the context element replaces
+    /// the outermost one.
+    pub fn adjusted_current_node(&self, place: usize) -> Option<Open> {
         match self.context {
             Some(context) if place == 0 => Some(context),
             _ => self.stack.get(place),
         }
     }
 
-    /// The adjusted current node.
+    /// Returns the adjusted current node.
     pub fn adjusted_current(&self) -> Option<Open> {
         match self.stack.len() {
             0 => None,
-            count => self.adjusted(count - 1),
+            count => self.adjusted_current_node(count - 1),
         }
     }
 
-    /// The last formatting element of that name since the last marker.
+    /// Returns the last active formatting element with that name after the last marker.
     pub fn formatting_named(&self, name: Name) -> Option<Open> {
         self.formatting.named(name)
     }
@@ -154,24 +154,24 @@ impl GrowingTree {
         self.quirks_mode = mode;
     }
 
-    /// Notes a parse error.
+    /// Adds a message to the parse errors. Fails only when memory runs out.
     pub fn note_error(&mut self, message: &str) -> Result<(), PageFault> {
         let text = String::from_str(*self.errors.allocator(), message)?;
         self.errors.push(text)?;
         Ok(())
     }
 
-    /// The gap where a node goes.
-    fn gap(&self, placing: Placing) -> Gap
+    /// Returns the insertion point for a node: the appropriate place for inserting a node.
+    fn gap(&self, placing: Placing) -> InsertionPoint
         ensures { IsOpenGap result self.now }
     {
         match self.head {
-            Some(head) if placing.in_head => Gap::EndOf(head),
+            Some(head) if placing.in_head => InsertionPoint::EndOf(head),
             _ => gap(&self.tree, &self.stack, placing),
         }
     }
 
-    /// The number of an element's name, if no rule names that, else 0.
+    /// Returns the number for a name that is not in `Name`, and 0 for any other.
     fn number_of(&mut self, name: Name, written: &str) -> Result<u32, PageFault>
         ensures { self.new ≡ self.old }
     {
@@ -179,11 +179,11 @@ impl GrowingTree {
         self.stack.number_of(alloc, name, written)
     }
 
-    /// Inserts the element of a tag, and opens it.
+    /// Inserts the element of a tag, and pushes it onto the stack of open elements.
     pub fn insert(
         &mut self,
         placing: Placing,
-        ns: Ns,
+        ns: ElementNamespace,
         name: Name,
         tag: &Tag,
     ) -> Result<(), PageFault> {
@@ -193,15 +193,15 @@ impl GrowingTree {
         self.stack.push(&Open { number, ..open })
     }
 
-    /// Puts the element `html` at the top, and opens it.
+    /// Inserts the element `html` below the root, and pushes it onto the stack of open elements.
     pub fn insert_html(&mut self, tag: &Tag) -> Result<(), PageFault> {
-        let gap = Gap::EndOf(self.tree.root_id());
-        let open = put_element(&mut self.tree, gap, Ns::Html, Name::Html, tag)?;
+        let gap = InsertionPoint::EndOf(self.tree.root_id());
+        let open = put_element(&mut self.tree, gap, ElementNamespace::Html, Name::Html, tag)?;
         self.stack.push(&open)
     }
 
-    /// Makes the current node the one that stands for the context element.
-    pub fn set_context(&mut self, ns: Ns, name: Name) {
+    /// Sets the context element, which the current node represents.
+    pub fn set_context(&mut self, ns: ElementNamespace, name: Name) {
         let Some(root) = self.stack.current() else {
             return;
         };
@@ -215,26 +215,26 @@ impl GrowingTree {
         });
     }
 
-    /// Makes the current node the head.
+    /// Sets the head element pointer to the current node.
     pub fn set_head(&mut self) {
         if let Some(head) = self.stack.current() {
             self.head = Some(head.id);
         }
     }
 
-    /// Makes the current node the form.
+    /// Sets the form element pointer to the current node.
     pub fn set_form(&mut self) {
         if let Some(form) = self.stack.current() {
             self.form = FormPointer::Element(form.id);
         }
     }
 
-    /// Makes the context element the form.
+    /// Sets the form element pointer to the context element.
     pub fn set_context_form(&mut self) {
         self.form = FormPointer::Context;
     }
 
-    /// Ends the form, if it is in scope; no form is known then.
+    /// Resets the form element pointer, and closes the form if it is in scope.
     pub fn end_form(&mut self) {
         let form = self.form;
         self.form = FormPointer::None;
@@ -248,7 +248,7 @@ impl GrowingTree {
         }
     }
 
-    /// Inserts characters. The document itself holds none.
+    /// Inserts characters. The document itself can't have text, so characters there are ignored.
     pub fn put_text(&mut self, placing: Placing, text: &str) -> Result<(), PageFault> {
         let gap = self.gap(placing);
         let at_top = is_at_top(&gap);
@@ -258,32 +258,34 @@ impl GrowingTree {
         put_text(&mut self.tree, gap, text)
     }
 
-    /// Inserts a comment.
+    /// Inserts a comment at the appropriate place.
     pub fn put_comment(&mut self, placing: Placing, text: &str) -> Result<(), PageFault> {
         let gap = self.gap(placing);
         put_comment(&mut self.tree, gap, text)
     }
 
-    /// Puts a comment at the end of what stands at the top.
+    /// Inserts a comment as the last child of the root.
     pub fn put_comment_at_top(&mut self, text: &str) -> Result<(), PageFault> {
-        let gap = Gap::EndOf(self.tree.root_id());
+        let gap = InsertionPoint::EndOf(self.tree.root_id());
         put_comment(&mut self.tree, gap, text)
     }
 
-    /// Puts a comment at the end of the outermost element.
+    /// Inserts a comment as the last child of the outermost element.
     pub fn put_comment_in_html(&mut self, text: &str) -> Result<(), PageFault> {
         let Some(html) = self.stack.get(0) else {
             return Ok(());
         };
-        put_comment(&mut self.tree, Gap::EndOf(html.id), text)
+        put_comment(&mut self.tree, InsertionPoint::EndOf(html.id), text)
     }
 
-    /// Puts a doctype at the end of what stands at the top: name, public and system identifier.
+    /// Inserts a doctype as the last child of the root: name, public identifier and system
+    /// identifier.
     pub fn put_doctype(&mut self, parts: [&str; 3]) -> Result<(), PageFault> {
         put_doctype(&mut self.tree, parts)
     }
 
-    /// Adds the attributes of a tag to the element at a place of the stack.
+    /// Adds those attributes of a tag to the element at an index of the stack that it doesn't have
+    /// yet.
     pub fn add_attrs(&mut self, place: usize, tag: &Tag) -> Result<(), PageFault> {
         let Some(open) = self.stack.get(place) else {
             return Ok(());
@@ -291,15 +293,20 @@ impl GrowingTree {
         add_attrs(&mut self.tree, open.id, tag)
     }
 
-    /// Cuts the element at a place of the stack out of the tree.
+    /// Detaches the element at an index of the stack.
     pub fn cut_out(&mut self, place: usize) {
         if let Some(open) = self.stack.get(place) {
             cut_out(&mut self.tree, open.id);
         }
     }
 
-    /// Opens a copy of a formatting element, which takes its place in the list.
-    pub fn open_again(&mut self, index: usize, placing: Placing) -> Result<(), PageFault> {
+    /// Inserts a copy of a formatting element, pushes it onto the stack, and replaces the element
+    /// in the list of active formatting elements.
+    pub fn reconstruct_formatting(
+        &mut self,
+        index: usize,
+        placing: Placing,
+    ) -> Result<(), PageFault> {
         let Some(Entry::Element(open)) = self.formatting.get(index) else {
             return Ok(());
         };
@@ -311,7 +318,7 @@ impl GrowingTree {
     }
 }
 
-/// A tree of one node.
+/// Returns a tree of one node. Fails only when memory runs out.
 fn lone(alloc: Global, content: NodeData) -> Result<Tree, PageFault>
     ensures { IfOk result (λ tree. tree ≡ lone content) }
 {
@@ -321,10 +328,10 @@ fn lone(alloc: Global, content: NodeData) -> Result<Tree, PageFault>
     }
 }
 
-/// Whether a gap is at the end of what stands at the top.
-fn is_at_top(gap: &Gap) -> bool {
+/// Returns whether an insertion point is at the end of the root's children.
+fn is_at_top(gap: &InsertionPoint) -> bool {
     match gap {
-        Gap::EndOf(parent) => *parent == NodeId::root(),
+        InsertionPoint::EndOf(parent) => *parent == NodeId::root(),
         _ => false,
     }
 }

@@ -1,32 +1,33 @@
-//! Inserting nodes at the appropriate place.
+//! Inserting nodes at the appropriate place. A failed edit is stored as the builder's fault.
 
 ghost use Rattle.std.specs.Prelude.{◌<◌, length};
 
 use crate::builder::{Mode, Next, TreeBuilder};
 use crate::fault::PageFault;
 use crate::name::Name;
-use crate::stack::Ns;
+use crate::stack::ElementNamespace;
 use html5_tokens::token::{Tag, TagKind};
 
 impl TreeBuilder {
-    /// Inserts an HTML element for a tag: makes it, puts it where it belongs, and opens it.
+    /// Inserts an HTML element for a tag: makes it, inserts it at the appropriate place, and pushes
+    /// it onto the stack of open elements.
     pub fn insert(&mut self, name: Name, tag: &Tag) {
-        self.insert_in(Ns::Html, name, tag);
+        self.insert_in(ElementNamespace::Html, name, tag);
     }
 
-    /// The same of an element of any namespace.
-    fn insert_in(&mut self, ns: Ns, name: Name, tag: &Tag) {
+    /// Inserts an element of any namespace for a tag, like `insert`.
+    fn insert_in(&mut self, ns: ElementNamespace, name: Name, tag: &Tag) {
         let inserted = self.tree.insert(self.placing, ns, name, tag);
         self.keep(inserted);
     }
 
-    /// Puts the element `html` at the top, and opens it.
+    /// Inserts the element `html` below the root, and pushes it onto the stack of open elements.
     pub fn insert_html(&mut self, tag: &Tag) {
         let inserted = self.tree.insert_html(tag);
         self.keep(inserted);
     }
 
-    /// Inserts an element that no tag wrote.
+    /// Inserts an element that has no tag in the source.
     pub fn insert_implied(&mut self, name: Name, written: &str)
         requires { 0 < length written.now }
     {
@@ -37,19 +38,19 @@ impl TreeBuilder {
         }
     }
 
-    /// Inserts an element, and is done with the tag.
+    /// Inserts an element; the tag is then processed.
     pub fn insert_done(&mut self, name: Name, tag: &Tag) -> Next {
         self.insert(name, tag);
         Next::Done
     }
 
-    /// Inserts an element whose contents are read in that mode.
+    /// Inserts an element and switches to the mode for its content.
     pub fn insert_then(&mut self, name: Name, tag: &Tag, mode: Mode) -> Next {
         self.insert(name, tag);
         self.done_in(mode)
     }
 
-    /// Inserts an element that no tag wrote, and reads the token again in that mode.
+    /// Inserts an element that has no tag in the source, and reprocesses the token in that mode.
     pub fn imply(&mut self, name: Name, written: &str, mode: Mode) -> Next
         requires { 0 < length written.now }
     {
@@ -57,15 +58,15 @@ impl TreeBuilder {
         self.again_in(mode)
     }
 
-    /// Inserts an element that holds nothing.
+    /// Inserts a void element, which is closed at once.
     pub fn insert_void(&mut self, name: Name, tag: &Tag) -> Next {
         self.insert(name, tag);
         self.tree.pop();
         Next::Done
     }
 
-    /// Inserts a foreign element, which holds nothing if its tag says so.
-    pub fn insert_foreign(&mut self, ns: Ns, name: Name, tag: &Tag) -> Next {
+    /// Inserts a foreign element, which is closed at once if its tag is self-closing.
+    pub fn insert_foreign(&mut self, ns: ElementNamespace, name: Name, tag: &Tag) -> Next {
         self.insert_in(ns, name, tag);
         if tag.self_closing {
             self.tree.pop();
@@ -73,7 +74,7 @@ impl TreeBuilder {
         Next::Done
     }
 
-    /// Inserts an element behind the active formatting elements, which are opened again.
+    /// Reconstructs the active formatting elements, and then inserts an element.
     pub fn insert_inline(&mut self, name: Name, tag: &Tag) -> Next {
         self.reconstruct();
         self.insert_done(name, tag)
@@ -85,26 +86,27 @@ impl TreeBuilder {
         self.keep(put);
     }
 
-    /// Adds the attributes of a tag to the element at a place of the stack.
+    /// Adds those attributes of a tag to the element at an index of the stack that it doesn't have
+    /// yet.
     pub fn add_attrs(&mut self, place: usize, tag: &Tag) {
         let added = self.tree.add_attrs(place, tag);
         self.keep(added);
     }
 
-    /// Puts a marker down in the list of active formatting elements.
+    /// Appends a marker to the list of active formatting elements.
     pub fn push_marker(&mut self) {
         let pushed = self.tree.push_marker();
         self.keep(pushed);
     }
 
-    /// Reconstructs the active formatting elements: opens those again that aren't open.
+    /// Reconstructs the active formatting elements: inserts those again that are not open.
     pub fn reconstruct(&mut self) {
         let opened = self.tree.reconstruct(self.placing);
         self.keep(opened);
     }
 
-    /// The adoption agency algorithm for a tag. Where no element of its name is active, the tag, a
-    /// start tag too, is read as any other end tag.
+    /// Runs the adoption agency algorithm for a tag. If no element with its name is in the list,
+    /// the tag, even a start tag, is processed like any other end tag.
     pub fn adopt(&mut self, name: Name, tag: &Tag) {
         match self.tree.adopt(name, self.placing.foster) {
             Ok(true) => {}

@@ -1,4 +1,8 @@
-//! Trees of pages: the tree construction of the HTML Standard (13.2.6).
+//! Tree construction for web pages, as in the HTML Standard (13.2.6).
+//!
+//! Start at `reading::PageReader`, which connects the tokenizer with `builder::TreeBuilder`. The
+//! insertion modes are in `modes`, the tree and the stack of open elements in `growing` and
+//! `stack`.
 #![tactic(auto)]
 
 mod adjusting;
@@ -22,7 +26,7 @@ mod shape;
 mod stack;
 
 pub use bytes::without_mark;
-pub use element_kinds::Kind;
+pub use element_kinds::ElementCategory;
 pub use fault::PageFault;
 pub use growing::BuiltTree;
 pub use reading::{Context, Options, PageReader};

@@ -1,4 +1,4 @@
-//! The insertion modes: which rules read a token.
+//! The insertion modes: which rules process a token (13.2.6.4).
 
 mod after;
 mod body;
@@ -19,17 +19,17 @@ use dom_trees::quirks::QuirksMode;
 use html5_tokens::token::{Doctype, Tag, TagKind};
 use html5_tokens::tokenizer::State;
 
-/// What the rules of an insertion mode read.
+/// A token as the insertion modes process it.
 #[derive(Clone, Copy, Drop)]
 pub enum Token<'a> {
     Tag(Name, &'a Tag),
     Run(Run, &'a str),
-    /// The end of the text.
+    /// The end of the page.
     End,
 }
 
 impl TreeBuilder {
-    /// Reads a tag.
+    /// Processes a tag.
     pub fn tag(&mut self, tag: &Tag) {
         self.skip_line_feed = false;
         self.flush_table_text();
@@ -39,8 +39,8 @@ impl TreeBuilder {
         }
     }
 
-    /// Reads a token. If it is reprocessed more often than any stack of open elements asks for, it
-    /// is read in the body at last.
+    /// Processes a token, and reprocesses it as often as the rules ask for. There is a limit that
+    /// no stack of open elements reaches; past it, the rules for "in body" process the token.
     pub fn process(&mut self, token: Token<'_>) {
         for _ in 0..self.turns() {
             if self.step(token) == Next::Done {
@@ -51,7 +51,7 @@ impl TreeBuilder {
         self.step(token);
     }
 
-    /// Reads a token by the rules that now hold.
+    /// Processes a token once by the rules of the current insertion mode.
     fn step(&mut self, token: Token<'_>) -> Next {
         match token {
             Token::Tag(name, tag) => self.tag_step(name, tag),
@@ -60,7 +60,7 @@ impl TreeBuilder {
         }
     }
 
-    /// Reads a token by the rules for "in body".
+    /// Processes a token by the rules for "in body".
     fn body_step(&mut self, token: Token<'_>) -> Next {
         match token {
             Token::Tag(name, tag) => self.body_tag(name, tag),
@@ -94,7 +94,7 @@ impl TreeBuilder {
         }
     }
 
-    /// A tag before the body or behind it.
+    /// Processes a tag in a mode before or after the body.
     fn outer_tag(&mut self, name: Name, tag: &Tag) -> Next {
         match self.mode {
             Mode::BeforeHtml => self.before_html_tag(name, tag),
@@ -111,7 +111,7 @@ impl TreeBuilder {
         }
     }
 
-    /// An element whose characters are read up to its end tag.
+    /// Inserts an element whose content is text up to its end tag (13.2.6.2).
     pub fn insert_text_element(&mut self, name: Name, tag: &Tag, state: State) -> Next {
         self.insert(name, tag);
         self.switch = Some(state);
@@ -150,7 +150,7 @@ impl TreeBuilder {
         self.keep(put);
     }
 
-    /// Reads the end of the text.
+    /// Processes the end of the page.
     pub fn end(&mut self) {
         self.flush_table_text();
         self.process(Token::End);
@@ -184,7 +184,7 @@ fn text_of(text: &Option<String>) -> &str {
     }
 }
 
-/// Reads a token again, or is done with it.
+/// Returns that the token is to be reprocessed, or is done.
 fn next_if(again: bool) -> Next {
     if again { Next::Again } else { Next::Done }
 }

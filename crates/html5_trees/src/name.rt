@@ -1,9 +1,9 @@
-//! The names of elements that rules of tree construction name.
+//! The element names that the rules of tree construction mention.
 
-use crate::element_kinds::Kind;
+use crate::element_kinds::ElementCategory;
 use dom_nodes::name::LocalRef;
 
-/// The name of an element; `Other` stands for all that no rule names.
+/// The name of an element. `Other` is any name that no rule mentions.
 #[derive(Clone, Copy, PartialEq, Eq, Drop)]
 pub enum Name {
     A,
@@ -135,76 +135,77 @@ pub enum Name {
     Other,
 }
 
-/// How many names there are, with `Other`.
+/// How many names there are, including `Other`.
 pub const COUNT: usize = 127;
 
-/// A name that no rule names.
-const NEITHER: (Name, Kind) = (Name::Other, Kind::Other);
+/// A name that is in neither of the two types.
+const NEITHER: (Name, ElementCategory) = (Name::Other, ElementCategory::Other);
 
-/// Each name that the tree knows by a number, and the kind of its elements, in order of number.
+/// For each name that has a number in the tree, in the order of the numbers: the name and its
+/// category.
 #[rattlefmt::skip]
-pub static KNOWN: [(Name, Kind); 247] = [
-    NEITHER, (Name::A, Kind::Anchor), (Name::B, Kind::Phrase), NEITHER, (Name::I, Kind::Phrase),
-    (Name::P, Kind::Paragraph), (Name::Other, Kind::Phrase), (Name::S, Kind::Phrase),
-    (Name::U, Kind::Phrase), (Name::Br, Kind::Phrase), (Name::Dd, Kind::Description),
-    (Name::Dl, Kind::DescriptionList), (Name::Dt, Kind::Description), (Name::Em, Kind::Phrase),
-    (Name::H1, Kind::Heading), (Name::H2, Kind::Heading), (Name::H3, Kind::Heading),
-    (Name::H4, Kind::Heading), (Name::H5, Kind::Heading), (Name::H6, Kind::Heading),
-    (Name::Hr, Kind::Block), NEITHER, (Name::Li, Kind::Item), (Name::Ol, Kind::ItemList),
-    (Name::Rp, Kind::Other), (Name::Rt, Kind::Other), (Name::Td, Kind::Cell),
-    (Name::Th, Kind::Cell), (Name::Tr, Kind::TableRow), (Name::Tt, Kind::Phrase),
-    (Name::Ul, Kind::ItemList), NEITHER, (Name::Other, Kind::Phrase), (Name::Other, Kind::Phrase),
-    (Name::Big, Kind::Phrase), (Name::Col, Kind::Column), (Name::Other, Kind::Phrase),
-    (Name::Other, Kind::Phrase), (Name::Dir, Kind::ItemList), (Name::Div, Kind::Block), NEITHER,
-    (Name::Img, Kind::Phrase), (Name::Other, Kind::Phrase), (Name::Other, Kind::Phrase), NEITHER,
-    (Name::Other, Kind::Phrase), NEITHER, NEITHER, (Name::Nav, Kind::Block), (Name::Pre, Kind::Pre),
-    NEITHER, NEITHER, NEITHER, (Name::Sub, Kind::Phrase), (Name::Sup, Kind::Phrase),
-    (Name::Svg, Kind::Other), (Name::Var, Kind::Phrase), (Name::Wbr, Kind::Phrase),
-    (Name::Xmp, Kind::Other), (Name::Abbr, Kind::Phrase), (Name::Area, Kind::Phrase),
-    (Name::Base, Kind::Metadata), (Name::Body, Kind::Body), (Name::Other, Kind::Phrase),
-    (Name::Code, Kind::Phrase), NEITHER, (Name::Other, Kind::Phrase), NEITHER,
-    (Name::Font, Kind::Phrase), (Name::Form, Kind::Form), (Name::Head, Kind::Head), NEITHER,
-    (Name::Html, Kind::Html), NEITHER, (Name::Link, Kind::Metadata), NEITHER,
-    (Name::Main, Kind::Block), (Name::Other, Kind::Phrase), (Name::Menu, Kind::ItemList),
-    (Name::Meta, Kind::Metadata), NEITHER, (Name::Nobr, Kind::Other), NEITHER, NEITHER,
-    (Name::Ruby, Kind::Other), (Name::Other, Kind::Phrase), NEITHER, (Name::Other, Kind::Phrase),
-    (Name::Span, Kind::Phrase), NEITHER, (Name::Other, Kind::Phrase), NEITHER, NEITHER, NEITHER,
-    NEITHER, (Name::Aside, Kind::Block), NEITHER, (Name::Other, Kind::Phrase), NEITHER, NEITHER,
-    NEITHER, NEITHER, NEITHER, (Name::Embed, Kind::Phrase), (Name::Frame, Kind::Other),
-    (Name::Input, Kind::Phrase), NEITHER, (Name::Label, Kind::Phrase), NEITHER,
-    (Name::Other, Kind::Phrase), NEITHER, NEITHER, (Name::Param, Kind::Other), NEITHER, NEITHER,
-    NEITHER, (Name::Small, Kind::Phrase), NEITHER, (Name::Style, Kind::Verbatim),
-    (Name::Table, Kind::Table), (Name::Tbody, Kind::RowGroup), (Name::Tfoot, Kind::RowGroup),
-    (Name::Thead, Kind::RowGroup), (Name::Title, Kind::Verbatim), (Name::Track, Kind::Phrase),
-    NEITHER, (Name::Other, Kind::Phrase), NEITHER, NEITHER, NEITHER, NEITHER,
-    (Name::Applet, Kind::Other), NEITHER, (Name::Button, Kind::Button), (Name::Other, Kind::Phrase),
-    (Name::Center, Kind::Block), NEITHER, (Name::Dialog, Kind::Block), (Name::Figure, Kind::Block),
-    (Name::Footer, Kind::Block), (Name::Header, Kind::Block), NEITHER, (Name::Hgroup, Kind::Block),
-    NEITHER, (Name::Iframe, Kind::Other), NEITHER, (Name::Keygen, Kind::Other),
-    (Name::Other, Kind::Phrase), NEITHER, (Name::Object, Kind::Other), NEITHER,
-    (Name::Option, Kind::Other), (Name::Output, Kind::Phrase), NEITHER,
-    (Name::Script, Kind::Verbatim), (Name::Search, Kind::Block), (Name::Select, Kind::Other),
-    (Name::Source, Kind::Phrase), NEITHER, NEITHER, (Name::Strike, Kind::Phrase), NEITHER,
-    (Name::Strong, Kind::Phrase), NEITHER, NEITHER, NEITHER, (Name::Other, Kind::Phrase),
-    (Name::Address, Kind::Block), (Name::Article, Kind::Block), NEITHER,
-    (Name::Bgsound, Kind::Other), (Name::Caption, Kind::Caption), NEITHER, NEITHER, NEITHER,
-    NEITHER, NEITHER, (Name::Details, Kind::Block), NEITHER, NEITHER, NEITHER,
-    (Name::Marquee, Kind::Other), (Name::Noembed, Kind::Other), NEITHER, NEITHER,
-    (Name::Other, Kind::Phrase), NEITHER, NEITHER, NEITHER, (Name::Section, Kind::Block),
-    (Name::Summary, Kind::Block), NEITHER, NEITHER, (Name::Basefont, Kind::Other),
-    (Name::Colgroup, Kind::ColumnGroup), NEITHER, NEITHER, (Name::Other, Kind::Phrase), NEITHER,
-    NEITHER, NEITHER, NEITHER, (Name::Fieldset, Kind::Block), (Name::Frameset, Kind::Other),
-    NEITHER, NEITHER, NEITHER, (Name::Menuitem, Kind::Other), NEITHER,
-    (Name::Noframes, Kind::Other), (Name::Noscript, Kind::Other), (Name::Optgroup, Kind::Other),
-    (Name::Other, Kind::Phrase), NEITHER, NEITHER, NEITHER, NEITHER, NEITHER,
-    (Name::Template, Kind::Other), (Name::Textarea, Kind::Other), NEITHER, NEITHER, NEITHER,
-    NEITHER, NEITHER, NEITHER, (Name::Plaintext, Kind::Other), NEITHER, NEITHER,
-    (Name::Blockquote, Kind::Block), (Name::Figcaption, Kind::Block), NEITHER, NEITHER, NEITHER,
+pub static KNOWN: [(Name, ElementCategory); 247] = [
+    NEITHER, (Name::A, ElementCategory::Anchor), (Name::B, ElementCategory::Phrase), NEITHER, (Name::I, ElementCategory::Phrase),
+    (Name::P, ElementCategory::Paragraph), (Name::Other, ElementCategory::Phrase), (Name::S, ElementCategory::Phrase),
+    (Name::U, ElementCategory::Phrase), (Name::Br, ElementCategory::Phrase), (Name::Dd, ElementCategory::Description),
+    (Name::Dl, ElementCategory::DescriptionList), (Name::Dt, ElementCategory::Description), (Name::Em, ElementCategory::Phrase),
+    (Name::H1, ElementCategory::Heading), (Name::H2, ElementCategory::Heading), (Name::H3, ElementCategory::Heading),
+    (Name::H4, ElementCategory::Heading), (Name::H5, ElementCategory::Heading), (Name::H6, ElementCategory::Heading),
+    (Name::Hr, ElementCategory::Block), NEITHER, (Name::Li, ElementCategory::Item), (Name::Ol, ElementCategory::ItemList),
+    (Name::Rp, ElementCategory::Other), (Name::Rt, ElementCategory::Other), (Name::Td, ElementCategory::Cell),
+    (Name::Th, ElementCategory::Cell), (Name::Tr, ElementCategory::TableRow), (Name::Tt, ElementCategory::Phrase),
+    (Name::Ul, ElementCategory::ItemList), NEITHER, (Name::Other, ElementCategory::Phrase), (Name::Other, ElementCategory::Phrase),
+    (Name::Big, ElementCategory::Phrase), (Name::Col, ElementCategory::Column), (Name::Other, ElementCategory::Phrase),
+    (Name::Other, ElementCategory::Phrase), (Name::Dir, ElementCategory::ItemList), (Name::Div, ElementCategory::Block), NEITHER,
+    (Name::Img, ElementCategory::Phrase), (Name::Other, ElementCategory::Phrase), (Name::Other, ElementCategory::Phrase), NEITHER,
+    (Name::Other, ElementCategory::Phrase), NEITHER, NEITHER, (Name::Nav, ElementCategory::Block), (Name::Pre, ElementCategory::Pre),
+    NEITHER, NEITHER, NEITHER, (Name::Sub, ElementCategory::Phrase), (Name::Sup, ElementCategory::Phrase),
+    (Name::Svg, ElementCategory::Other), (Name::Var, ElementCategory::Phrase), (Name::Wbr, ElementCategory::Phrase),
+    (Name::Xmp, ElementCategory::Other), (Name::Abbr, ElementCategory::Phrase), (Name::Area, ElementCategory::Phrase),
+    (Name::Base, ElementCategory::Metadata), (Name::Body, ElementCategory::Body), (Name::Other, ElementCategory::Phrase),
+    (Name::Code, ElementCategory::Phrase), NEITHER, (Name::Other, ElementCategory::Phrase), NEITHER,
+    (Name::Font, ElementCategory::Phrase), (Name::Form, ElementCategory::Form), (Name::Head, ElementCategory::Head), NEITHER,
+    (Name::Html, ElementCategory::Html), NEITHER, (Name::Link, ElementCategory::Metadata), NEITHER,
+    (Name::Main, ElementCategory::Block), (Name::Other, ElementCategory::Phrase), (Name::Menu, ElementCategory::ItemList),
+    (Name::Meta, ElementCategory::Metadata), NEITHER, (Name::Nobr, ElementCategory::Other), NEITHER, NEITHER,
+    (Name::Ruby, ElementCategory::Other), (Name::Other, ElementCategory::Phrase), NEITHER, (Name::Other, ElementCategory::Phrase),
+    (Name::Span, ElementCategory::Phrase), NEITHER, (Name::Other, ElementCategory::Phrase), NEITHER, NEITHER, NEITHER,
+    NEITHER, (Name::Aside, ElementCategory::Block), NEITHER, (Name::Other, ElementCategory::Phrase), NEITHER, NEITHER,
+    NEITHER, NEITHER, NEITHER, (Name::Embed, ElementCategory::Phrase), (Name::Frame, ElementCategory::Other),
+    (Name::Input, ElementCategory::Phrase), NEITHER, (Name::Label, ElementCategory::Phrase), NEITHER,
+    (Name::Other, ElementCategory::Phrase), NEITHER, NEITHER, (Name::Param, ElementCategory::Other), NEITHER, NEITHER,
+    NEITHER, (Name::Small, ElementCategory::Phrase), NEITHER, (Name::Style, ElementCategory::Verbatim),
+    (Name::Table, ElementCategory::Table), (Name::Tbody, ElementCategory::RowGroup), (Name::Tfoot, ElementCategory::RowGroup),
+    (Name::Thead, ElementCategory::RowGroup), (Name::Title, ElementCategory::Verbatim), (Name::Track, ElementCategory::Phrase),
+    NEITHER, (Name::Other, ElementCategory::Phrase), NEITHER, NEITHER, NEITHER, NEITHER,
+    (Name::Applet, ElementCategory::Other), NEITHER, (Name::Button, ElementCategory::Button), (Name::Other, ElementCategory::Phrase),
+    (Name::Center, ElementCategory::Block), NEITHER, (Name::Dialog, ElementCategory::Block), (Name::Figure, ElementCategory::Block),
+    (Name::Footer, ElementCategory::Block), (Name::Header, ElementCategory::Block), NEITHER, (Name::Hgroup, ElementCategory::Block),
+    NEITHER, (Name::Iframe, ElementCategory::Other), NEITHER, (Name::Keygen, ElementCategory::Other),
+    (Name::Other, ElementCategory::Phrase), NEITHER, (Name::Object, ElementCategory::Other), NEITHER,
+    (Name::Option, ElementCategory::Other), (Name::Output, ElementCategory::Phrase), NEITHER,
+    (Name::Script, ElementCategory::Verbatim), (Name::Search, ElementCategory::Block), (Name::Select, ElementCategory::Other),
+    (Name::Source, ElementCategory::Phrase), NEITHER, NEITHER, (Name::Strike, ElementCategory::Phrase), NEITHER,
+    (Name::Strong, ElementCategory::Phrase), NEITHER, NEITHER, NEITHER, (Name::Other, ElementCategory::Phrase),
+    (Name::Address, ElementCategory::Block), (Name::Article, ElementCategory::Block), NEITHER,
+    (Name::Bgsound, ElementCategory::Other), (Name::Caption, ElementCategory::Caption), NEITHER, NEITHER, NEITHER,
+    NEITHER, NEITHER, (Name::Details, ElementCategory::Block), NEITHER, NEITHER, NEITHER,
+    (Name::Marquee, ElementCategory::Other), (Name::Noembed, ElementCategory::Other), NEITHER, NEITHER,
+    (Name::Other, ElementCategory::Phrase), NEITHER, NEITHER, NEITHER, (Name::Section, ElementCategory::Block),
+    (Name::Summary, ElementCategory::Block), NEITHER, NEITHER, (Name::Basefont, ElementCategory::Other),
+    (Name::Colgroup, ElementCategory::ColumnGroup), NEITHER, NEITHER, (Name::Other, ElementCategory::Phrase), NEITHER,
+    NEITHER, NEITHER, NEITHER, (Name::Fieldset, ElementCategory::Block), (Name::Frameset, ElementCategory::Other),
+    NEITHER, NEITHER, NEITHER, (Name::Menuitem, ElementCategory::Other), NEITHER,
+    (Name::Noframes, ElementCategory::Other), (Name::Noscript, ElementCategory::Other), (Name::Optgroup, ElementCategory::Other),
+    (Name::Other, ElementCategory::Phrase), NEITHER, NEITHER, NEITHER, NEITHER, NEITHER,
+    (Name::Template, ElementCategory::Other), (Name::Textarea, ElementCategory::Other), NEITHER, NEITHER, NEITHER,
+    NEITHER, NEITHER, NEITHER, (Name::Plaintext, ElementCategory::Other), NEITHER, NEITHER,
+    (Name::Blockquote, ElementCategory::Block), (Name::Figcaption, ElementCategory::Block), NEITHER, NEITHER, NEITHER,
     NEITHER, NEITHER, NEITHER, NEITHER, NEITHER, NEITHER, NEITHER, NEITHER, NEITHER, NEITHER,
     NEITHER, NEITHER, NEITHER,
 ];
 
-/// The names that the tree knows by no number.
+/// The names that have no number in the tree.
 static RARE: [(&str, Name); 15] = [
     ("annotation-xml", Name::AnnotationXml),
     ("desc", Name::Desc),
@@ -224,7 +225,7 @@ static RARE: [(&str, Name); 15] = [
 ];
 
 impl Name {
-    /// The name that a local name in lower case is.
+    /// Returns the name for a local name in lower case.
     pub fn of(local: &LocalRef<'_>) -> Name {
         match local.number() {
             Some(number) => KNOWN[number as usize].0,
@@ -232,7 +233,7 @@ impl Name {
         }
     }
 
-    /// The name, where the tree knows it by no number.
+    /// Returns the name for a local name that has no number in the tree.
     fn rare(written: &str) -> Name {
         for (known, name) in &RARE {
             if *known == written {

@@ -1,9 +1,9 @@
-//! The form element pointer.
+//! The form element pointer (13.2.4.4).
 
 use dom_nodes::node_id::NodeId;
 
-/// The form element pointer. In a fragment whose context is a form it names that form, which is
-/// outside of the tree.
+/// The form element pointer. `Context` is a form outside the tree: the context element of a
+/// fragment.
 #[derive(Clone, Copy, Drop)]
 pub enum FormPointer {
     None,

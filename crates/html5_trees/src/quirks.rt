@@ -1,31 +1,32 @@
-//! Which doctypes ask for older rules.
+//! The quirks mode of a doctype (13.2.6.4.1).
 
 use dom_trees::quirks::QuirksMode;
 use html5_tokens::token::Doctype;
 
-/// The system identifier that asks for quirks mode.
+/// The system identifier of quirks mode.
 const QUIRKY_SYSTEM: &str = "http://www.ibm.com/data/dtd/v11/ibmxhtml1-transitional.dtd";
 
-/// Public identifiers that ask for quirks mode.
+/// Public identifiers of quirks mode.
 static QUIRKY_NAMES: [&str; 3] = [
     "-//W3O//DTD W3 HTML Strict 3.0//EN//",
     "-/W3C/DTD HTML 4.0 Transitional/EN",
     "HTML",
 ];
 
-/// Those that ask for it unless there is a system identifier; else for limited quirks mode.
+/// Beginnings of public identifiers: limited quirks mode with a system identifier, quirks mode
+/// without.
 static HTML_4: [&str; 2] = [
     "-//W3C//DTD HTML 4.01 Frameset//",
     "-//W3C//DTD HTML 4.01 Transitional//",
 ];
 
-/// Those that ask for limited quirks mode.
+/// Beginnings of public identifiers of limited quirks mode.
 static XHTML: [&str; 2] = [
     "-//W3C//DTD XHTML 1.0 Frameset//",
     "-//W3C//DTD XHTML 1.0 Transitional//",
 ];
 
-/// What public identifiers that ask for quirks mode begin with.
+/// Beginnings of public identifiers of quirks mode.
 static QUIRKY: [&str; 55] = [
     "+//silmaril//dtd html pro v0r11 19970101//",
     "-//as//dtd html 3.0 aswedit + extensions//",
@@ -84,7 +85,7 @@ static QUIRKY: [&str; 55] = [
     "-//webtechs//dtd mozilla html//",
 ];
 
-/// Whether a text begins with the other one, whatever the case.
+/// Returns whether the text starts with the other one, in upper or lower case.
 fn begins(text: &str, front: &str) -> bool {
     match text.as_bytes().get(..front.len()) {
         Some(bytes) => bytes.eq_ignore_ascii_case(front.as_bytes()),
@@ -110,6 +111,7 @@ fn is_any(text: &str, others: &[&str]) -> bool {
     false
 }
 
+/// Returns the quirks mode of a document with this doctype.
 pub fn mode_of(doctype: &Doctype) -> QuirksMode {
     let Some(name) = &doctype.name else {
         return QuirksMode::Quirks;
@@ -128,7 +130,7 @@ pub fn mode_of(doctype: &Doctype) -> QuirksMode {
     }
 }
 
-/// What a public identifier asks for.
+/// Returns the mode for a public identifier.
 fn mode_of_public(public: &str, has_system: bool) -> QuirksMode {
     if is_any(public, &QUIRKY_NAMES) || begins_any(public, &QUIRKY) {
         return QuirksMode::Quirks;
@@ -142,7 +144,7 @@ fn mode_of_public(public: &str, has_system: bool) -> QuirksMode {
     QuirksMode::NoQuirks
 }
 
-/// What a public identifier of HTML 4 asks for.
+/// Returns the mode for a public identifier of HTML 4.
 fn mode_of_html_4(has_system: bool) -> QuirksMode {
     if has_system {
         QuirksMode::LimitedQuirks

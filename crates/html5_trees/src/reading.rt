@@ -1,29 +1,30 @@
-//! Reading the tokens of a page or a fragment, whole or in pieces, into a tree.
+//! Parsing a page or a fragment, whole or in pieces: tokens go to tree construction. Start at
+//! `PageReader`.
 
 use crate::builder::{Mode, TreeBuilder};
-use crate::bytes::Waiting;
+use crate::bytes::PendingBytes;
 use crate::fault::PageFault;
 use crate::growing::{BuiltTree, GrowingTree};
 use crate::name::Name;
-use crate::stack::Ns;
+use crate::stack::ElementNamespace;
 use dom_nodes::name::LocalName;
 use html5_tokens::parse_error::{ErrorAt, ParseError};
 use html5_tokens::token::TokenKind;
 use html5_tokens::tokenizer::{State, Tokenizer};
 use std::alloc::Global;
 
-/// How a page is read. By default no scripts run, and elements may lie in one another as deep as
-/// they like: nothing that reads, walks or writes a document takes a call for each level.
+/// How a page is parsed. By default scripting is off, depth is not limited and errors are not
+/// collected. No limit on depth is needed: parsing, traversal and serialization use no recursion.
 #[derive(Clone, Copy, PartialEq, Eq, Debug, Drop)]
 pub struct Options {
-    /// Whether scripts would run: then the contents of `noscript` are text.
+    /// Whether scripting is enabled. If it is, the content of `noscript` is text.
     pub scripting: bool,
-    /// So many elements may lie in one another, three at least; browsers take 512. What a tag puts
-    /// deeper becomes a sibling of the element that it would lie in. The adoption agency may go
-    /// deeper, since it moves what is there already.
+    /// The largest number of nested elements, at least 3; browsers take 512. An element whose start
+    /// tag comes deeper becomes a sibling of the element that it would be in. The adoption agency
+    /// algorithm may still nest elements deeper, since it moves what is already there.
     pub max_depth: Option<usize>,
-    /// Whether the parse errors of tokenization are noted in the document, each as the bytes before
-    /// it and its name: `12: missing-attribute-value`.
+    /// Whether the tokenizer's parse errors are collected in the document. Each is a text with its
+    /// byte offset and its name, such as `12: missing-attribute-value`.
     pub errors: bool,
 }
 
@@ -37,7 +38,7 @@ impl Default for Options {
     }
 }
 
-/// The context element of a fragment: the element that its text would be the contents of.
+/// The context element of a fragment: the element whose content the text is.
 #[derive(Clone, Copy, PartialEq, Eq, Debug, Drop)]
 pub enum Context<'a> {
     Html(&'a str),
@@ -45,22 +46,23 @@ pub enum Context<'a> {
     MathMl(&'a str),
 }
 
-/// The tokens of a page or a fragment, and what is built of them.
+/// The parser of a page or a fragment: the tokenizer, tree construction, and bytes that are
+/// pending.
 #[derive(Drop)]
 pub struct PageReader {
     pub(crate) builder: TreeBuilder,
     tokens: Tokenizer,
-    pub(crate) waiting: Waiting,
+    pub(crate) waiting: PendingBytes,
 }
 
 impl PageReader {
-    /// What reads a page.
+    /// Returns a parser for a page. Fails only when memory runs out.
     pub fn page(alloc: Global, options: Options) -> Result<PageReader, PageFault> {
         let tree = GrowingTree::page(alloc)?;
         Ok(PageReader::new(alloc, tree, options))
     }
 
-    /// What reads the contents of an element.
+    /// Returns a parser for the content of an element. Fails only when memory runs out.
     pub fn fragment(
         alloc: Global,
         context: Context<'_>,
@@ -79,11 +81,11 @@ impl PageReader {
         PageReader {
             builder: TreeBuilder::new(alloc, tree, options),
             tokens,
-            waiting: Waiting::new(alloc),
+            waiting: PendingBytes::new(alloc),
         }
     }
 
-    /// Begins the contents of an element.
+    /// Sets the state for the content of the context element.
     fn begin_fragment(&mut self, context: Context<'_>) {
         self.builder.begin_fragment(context);
         self.tokens.switch_to(self.builder.first_state());
@@ -91,7 +93,8 @@ impl PageReader {
             .set_in_foreign(self.builder.is_current_foreign());
     }
 
-    /// Reads a piece of the text behind the bytes that are still waiting.
+    /// Parses a piece of the text, after any pending bytes. Fails with the first fault: memory or
+    /// node ids ran out.
     pub fn feed(&mut self, piece: &str) -> Result<(), PageFault> {
         self.builder.settled()?;
         self.read_waiting();
@@ -99,14 +102,15 @@ impl PageReader {
         self.builder.settled()
     }
 
-    /// The tree, once all pieces are read. What was read of a page may lack its shape.
+    /// Returns the tree after the last piece. That of a page may not have the shape of a page yet;
+    /// see `shape::make_page`. Fails with the first fault.
     pub fn finish(self) -> Result<BuiltTree, PageFault> {
         let mut reader = self;
         reader.read_end()?;
         Ok(reader.builder.tree.into_built())
     }
 
-    /// Reads the end of the text.
+    /// Processes the end of the text.
     fn read_end(&mut self) -> Result<(), PageFault> {
         self.builder.settled()?;
         self.read_waiting();
@@ -116,7 +120,7 @@ impl PageReader {
         self.builder.settled()
     }
 
-    /// Reads the token that the end of the text ends, and the last characters.
+    /// Processes the token that ends with the text, and the last characters.
     fn read_last(&mut self) -> Result<(), PageFault> {
         if let Some(kind) = self.tokens.end_kind()? {
             self.token(kind);
@@ -135,7 +139,7 @@ impl PageReader {
         }
     }
 
-    /// Reads up to the end of a token, and returns what follows it; nothing does after a fault.
+    /// Reads up to the end of a token, and returns the text after it, which is empty after a fault.
     fn read_token<'a>(&mut self, text: &'a str) -> &'a str {
         let mut kind = None;
         let read = self.tokens.read_kind(text, &mut kind);
@@ -156,7 +160,7 @@ impl PageReader {
         }
     }
 
-    /// Reads the token that ended, and the characters before it.
+    /// Processes the characters before a token, and then the token.
     fn token(&mut self, kind: TokenKind) {
         self.builder.characters(self.tokens.text());
         self.tokens.clear_text();
@@ -168,7 +172,7 @@ impl PageReader {
             .set_in_foreign(self.builder.is_current_foreign());
     }
 
-    /// Puts what the token stands for into the tree.
+    /// Passes a token to tree construction.
     fn build(&mut self, kind: TokenKind) {
         match kind {
             TokenKind::Tag => self.build_tag(),
@@ -177,7 +181,7 @@ impl PageReader {
         }
     }
 
-    /// Puts the element of a tag into the tree, or ends one.
+    /// Passes a tag to tree construction.
     fn build_tag(&mut self) {
         if let Some(tag) = self.tokens.tag() {
             self.builder.tag(tag);
@@ -186,12 +190,12 @@ impl PageReader {
 }
 
 impl TreeBuilder {
-    /// How the tokenizer reads the contents of the context element.
+    /// Returns the tokenizer's state for the content of the context element.
     fn first_state(&self) -> State {
         let Some(context) = self.tree.context() else {
             return State::Data;
         };
-        if context.ns != Ns::Html {
+        if context.ns != ElementNamespace::Html {
             return State::Data;
         }
         match context.name {
@@ -205,7 +209,7 @@ impl TreeBuilder {
         }
     }
 
-    /// Notes parse errors in the document.
+    /// Adds the parse errors to the document.
     fn note_errors(&mut self, errors: &[ErrorAt]) {
         for ErrorAt { offset, error } in errors {
             let noted = self.note_error(*offset, *error);
@@ -218,13 +222,13 @@ impl TreeBuilder {
         self.tree.note_error(note.as_str())
     }
 
-    /// Opens the element `html` of a fragment, and sets what its context element asks for.
+    /// Inserts the element `html` of a fragment, and sets the state for its context element (13.4).
     fn begin_fragment(&mut self, context: Context<'_>) {
         self.insert_implied(Name::Html, "html");
         let (ns, written) = match context {
-            Context::Html(name) => (Ns::Html, name),
-            Context::Svg(name) => (Ns::Svg, name),
-            Context::MathMl(name) => (Ns::MathMl, name),
+            Context::Html(name) => (ElementNamespace::Html, name),
+            Context::Svg(name) => (ElementNamespace::Svg, name),
+            Context::MathMl(name) => (ElementNamespace::MathMl, name),
         };
         match LocalName::folded(self.alloc, written) {
             Ok(local) => self.begin_in(ns, Name::of(&local.by_ref())),
@@ -232,14 +236,14 @@ impl TreeBuilder {
         }
     }
 
-    /// Sets what a context element of that name asks for.
-    fn begin_in(&mut self, ns: Ns, name: Name) {
+    /// Sets the state for a context element with that name.
+    fn begin_in(&mut self, ns: ElementNamespace, name: Name) {
         self.tree.set_context(ns, name);
-        if ns == Ns::Html && name == Name::Template {
+        if ns == ElementNamespace::Html && name == Name::Template {
             self.push_template_mode(Mode::InTemplate);
         }
         self.reset_mode();
-        if ns == Ns::Html && name == Name::Form {
+        if ns == ElementNamespace::Html && name == Name::Form {
             self.tree.set_context_form();
         }
     }

@@ -1,9 +1,9 @@
-//! Sets of elements that rules name.
+//! Sets of elements that the standard names: scopes, special elements and so on.
 
 use crate::name::Name;
-use crate::stack::{Ns, Open};
+use crate::stack::{ElementNamespace, Open};
 
-/// Where a search for an element in scope ends.
+/// The scopes of "has an element in scope" (13.2.4.2).
 #[derive(Clone, Copy, Drop)]
 pub enum Scope {
     Default,
@@ -14,7 +14,7 @@ pub enum Scope {
 }
 
 pub fn is_heading(open: &Open) -> bool {
-    open.ns == Ns::Html
+    open.ns == ElementNamespace::Html
         && matches!(
             open.name,
             Name::H1 | Name::H2 | Name::H3 | Name::H4 | Name::H5 | Name::H6
@@ -23,7 +23,7 @@ pub fn is_heading(open: &Open) -> bool {
 
 pub fn ends_default_scope(open: &Open) -> bool {
     match open.ns {
-        Ns::Html => matches!(
+        ElementNamespace::Html => matches!(
             open.name,
             Name::Applet
                 | Name::Caption
@@ -35,38 +35,41 @@ pub fn ends_default_scope(open: &Open) -> bool {
                 | Name::Object
                 | Name::Template
         ),
-        Ns::MathMl => matches!(
+        ElementNamespace::MathMl => matches!(
             open.name,
             Name::Mi | Name::Mo | Name::Mn | Name::Ms | Name::Mtext | Name::AnnotationXml
         ),
-        Ns::Svg => matches!(open.name, Name::Foreignobject | Name::Desc | Name::Title),
+        ElementNamespace::Svg => matches!(
+            open.name,
+            Name::Foreignobject | Name::Desc | Name::Title
+        ),
     }
 }
 
-/// Whether it ends the scope of a list of options.
+/// Returns whether the element ends the select scope.
 pub fn ends_select_scope(open: &Open) -> bool {
-    !(open.ns == Ns::Html && matches!(open.name, Name::Optgroup | Name::Option))
+    !(open.ns == ElementNamespace::Html && matches!(open.name, Name::Optgroup | Name::Option))
 }
 
-/// What the elements of a table are put into: a table, a section of one, or a row; else a template
-/// or the outermost element.
+/// The contexts to which the stack is cleared in a table: a table, a table section or a row. A
+/// template and the element `html` end each of them.
 #[derive(Clone, Copy, Drop)]
-pub enum Context {
+pub enum TableContext {
     Table,
     Section,
     Row,
 }
 
-impl Context {
+impl TableContext {
     pub(crate) fn ends_at(self, open: &Open) -> bool {
-        if open.ns != Ns::Html {
+        if open.ns != ElementNamespace::Html {
             return false;
         }
         match open.name {
             Name::Html | Name::Template => true,
-            Name::Table => matches!(self, Context::Table),
-            Name::Tbody | Name::Tfoot | Name::Thead => matches!(self, Context::Section),
-            Name::Tr => matches!(self, Context::Row),
+            Name::Table => matches!(self, TableContext::Table),
+            Name::Tbody | Name::Tfoot | Name::Thead => matches!(self, TableContext::Section),
+            Name::Tr => matches!(self, TableContext::Row),
             _ => false,
         }
     }
@@ -74,7 +77,7 @@ impl Context {
 
 pub fn is_special(open: &Open) -> bool {
     match open.ns {
-        Ns::Html => is_special_name(open.name),
+        ElementNamespace::Html => is_special_name(open.name),
         _ => ends_default_scope(open),
     }
 }
@@ -100,14 +103,14 @@ fn is_special_name(name: Name) -> bool {
     )
 }
 
-/// Whether an item of a list may end one beyond that element, which is special.
+/// Returns whether the search for an open list item goes on past that special element.
 pub fn is_crossed_by_items(open: &Open) -> bool {
     open.is_html(Name::Address) || open.is_html(Name::Div) || open.is_html(Name::P)
 }
 
-/// Elements whose end tags are implied.
+/// Returns whether the element's end tag can be implied (13.2.6.3).
 pub fn has_implied_end(open: &Open) -> bool {
-    open.ns == Ns::Html
+    open.ns == ElementNamespace::Html
         && matches!(
             open.name,
             Name::Dd
@@ -123,7 +126,7 @@ pub fn has_implied_end(open: &Open) -> bool {
         )
 }
 
-/// Start tags that end foreign content.
+/// Returns whether a start tag with that name ends foreign content.
 #[rattlefmt::skip]
 pub fn breaks_out(name: Name) -> bool {
     matches!(

@@ -1,5 +1,5 @@
-//! The shape of a page: at the top a doctype at most, comments, and one element `html` that holds a
-//! head and then a body, or a frameset with any elements behind it.
+//! The shape of a page: below the root at most one doctype, comments, and one element `html` that
+//! has a head and a body, or a head and a frameset that other elements may follow.
 
 ghost use Rattle.std.specs.Prelude.{◌≡◌, IfErr, IfOk, MatchResult, OnOk};
 ghost use Rattle.dom_links.specs.Sound.{IsForest};
@@ -14,7 +14,7 @@ use dom_nodes::node_id::NodeId;
 use dom_trees::node_ref::NodeRef;
 use dom_trees::tree::Tree;
 
-/// Whether a node is an HTML element of that name.
+/// Returns whether a node is an HTML element with that name.
 fn is_html(tree: &Tree, id: NodeId, name: &str) -> bool
     ensures { result ≡ is_html tree.now id name.now }
 {
@@ -29,7 +29,7 @@ fn is_html(tree: &Tree, id: NodeId, name: &str) -> bool
     }
 }
 
-/// The children that are no comments.
+/// Returns the children that are not comments.
 fn besides_comments(tree: &Tree, id: NodeId) -> Result<Vec<NodeId>, PageFault>
     ensures ok { IfOk result (λ ids. ids.items ≡ besides_comments tree.now id) }
     ensures err { IfErr result (λ fault. fault ≡ NoMemory) }
@@ -39,7 +39,7 @@ fn besides_comments(tree: &Tree, id: NodeId) -> Result<Vec<NodeId>, PageFault>
     Ok(others.collect(tree.allocator())?)
 }
 
-/// The children that are elements.
+/// Returns the children that are elements.
 fn elements_of(tree: &Tree, id: NodeId) -> Result<Vec<NodeId>, PageFault>
     ensures ok { IfOk result (λ ids. ids.items ≡ elements_of tree.now id) }
     ensures err { IfErr result (λ fault. fault ≡ NoMemory) }
@@ -49,8 +49,8 @@ fn elements_of(tree: &Tree, id: NodeId) -> Result<Vec<NodeId>, PageFault>
     Ok(elements.collect(tree.allocator())?)
 }
 
-/// Whether these are a body alone, or a frameset, behind which elements `noframes` may stand, and
-/// formatting that is opened again.
+/// Returns whether these are a body alone, or a frameset. After a frameset, `noframes` and
+/// reconstructed formatting elements may follow.
 fn is_contents(tree: &Tree, id: NodeId, others: &[NodeId]) -> bool
     ensures { result ≡ is_contents tree.now id others.now }
 {
@@ -60,7 +60,7 @@ fn is_contents(tree: &Tree, id: NodeId, others: &[NodeId]) -> bool
     is_html(tree, id, "frameset")
 }
 
-/// Whether these are a head, and then a body or a frameset.
+/// Returns whether these are a head, and then a body or a frameset.
 fn are_parts(tree: &Tree, parts: &[NodeId]) -> bool
     ensures { result ≡ are_parts tree.now parts.now }
 {
@@ -76,7 +76,7 @@ fn are_parts(tree: &Tree, parts: &[NodeId]) -> bool
     is_contents(tree, *contents, others)
 }
 
-/// Whether a node is an element `html` with its parts.
+/// Returns whether a node is an element `html` with a head and a body or frameset.
 fn has_parts(tree: &Tree, id: NodeId) -> Result<bool, PageFault>
     ensures ok { IfOk result (λ has. has ≡ has_parts tree.now id) }
     ensures err { IfErr result (λ fault. fault ≡ NoMemory) }
@@ -88,7 +88,7 @@ fn has_parts(tree: &Tree, id: NodeId) -> Result<bool, PageFault>
     Ok(are_parts(tree, &parts))
 }
 
-/// Whether these are an element `html` with its parts, or a doctype and such an element.
+/// Returns whether these are an element `html` with its parts, with or without a doctype before it.
 fn is_top(tree: &Tree, tops: &[NodeId]) -> Result<bool, PageFault>
     ensures ok { IfOk result (λ is. is ≡ is_top tree.now tops.now) }
     ensures err { IfErr result (λ fault. fault ≡ NoMemory) }
@@ -108,7 +108,7 @@ fn is_top(tree: &Tree, tops: &[NodeId]) -> Result<bool, PageFault>
     has_parts(tree, *html)
 }
 
-/// Whether the tree has the shape of a page. Errors where memory is refused.
+/// Returns whether the tree has the shape of a page. Fails only when memory runs out.
 pub fn is_page(tree: &Tree) -> Result<bool, PageFault>
     ensures { MatchResult result (λ is. is ≡ is_page tree.now) (λ fault. fault ≡ NoMemory) }
 {
@@ -116,14 +116,14 @@ pub fn is_page(tree: &Tree) -> Result<bool, PageFault>
     is_top(tree, &tops)
 }
 
-/// Every tree is a forest.
+/// Every tree is a well-formed forest. The function does nothing; it is called for its contract.
 fn is_forest(tree: &Tree)
     ensures { IsForest tree.now }
 {
     let _ = tree.nodes();
 }
 
-/// Makes a page of a tree: the body of a new page takes all that stands at the top.
+/// Turns a tree into a page: all children of the root move into the body of a new page.
 fn enclose(tree: &mut Tree) -> Result<(), EditFault>
     ensures { OnOk result (IsPage tree.new) }
 {
@@ -138,8 +138,9 @@ fn enclose(tree: &mut Tree) -> Result<(), EditFault>
     tree.append_child_of(&html, &body)
 }
 
-/// Gives a tree the shape of a page. What has it stays as it is; else the body of a new page takes
-/// all that stands at the top. Errors where memory is refused or numbers are used up.
+/// Makes sure that a tree has the shape of a page. A tree that has it is unchanged; otherwise all
+/// children of the root move into the body of a new page. Fails only with `Memory` or
+/// `TooManyNodes`.
 pub fn make_page(tree: &mut Tree) -> Result<(), PageFault>
     ensures page { OnOk result (IsPage tree.new) }
     ensures same { OnOk result (IsPage tree.old → tree.new ≡ tree.old) }

@@ -1,4 +1,4 @@
-//! The stack of open elements.
+//! The stack of open elements (13.2.4.2).
 
 ghost use Rattle.std.specs.Prelude.{◌≡◌, [], ◌∷◌, ◌++◌, Contains, IfNone, IfSome, OnErr, OnOk};
 ghost use Rattle.std.specs.Prelude.{◌+◌, ◌-◌, insert, length, remove, slice_get, slice_set, take};
@@ -17,32 +17,33 @@ use std::alloc::Global;
 
 /// The namespace of an element.
 #[derive(Clone, Copy, PartialEq, Eq, Drop)]
-pub enum Ns {
+pub enum ElementNamespace {
     Html,
     Svg,
     MathMl,
 }
 
-/// An element that was opened.
+/// An element of the stack.
 #[derive(Clone, Copy, Drop)]
 pub struct Open {
     pub id: NodeId,
-    pub ns: Ns,
+    pub ns: ElementNamespace,
     pub name: Name,
-    /// The number of a name that no rule names, else 0.
+    /// The number of a name that is not in `Name`, and otherwise 0.
     pub number: u32,
     /// Whether it is an `annotation-xml` whose encoding is HTML.
     pub holds_html: bool,
-    /// The fingerprint of its attributes, or 0, where none was taken.
+    /// A hash of its attributes, or 0 if none was computed.
     pub fingerprint: u32,
 }
 
 impl Open {
     pub fn is_html(&self, name: Name) -> bool {
-        self.ns == Ns::Html && self.name == name
+        self.ns == ElementNamespace::Html && self.name == name
     }
 
-    /// Whether it may have the name and the attributes of another formatting element.
+    /// Returns whether it may have the name and the attributes of another formatting element. If
+    /// not, the two certainly differ.
     pub fn is_like(&self, other: &Open) -> bool {
         if self.name != other.name {
             return false;
@@ -53,7 +54,8 @@ impl Open {
 
 const HEADINGS: [Name; 6] = [Name::H1, Name::H2, Name::H3, Name::H4, Name::H5, Name::H6];
 
-/// The open elements, the outermost first, and the marks that stand for walks over them.
+/// The stack of open elements, the outermost first, with an index (`marks`) that answers searches
+/// without a loop over the stack.
 #[derive(Drop)]
 pub struct OpenElements {
     elements: Vec<Open>,
@@ -82,7 +84,7 @@ impl OpenElements {
         self.elements.as_slice()
     }
 
-    /// The elements below a place.
+    /// Returns the elements before an index of the stack.
     pub fn before(&self, place: usize) -> &[Open]
         ensures { result.now ≡ take place self.now.elements.items }
     {
@@ -99,7 +101,7 @@ impl OpenElements {
         self.elements.get(place).copied()
     }
 
-    /// The element right behind a place.
+    /// Returns the element after an index of the stack.
     pub fn behind(&self, place: usize) -> Option<Open>
         ensures { result ≡ slice_get self.now.elements.items (place + 1) }
     {
@@ -109,7 +111,7 @@ impl OpenElements {
         self.elements.get(place + 1).copied()
     }
 
-    /// The current node.
+    /// Returns the current node.
     pub fn current(&self) -> Option<Open>
         ensures found { IfSome result (Contains self.now.elements.items) }
         ensures value { let elements = self.now.elements.items in
@@ -125,7 +127,7 @@ impl OpenElements {
         }
     }
 
-    /// Whether the body stands in the outermost element.
+    /// Returns whether the second element of the stack is the body.
     pub fn has_body(&self) -> bool {
         match self.get(1) {
             Some(open) => open.is_html(Name::Body),
@@ -133,15 +135,16 @@ impl OpenElements {
         }
     }
 
-    /// Marks all elements. What changes elements within the stack asks for it at its end.
+    /// Brings the search index up to date. It is called after elements inside the stack were
+    /// changed.
     pub fn mark(&mut self)
         ensures { self.new.elements ≡ self.old.elements }
     {
         self.marks.fill(self.elements.as_slice());
     }
 
-    /// The number of an element's name, if no rule names that, else 0. Memory for its marks is
-    /// there then.
+    /// Returns the number for a name that is not in `Name`, and 0 for any other. It also reserves
+    /// the memory that the search index needs for the name.
     pub fn number_of(&mut self, alloc: Global, name: Name, written: &str) -> Result<u32, PageFault>
         ensures { self.new.elements ≡ self.old.elements }
     {
@@ -164,7 +167,7 @@ impl OpenElements {
         Ok(())
     }
 
-    /// Takes the current node off the stack.
+    /// Pops the current node off the stack and returns it.
     pub fn take(&mut self) -> Option<Open>
         ensures items { self.old.elements.items ≡ self.new.elements.items ++ option_to_list result }
         ensures none { IfNone result (self.old.elements.items ≡ []) }
@@ -174,7 +177,7 @@ impl OpenElements {
         self.elements.pop()
     }
 
-    /// Takes the element at a place off the stack. `mark` is asked for later.
+    /// Removes the element at an index of the stack. The caller calls `mark` afterwards.
     pub fn remove_at(&mut self, place: usize)
         ensures { self.new.elements.items ≡ remove self.old.elements.items place }
     {
@@ -184,7 +187,7 @@ impl OpenElements {
         }
     }
 
-    /// Puts an element in place of another. `mark` is asked for later.
+    /// Replaces the element at an index of the stack. The caller calls `mark` afterwards.
     pub fn replace(&mut self, place: usize, element: &Open)
         ensures { self.new.elements.items ≡ slice_set self.old.elements.items place element.now }
     {
@@ -194,7 +197,7 @@ impl OpenElements {
         }
     }
 
-    /// Opens an element right behind the one at a place. `mark` is asked for later.
+    /// Inserts an element after an index of the stack. The caller calls `mark` afterwards.
     pub fn insert_behind(&mut self, place: usize, element: &Open) -> Result<(), PageFault>
         ensures ok { let old = self.old.elements.items in
             OnOk result (self.new.elements.items ≡ insert old (place + 1) element.now) }
@@ -209,9 +212,9 @@ impl OpenElements {
         Ok(())
     }
 
-    /// Where an element stands.
+    /// Returns the index of an element on the stack.
     pub fn place_of(&self, element: &Open) -> Option<usize> {
-        if element.ns == Ns::Html {
+        if element.ns == ElementNamespace::Html {
             return self.place_among(element.name, element.id);
         }
         for place in (0..self.elements.len()).rev() {
@@ -224,7 +227,7 @@ impl OpenElements {
         None
     }
 
-    /// Where an HTML element of that name stands.
+    /// Returns the index of the HTML element with that name and id on the stack.
     pub fn place_among(&self, name: Name, id: NodeId) -> Option<usize> {
         let mut top = self.marks.top(name);
         for _ in 0..self.elements.len() {
@@ -237,12 +240,12 @@ impl OpenElements {
         None
     }
 
-    /// Whether an HTML element of that name is open.
+    /// Returns whether an HTML element with that name is open.
     pub fn has(&self, name: Name) -> bool {
         self.marks.top(name) > 0
     }
 
-    /// The place of the topmost HTML element that has one of these names.
+    /// Returns the index of the last HTML element with one of these names.
     pub fn topmost(&self, names: &[Name]) -> Option<usize> {
         self.marks.topmost(names).checked_sub(1)
     }
@@ -252,7 +255,7 @@ impl OpenElements {
         top > 0 && top >= self.scope_end(scope)
     }
 
-    /// The topmost element that ends a scope: its place with one added, or 0.
+    /// Returns one more than the index of the last element that ends a scope, or 0.
     fn scope_end(&self, scope: Scope) -> usize {
         let ends = self.marks.ends();
         match scope {
@@ -266,7 +269,8 @@ impl OpenElements {
         }
     }
 
-    /// The same of a list's scope, which options and groups of these don't end.
+    /// Returns one more than the index of the last element that ends the select scope, or 0. That
+    /// is any element but `option` and `optgroup`.
     fn select_scope_end(&self) -> usize {
         for place in (0..self.elements.len()).rev() {
             if let Some(open) = self.get(place)
@@ -278,13 +282,13 @@ impl OpenElements {
         0
     }
 
-    /// Whether the element at a place is in scope.
+    /// Returns whether the element at an index is in scope.
     pub fn is_in_scope(&self, place: usize) -> bool {
         place.saturating_add(1) >= self.marks.ends()
     }
 
-    /// The name of an element that is given by its place with one added, unless it stands below
-    /// the end of a search.
+    /// Returns the name of the element at index `top` - 1, unless it comes before the end of a
+    /// search.
     fn name_from(&self, end: usize, top: usize) -> Option<Name> {
         if top < end {
             return None;
@@ -293,12 +297,12 @@ impl OpenElements {
         Some(open.name)
     }
 
-    /// The name of the heading in scope.
+    /// Returns the name of the last heading, if it is in scope.
     pub fn heading_in_scope(&self) -> Option<Name> {
         self.name_from(self.marks.ends(), self.marks.topmost(&HEADINGS))
     }
 
-    /// The item of a list that one of that name ends.
+    /// Returns the name of the open list item that a new one with that name closes.
     pub fn item_before(&self, name: Name) -> Option<Name> {
         let top = match name {
             Name::Li => self.marks.top(Name::Li),
@@ -307,7 +311,8 @@ impl OpenElements {
         self.name_from(self.marks.item_ends(), top)
     }
 
-    /// Where the topmost HTML element of that name stands, unless below a special one.
+    /// Returns the index of the last HTML element with that name, unless a special element comes
+    /// after it.
     pub fn last_named(&self, name: Name, written: &str) -> Option<usize> {
         let top = match name {
             Name::Other => self.marks.top_other(self.others.get(written)?).html,
@@ -319,7 +324,7 @@ impl OpenElements {
         top.checked_sub(1)
     }
 
-    /// The topmost foreign element of that name: its place with one added, or 0.
+    /// Returns one more than the index of the last foreign element with that name, or 0.
     pub fn top_foreign(&self, name: Name, written: &str) -> usize {
         match (name, self.others.get(written)) {
             (Name::Other, Some(number)) => self.marks.top_other(number).foreign,
@@ -328,12 +333,13 @@ impl OpenElements {
         }
     }
 
-    /// The topmost HTML element: its place with one added, or 0.
+    /// Returns one more than the index of the last HTML element, or 0.
     pub fn top_html(&self) -> usize {
         self.marks.html()
     }
 
-    /// Where the special element nearest above a place of the stack stands.
+    /// Returns the index of the first special element after an index of the stack: the furthest
+    /// block.
     pub fn furthest_block(&self, place: usize) -> Option<usize> {
         for index in place.saturating_add(1)..self.elements.len() {
             if let Some(open) = self.get(index)
@@ -345,7 +351,7 @@ impl OpenElements {
         None
     }
 
-    /// Whether a table is open above each open template.
+    /// Returns whether a table was opened after the last open template.
     pub fn is_in_table(&self) -> bool {
         self.marks.top(Name::Table) > self.marks.top(Name::Template)
     }

@@ -1,4 +1,4 @@
-//! Which nodes may stand where, so that tree construction leaves a tree as it is spelled.
+//! Which nodes may be children of which, so that tree construction leaves the tree as it is.
 
 ghost use Rattle.std.specs.Prelude.{◌≡◌, if◌then◌else◌};
 ghost use Rattle.dom_html5.specs.Calm.{admits, bars, inside, may_hold_comment, may_hold_text};
@@ -6,21 +6,21 @@ ghost use Rattle.dom_html5.specs.Scopes.{next_scope, scope_below};
 
 use crate::calm::texts::{begins_line, has_close, is_whitespace, lacks_greater_than};
 use dom_nodes::node_data::{NodeData, TreeNode};
-use html5_trees::Kind;
+use html5_trees::ElementCategory;
 
-/// What a node stands in: the kind of its parent, and which elements are open.
+/// The scope of a node: the category of its parent, and which kinds of elements are open around it.
 #[derive(Clone, Copy, Drop)]
 pub struct Scope {
-    pub parent: Kind,
+    pub parent: ElementCategory,
     pub in_paragraph: bool,
     pub in_anchor: bool,
     pub in_button: bool,
     pub in_form: bool,
 }
 
-/// What the nodes at the top stand in.
+/// The scope of the root's children.
 pub const TOP: Scope = Scope {
-    parent: Kind::Document,
+    parent: ElementCategory::Document,
     in_paragraph: false,
     in_anchor: false,
     in_button: false,
@@ -28,49 +28,49 @@ pub const TOP: Scope = Scope {
 };
 
 impl Scope {
-    /// Whether an element of that kind may not stand in one that is open.
-    fn bars(&self, kind: Kind) -> bool
+    /// Returns whether an open element forbids an element of that category, such as a `p` in a `p`.
+    fn bars(&self, kind: ElementCategory) -> bool
         ensures { result ≡ bars self.now kind }
     {
         match kind {
-            Kind::Anchor => self.in_anchor,
-            Kind::Button => self.in_button,
-            Kind::Form => self.in_paragraph || self.in_form,
-            Kind::Paragraph
-            | Kind::Block
-            | Kind::Heading
-            | Kind::Pre
-            | Kind::ItemList
-            | Kind::DescriptionList
-            | Kind::Table => self.in_paragraph,
+            ElementCategory::Anchor => self.in_anchor,
+            ElementCategory::Button => self.in_button,
+            ElementCategory::Form => self.in_paragraph || self.in_form,
+            ElementCategory::Paragraph
+            | ElementCategory::Block
+            | ElementCategory::Heading
+            | ElementCategory::Pre
+            | ElementCategory::ItemList
+            | ElementCategory::DescriptionList
+            | ElementCategory::Table => self.in_paragraph,
             _ => false,
         }
     }
 
-    /// What the children of an element of that kind stand in.
-    fn inside(&self, kind: Kind) -> Scope
+    /// Returns the scope of the children of an element of that category.
+    fn inside(&self, kind: ElementCategory) -> Scope
         ensures { result ≡ inside self.now kind }
     {
         let mut scope = *self;
         scope.parent = kind;
         match kind {
-            Kind::Anchor => scope.in_anchor = true,
-            Kind::Button => scope.in_button = true,
-            Kind::Form => scope.in_form = true,
-            Kind::Paragraph => scope.in_paragraph = true,
+            ElementCategory::Anchor => scope.in_anchor = true,
+            ElementCategory::Button => scope.in_button = true,
+            ElementCategory::Form => scope.in_form = true,
+            ElementCategory::Paragraph => scope.in_paragraph = true,
             _ => {}
         }
         scope
     }
 
-    /// Whether an element of that kind may stand there.
-    fn admits(&self, kind: Kind) -> bool
+    /// Returns whether an element of that category may be in this scope.
+    fn admits(&self, kind: ElementCategory) -> bool
         ensures { result ≡ admits self.now kind }
     {
         self.parent.may_hold(kind) && !self.bars(kind)
     }
 
-    /// What the children of this node stand in, where it may stand here.
+    /// Returns the scope of the node's children, or `None` if the node may not be in this scope.
     pub fn below(&self, node: &NodeData) -> Option<Scope>
         ensures { result ≡ scope_below self.now node.now }
     {
@@ -80,20 +80,23 @@ impl Scope {
                 self.held(holds_comment(self.parent, contents.as_str()))
             }
             NodeData::Doctype { .. } => self.held(self.parent.holds_doctype()),
-            NodeData::Element(element) => self.below_element(Kind::of(&element.name().local())),
+            NodeData::Element(element) => self.below_element(ElementCategory::of(
+                &element.name().local(),
+            )),
             _ => None,
         }
     }
 
-    /// The same scope, where it holds a node that has no children.
+    /// Returns this scope, if it may hold a node that has no children.
     fn held(&self, holds: bool) -> Option<Scope>
         ensures { result ≡ (if holds then Some self.now else None) }
     {
         if holds { Some(*self) } else { None }
     }
 
-    /// What the children of an element of that kind stand in, where it may stand here.
-    fn below_element(&self, kind: Kind) -> Option<Scope>
+    /// Returns the scope of the children of an element of that category, or `None` if the element
+    /// may not be in this scope.
+    fn below_element(&self, kind: ElementCategory) -> Option<Scope>
         ensures { result ≡ (if admits self.now kind then Some (inside self.now kind) else None) }
     {
         if !self.admits(kind) {
@@ -103,8 +106,8 @@ impl Scope {
     }
 }
 
-/// What the children of this node stand in, by the scopes of the nodes before it; None where it may
-/// not stand there.
+/// Returns the scope of the node's children, from the scopes of the nodes before it, or `None` if
+/// the node may not be in the scope of its parent.
 pub fn next_scope(node: &TreeNode, scopes: &[Scope]) -> Option<Scope>
     ensures { result ≡ next_scope scopes.now node.now.parent node.now.content }
 {
@@ -113,21 +116,21 @@ pub fn next_scope(node: &TreeNode, scopes: &[Scope]) -> Option<Scope>
     scope.below(&node.content)
 }
 
-/// Whether a child of such an element may be this text.
-fn holds_text(parent: Kind, contents: &str) -> bool
+/// Returns whether such an element may have this text as a child.
+fn holds_text(parent: ElementCategory, contents: &str) -> bool
     ensures { result ≡ may_hold_text parent contents.now }
 {
     match parent {
-        Kind::Html => is_whitespace(contents),
-        Kind::Verbatim => !has_close(contents),
-        Kind::Pre => !begins_line(contents),
+        ElementCategory::Html => is_whitespace(contents),
+        ElementCategory::Verbatim => !has_close(contents),
+        ElementCategory::Pre => !begins_line(contents),
         _ if parent.holds_parts() => is_whitespace(contents),
         _ => parent.holds_flow(),
     }
 }
 
-/// Whether a child of such an element may be a comment of these contents.
-fn holds_comment(parent: Kind, contents: &str) -> bool
+/// Returns whether such an element may have a comment with these contents as a child.
+fn holds_comment(parent: ElementCategory, contents: &str) -> bool
     ensures { result ≡ may_hold_comment parent contents.now }
 {
     parent.holds_comments() && lacks_greater_than(contents)

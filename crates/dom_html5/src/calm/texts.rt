@@ -1,4 +1,4 @@
-//! Texts that tree construction and tokenization read as they are spelled.
+//! Tests of a page's bytes: whether both parsers read them alike.
 
 ghost use Rattle.std.specs.Prelude.{◌≡◌, ◌==◌, ◌↔◌, IsTrue, not};
 ghost use Rattle.std.specs.List.{list_all};
@@ -11,10 +11,11 @@ ghost use Rattle.dom_html5.specs.Calm.{begins_other_tag, is_plain_reference};
 
 use memchr::memchr;
 
-/// How many bytes a framed page has at least.
+/// The smallest size in bytes of a page with the start and the end that `is_framed` tests.
 const LEAST: usize = 34;
 
-/// Whether the page begins with the doctype and `<html`, and ends with `</body></html>`.
+/// Returns whether the page starts with the doctype and `<html`, and ends with `</body></html>`, in
+/// upper or lower case.
 pub fn is_framed(page: &str) -> bool
     ensures { IsTrue result ↔ IsFramed page.now }
 {
@@ -29,7 +30,7 @@ pub fn is_framed(page: &str) -> bool
     bytes[length - 14..].eq_ignore_ascii_case(b"</body></html>")
 }
 
-/// Whether each byte of the page is calm.
+/// Returns whether each byte of the page is calm, that is, both parsers read it alike.
 pub fn is_calm_text(page: &str) -> bool
     ensures { result ≡ is_calm_text page.now }
 {
@@ -43,7 +44,7 @@ pub fn is_calm_text(page: &str) -> bool
     is_calm_at(b'&', bytes) && is_calm_at(b'<', bytes)
 }
 
-/// Whether this byte is calm wherever it stands.
+/// Returns whether each occurrence of this byte is calm.
 #[inline(always)]
 fn is_calm_at(byte: u8, bytes: &[u8]) -> bool
     ensures { result ≡ is_calm_at byte bytes.now }
@@ -62,8 +63,8 @@ fn is_calm_at(byte: u8, bytes: &[u8]) -> bool
     true
 }
 
-/// Whether a byte in front of these is no 0, no carriage return, no `&` that readers differ on, and
-/// no `<` of a tag that calm pages lack.
+/// Returns whether a byte before these bytes is calm: not a null, not a carriage return, no `&`
+/// that the two parsers read differently, and no `<` of a tag that calm pages don't have.
 #[inline(always)]
 fn is_calm_byte(byte: u8, after: &[u8]) -> bool
     ensures { result ≡ is_calm_byte byte after.now }
@@ -76,8 +77,8 @@ fn is_calm_byte(byte: u8, after: &[u8]) -> bool
     }
 }
 
-/// Whether this follows the `<` of an element that calm pages lack, of those that pages have most
-/// often: such a page isn't read as explicit markup in vain.
+/// Returns whether these bytes follow the `<` of an element that no calm page has. Only the most
+/// frequent ones are tested, so that most such pages are not parsed as explicit markup in vain.
 fn begins_other_tag(after: &[u8]) -> bool
     ensures { result ≡ begins_other_tag after.now }
 {
@@ -91,7 +92,7 @@ fn begins_other_tag(after: &[u8]) -> bool
     }
 }
 
-/// Whether this follows an `&` of one of the five references, or one that stands for itself.
+/// Returns whether these bytes follow an `&` that starts one of the five references, or none.
 fn is_plain_reference(after: &[u8]) -> bool
     ensures { result ≡ is_plain_reference after.now }
 {
@@ -103,7 +104,7 @@ fn is_plain_reference(after: &[u8]) -> bool
         || is_bare(after)
 }
 
-/// Whether an `&` in front of this stands for itself.
+/// Returns whether an `&` before these bytes is plain text.
 fn is_bare(after: &[u8]) -> bool
     ensures { result ≡ is_bare after.now }
 {
@@ -113,7 +114,7 @@ fn is_bare(after: &[u8]) -> bool
     }
 }
 
-/// Whether an end tag or a declaration begins in the text.
+/// Returns whether the text contains an end tag or a declaration.
 pub fn has_close(text: &str) -> bool
     ensures { result ≡ has_close text.now }
 {
@@ -127,7 +128,7 @@ pub fn has_close(text: &str) -> bool
     false
 }
 
-/// Whether the bytes behind a `<` make an end tag or a declaration of it.
+/// Returns whether a `<` before these bytes starts an end tag or a declaration.
 fn begins_close(after: &[u8]) -> bool
     ensures { result ≡ begins_close after.now }
 {
@@ -137,7 +138,7 @@ fn begins_close(after: &[u8]) -> bool
     }
 }
 
-/// Whether the text begins with a line feed.
+/// Returns whether the text starts with a line feed.
 pub fn begins_line(text: &str) -> bool
     ensures { result ≡ begins_line text.now }
 {
@@ -147,21 +148,21 @@ pub fn begins_line(text: &str) -> bool
     }
 }
 
-/// Whether the text is whitespace alone.
+/// Returns whether the text is whitespace alone.
 pub fn is_whitespace(text: &str) -> bool
     ensures { result ≡ list_all is_whitespace text.now }
 {
     text.as_bytes().iter().all(|byte| is_space(*byte))
 }
 
-/// Whether the byte is whitespace.
+/// Returns whether the byte is whitespace.
 fn is_space(byte: u8) -> bool
     ensures { result ≡ is_whitespace byte }
 {
     matches!(byte, b'\t' | b'\n' | 12 | b'\r' | b' ')
 }
 
-/// Whether no `>` stands in the text.
+/// Returns whether the text contains no `>`.
 pub fn lacks_greater_than(text: &str) -> bool
     ensures { result ≡ list_all (λ b. not (b == greater_than)) text.now }
 {

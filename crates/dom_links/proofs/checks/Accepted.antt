@@ -7,7 +7,7 @@ use Rattle.std.proofs.lemmas.List.{get_or_past, length-map}
 use Rattle.std.proofs.lemmas.Option.{slice_get_past}
 use Rattle.dom_nodes.specs.declared.node_data.TreeNode.{TreeNode}
 use Rattle.dom_nodes.specs.Kinds.{contents_named, is_fragment, is_top, children_allowed}
-use Rattle.dom_links.specs.Lists.{stands_in, IsDistinct, first, last, after, before}
+use Rattle.dom_links.specs.Lists.{is_member, IsDistinct, first, last, after, before}
 use Rattle.dom_links.specs.Forest.{StandsOnce, AreLinks, forest_of, children_of, run_of, parent, siblings, parent_link, prev_link, next_link, first_link, last_link, contents_of, chain, children_in, row_in, run_under}
 use Rattle.dom_links.specs.Sound.{IsSoundArena, IsForest, IsHostAncestor, one_step, then_step, IsParentOrHost, contents_at}
 use Rattle.dom_links.specs.Validation.{LinkPath, one_link, Ends, LinksHold, LinksKnown, Agrees, IsLinked, ContentsHold, link_at, parent_or_host, contents_link}
@@ -73,14 +73,14 @@ tied nodes links linked ends =
 
 -- Rows
 
-row_is : (nodes : List TreeNode) (n : ℕ) (ns : List ℕ) → IsRow (prev_link nodes) (next_link nodes) (length nodes) ns → stands_in n ns ≡ true → row_in nodes n ≡ ns
+row_is : (nodes : List TreeNode) (n : ℕ) (ns : List ℕ) → IsRow (prev_link nodes) (next_link nodes) (length nodes) ns → is_member n ns ≡ true → row_in nodes n ≡ ns
 row_is nodes n ns row s = row_around (prev_link nodes) (next_link nodes) (length nodes) n ns row s
 
-own_row : (nodes : List TreeNode) (n : ℕ) → AreTied nodes → n < length nodes → IsRow (prev_link nodes) (next_link nodes) (length nodes) (row_in nodes n) × (stands_in n (row_in nodes n) ≡ true)
+own_row : (nodes : List TreeNode) (n : ℕ) → AreTied nodes → n < length nodes → IsRow (prev_link nodes) (next_link nodes) (length nodes) (row_in nodes n) × (is_member n (row_in nodes n) ≡ true)
 own_row nodes n ties h =
     let row = row_of (prev_link nodes) (next_link nodes) (length nodes) n ties.to_and_fro h ties.prev_known (ties.ends n) in
     let is = row_is nodes n row.0 row.1 row.2 in
-    (subst (IsRow (prev_link nodes) (next_link nodes) (length nodes)) (sym is) row.1, ap (stands_in n) is ∙ row.2)
+    (subst (IsRow (prev_link nodes) (next_link nodes) (length nodes)) (sym is) row.1, ap (is_member n) is ∙ row.2)
 
 -- who stands in the row of n has its parent, and its row
 record StandsBy (nodes : List TreeNode) (n m : ℕ) : Type 0 where
@@ -88,11 +88,11 @@ record StandsBy (nodes : List TreeNode) (n m : ℕ) : Type 0 where
   parent_same : parent_link nodes m ≡ parent_link nodes n
   row_same : row_in nodes m ≡ row_in nodes n
 
-stands_by : (nodes : List TreeNode) (n m : ℕ) → AreTied nodes → n < length nodes → stands_in m (row_in nodes n) ≡ true → StandsBy nodes n m
+stands_by : (nodes : List TreeNode) (n m : ℕ) → AreTied nodes → n < length nodes → is_member m (row_in nodes n) ≡ true → StandsBy nodes n m
 stands_by nodes n m ties h s =
     let its = own_row nodes n ties h in
     let head = head_of (prev_link nodes) (next_link nodes) (length nodes) n (row_in nodes n) its.0 its.1 in
-    let up : (k : ℕ) → stands_in k (row_in nodes n) ≡ true → parent_link nodes k ≡ parent_link nodes head.0 =
+    let up : (k : ℕ) → is_member k (row_in nodes n) ≡ true → parent_link nodes k ≡ parent_link nodes head.0 =
     λ k t. shared (prev_link nodes) (next_link nodes) (parent_link nodes) (length nodes) k head.0 (row_in nodes n) its.0 ties.same_parent (ties.ends k) t head.1 in
     record {
       here = IsRow.below its.0 m s;
@@ -148,14 +148,14 @@ run_past : (nodes : List TreeNode) (n : ℕ) → length nodes ≤ n → run_of (
 run_past nodes n past = get_or_past (forest_of nodes).runs n [] (omega (arith, runs_long nodes))
 
 -- the children of p, where there are any
-child_facts : (nodes : List TreeNode) (p m : ℕ) → AreTied nodes → stands_in m (children_of (forest_of nodes) p) ≡ true → (m < length nodes) × (parent_link nodes m ≡ Some p)
+child_facts : (nodes : List TreeNode) (p m : ℕ) → AreTied nodes → is_member m (children_of (forest_of nodes) p) ≡ true → (m < length nodes) × (parent_link nodes m ≡ Some p)
 child_facts nodes p m ties s = elim (cases_lt p (length nodes)) [
-  | inr past ↦ absurd (true≢false (sym s ∙ ap (stands_in m) (children_past nodes p past)))
+  | inr past ↦ absurd (true≢false (sym s ∙ ap (is_member m) (children_past nodes p past)))
   | inl h ↦ (elim (cases_Option (first_link nodes p)) [
-    | inl none ↦ absurd (true≢false (sym s ∙ ap (stands_in m) (children_at nodes p h ∙ children_none nodes p none)))
+    | inl none ↦ absurd (true≢false (sym s ∙ ap (is_member m) (children_at nodes p h ∙ children_none nodes p none)))
     | inr (c, some) ↦ (let it = ties.first_is p c some in
         let children = children_are nodes c p ties it.1 in
-        let by = stands_by nodes c m ties it.0 (ap (stands_in m) (sym children.2 ∙ sym (children_at nodes p h)) ∙ s) in
+        let by = stands_by nodes c m ties it.0 (ap (is_member m) (sym children.2 ∙ sym (children_at nodes p h)) ∙ s) in
         (StandsBy.here by, StandsBy.parent_same by ∙ it.1))
   ])
 ]
@@ -165,12 +165,12 @@ stands_child nodes n p ties e = children_at nodes p (ties.parent_known n p e).1 
 
 parent_is : (nodes : List TreeNode) (n : ℕ) → AreTied nodes → parent (forest_of nodes) n ≡ parent_link nodes n
 parent_is nodes n ties = elim (cases_Option (parent_link nodes n)) [
-  | inl none ↦ owner_none 0 (forest_of nodes).children n (λ q. elim (cases_Bool (stands_in n (children_of (forest_of nodes) q))) [
+  | inl none ↦ owner_none 0 (forest_of nodes).children n (λ q. elim (cases_Bool (is_member n (children_of (forest_of nodes) q))) [
     | inr f ↦ f
     | inl t ↦ absurd (let two = sym none ∙ (child_facts nodes q n ties t).1 in (cc))
   ]) ∙ sym none
   | inr (p, some) ↦ (let its = own_row nodes n ties (ties.parent_known n p some).0 in
-      owner_found 0 (forest_of nodes).children p n (ap (stands_in n) (stands_child nodes n p ties some) ∙ its.1) (λ q ne. elim (cases_Bool (stands_in n (children_of (forest_of nodes) q))) [
+      owner_found 0 (forest_of nodes).children p n (ap (is_member n) (stands_child nodes n p ties some) ∙ its.1) (λ q ne. elim (cases_Bool (is_member n (children_of (forest_of nodes) q))) [
         | inr f ↦ f
         | inl t ↦ absurd (let two = sym (child_facts nodes q n ties t).1 ∙ some in ne (cc))
       ]) ∙ ap Some (omega arith) ∙ sym some)
@@ -183,12 +183,12 @@ siblings_are nodes n ties h = elim (cases_Option (parent_link nodes n)) [
 ]
 
 -- a run that isn't empty
-run_facts : (nodes : List TreeNode) (m n : ℕ) → AreTied nodes → stands_in n (run_of (forest_of nodes) m) ≡ true → (m < length nodes) × (parent_link nodes m ≡ None) × (run_of (forest_of nodes) m ≡ row_in nodes m)
+run_facts : (nodes : List TreeNode) (m n : ℕ) → AreTied nodes → is_member n (run_of (forest_of nodes) m) ≡ true → (m < length nodes) × (parent_link nodes m ≡ None) × (run_of (forest_of nodes) m ≡ row_in nodes m)
 run_facts nodes m n ties s = elim (cases_lt m (length nodes)) [
-  | inr past ↦ absurd (true≢false (sym s ∙ ap (stands_in n) (run_past nodes m past)))
+  | inr past ↦ absurd (true≢false (sym s ∙ ap (is_member n) (run_past nodes m past)))
   | inl h ↦ (elim (cases_Option (parent_link nodes m)) [
     | inl none ↦ (h, none, run_at nodes m h ∙ ap (λ o. run_under o (row_in nodes m)) none)
-    | inr (p, some) ↦ absurd (true≢false (sym s ∙ ap (stands_in n) (run_at nodes m h ∙ ap (λ o. run_under o (row_in nodes m)) some)))
+    | inr (p, some) ↦ absurd (true≢false (sym s ∙ ap (is_member n) (run_at nodes m h ∙ ap (λ o. run_under o (row_in nodes m)) some)))
   ])
 ]
 
@@ -196,10 +196,10 @@ once : (nodes : List TreeNode) → AreTied nodes → StandsOnce (forest_of nodes
 once nodes ties = record {
   children_each = children_long nodes ∙ sym (long nodes);
   runs_each = runs_long nodes ∙ sym (long nodes);
-  placed = λ n h. (let here : n < length nodes = omega (arith, long nodes) in ap (stands_in n) (siblings_are nodes n ties here) ∙ (own_row nodes n ties here).1);
+  placed = λ n h. (let here : n < length nodes = omega (arith, long nodes) in ap (is_member n) (siblings_are nodes n ties here) ∙ (own_row nodes n ties here).1);
   in_children = λ p n s. (let child = child_facts nodes p n ties s in (omega (arith, long nodes, child.0), parent_is nodes n ties ∙ child.1));
   in_run = λ m n s. (let run = run_facts nodes m n ties s in
-      let by = stands_by nodes m n ties run.0 (ap (stands_in n) (sym run.2) ∙ s) in
+      let by = stands_by nodes m n ties run.0 (ap (is_member n) (sym run.2) ∙ s) in
       let none : parent_link nodes n ≡ None = StandsBy.parent_same by ∙ run.1 in (
         omega (arith, long nodes, StandsBy.here by),
         parent_is nodes n ties ∙ none,

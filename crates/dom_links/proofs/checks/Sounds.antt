@@ -7,11 +7,11 @@ use Rattle.std.proofs.lemmas.List.{length-map, reverse-append, reverse-reverse}
 use Rattle.std.proofs.lemmas.Option.{slice_get_past}
 use Rattle.dom_nodes.specs.declared.node_data.TreeNode.{TreeNode}
 use Rattle.dom_nodes.specs.Kinds.{contents_named, is_fragment}
-use Rattle.dom_links.specs.Lists.{stands_in, IsDistinct, first, last, after, before, names}
+use Rattle.dom_links.specs.Lists.{is_member, IsDistinct, first, last, after, before, names}
 use Rattle.dom_links.specs.Forest.{forest_of, children_of, parent, siblings, parent_link, prev_link, next_link, first_link, last_link, contents_of}
 use Rattle.dom_links.specs.Sound.{IsSoundArena, IsHostAncestor, one_step, IsParentOrHost, contents_at}
 use Rattle.dom_links.specs.Validation.{LinkPath, one_link, then_link, HasCycle, LinksKnown, Agrees, IsLinked, HostsAlone, HostsContents, IsAbove, Climbs, one_up, then_up, AreHosts, LinksAstray, link_at, parent_or_host, contents_link}
-use Rattle.dom_links.proofs.forest.Neighbours.{stands_in-append, after-append, after-stands, before-stands, before_here, after_with, first-stands, last-stands, last_names, last-reverse, names-true, names-same, around, distinct-reverse, distinct_parts, stands_in-reverse}
+use Rattle.dom_links.proofs.forest.Neighbours.{is_member-append, after-append, after-stands, before-stands, before_here, after_with, first-stands, last-stands, last_names, last-reverse, names-true, names-same, around, distinct-reverse, distinct_parts, is_member-reverse}
 use Rattle.dom_links.proofs.forest.Places.{cases_Option, siblings_child, siblings_once, beside}
 use Rattle.dom_links.proofs.moves.Cuts.{length-contents, if_some, parent_known, prev_known, next_known}
 use Rattle.dom_links.proofs.moves.Acyclicity.{onward}
@@ -20,31 +20,31 @@ use Rattle.dom_links.proofs.forest.Grown.{within}
 -- Lists without repetition
 
 -- who stands before n has n after it
-pub after_before : (ns : List ℕ) (n m : ℕ) → IsDistinct ns → stands_in n ns ≡ true → before ns n ≡ Some m → after ns m ≡ Some n
+pub after_before : (ns : List ℕ) (n m : ℕ) → IsDistinct ns → is_member n ns ≡ true → before ns n ≡ Some m → after ns m ≡ Some n
 after_before ns n m once inside e =
     let parts = around n ns once inside in
     let is_last : last parts.front ≡ Some m = sym (before_here parts.front parts.back n parts.not_back) ∙ ap (λ ks. before ks n) (sym parts.is) ∙ e in
-    let in_front : stands_in m parts.front ≡ true = last-stands parts.front m is_last in
-    let ne : n ≡ m → ⊥ = λ same. true≢false (sym in_front ∙ ap (λ (k : ℕ). stands_in k parts.front) (sym same) ∙ parts.not_front) in
+    let in_front : is_member m parts.front ≡ true = last-stands parts.front m is_last in
+    let ne : n ≡ m → ⊥ = λ same. true≢false (sym in_front ∙ ap (λ (k : ℕ). is_member k parts.front) (sym same) ∙ parts.not_front) in
     let named : names (last parts.front) m ≡ true = ap (λ o. names o m) is_last ∙ names-same m in
     ap (λ ks. after ks m) parts.is ∙ after_with parts.front parts.back n m parts.front_once ne ∙ ap (λ t. cond t (Some n) (after (parts.front ++ parts.back) m)) named
 
 -- and who stands after it has it before
-pub before_after : (ns : List ℕ) (n m : ℕ) → IsDistinct ns → stands_in n ns ≡ true → after ns n ≡ Some m → before ns m ≡ Some n
+pub before_after : (ns : List ℕ) (n m : ℕ) → IsDistinct ns → is_member n ns ≡ true → after ns n ≡ Some m → before ns m ≡ Some n
 before_after ns n m once inside e =
-    after_before (reverse ns) n m (distinct-reverse ns once) (stands_in-reverse ns n ∙ inside) (ap (λ ks. after ks n) (reverse-reverse ns) ∙ e)
+    after_before (reverse ns) n m (distinct-reverse ns once) (is_member-reverse ns n ∙ inside) (ap (λ ks. after ks n) (reverse-reverse ns) ∙ e)
 
 -- who has none after it is the last
-pub is_last_one : (ns : List ℕ) (n : ℕ) → IsDistinct ns → stands_in n ns ≡ true → after ns n ≡ None → last ns ≡ Some n
+pub is_last_one : (ns : List ℕ) (n : ℕ) → IsDistinct ns → is_member n ns ≡ true → after ns n ≡ None → last ns ≡ Some n
 is_last_one ns n once inside e = names-true (last ns) n (last_names ns n once ∙ rw (inside, e) refl)
 
-pub is_first_one : (ns : List ℕ) (n : ℕ) → IsDistinct ns → stands_in n ns ≡ true → before ns n ≡ None → first ns ≡ Some n
-is_first_one ns n once inside e = sym (last-reverse ns) ∙ is_last_one (reverse ns) n (distinct-reverse ns once) (stands_in-reverse ns n ∙ inside) e
+pub is_first_one : (ns : List ℕ) (n : ℕ) → IsDistinct ns → is_member n ns ≡ true → before ns n ≡ None → first ns ≡ Some n
+is_first_one ns n once inside e = sym (last-reverse ns) ∙ is_last_one (reverse ns) n (distinct-reverse ns once) (is_member-reverse ns n ∙ inside) e
 
 -- who stands before one of the front stands in the front
-pub before_in_front : (front back : List ℕ) (k m : ℕ) → IsDistinct (front ++ back) → stands_in k front ≡ true → before (front ++ back) k ≡ Some m → stands_in m front ≡ true
+pub before_in_front : (front back : List ℕ) (k m : ℕ) → IsDistinct (front ++ back) → is_member k front ≡ true → before (front ++ back) k ≡ Some m → is_member m front ≡ true
 before_in_front front back k m once inside e =
-    let apart : stands_in k (reverse back) ≡ false = stands_in-reverse back k ∙ (distinct_parts front back once).2 k inside in
+    let apart : is_member k (reverse back) ≡ false = is_member-reverse back k ∙ (distinct_parts front back once).2 k inside in
     let here : before (front ++ back) k ≡ before front k = ap (λ ks. after ks k) (reverse-append front back) ∙ after-append (reverse back) (reverse front) k ∙ ap (λ t. cond t (option_or (after (reverse back) k) (first (reverse front))) (before front k)) apart in
     before-stands front k m (sym here ∙ e)
 
@@ -64,7 +64,7 @@ node_of : (nodes : List TreeNode) (n : ℕ) → IsSoundArena nodes → n < lengt
 node_of nodes n sound h = (let long = length-contents (forest_of nodes) nodes sound.arena.links in omega arith)
 
 -- a child of n
-child : (nodes : List TreeNode) (n c : ℕ) → IsSoundArena nodes → stands_in c (children_of (forest_of nodes) n) ≡ true → (c < length nodes) × (parent_link nodes c ≡ Some n)
+child : (nodes : List TreeNode) (n c : ℕ) → IsSoundArena nodes → is_member c (children_of (forest_of nodes) n) ≡ true → (c < length nodes) × (parent_link nodes c ≡ Some n)
 child nodes n c sound s =
     let facts = sound.arena.once.in_children n c s in
     let here = node_of nodes c sound facts.0 in
@@ -94,7 +94,7 @@ sound_not_astray nodes n sound h away =
     outside o k e known past = (let inside : k < length nodes = subst (λ p. IfSome p (λ m. m < length nodes)) e known in omega arith)
 
 -- the siblings of n
-row : (nodes : List TreeNode) (n : ℕ) → IsSoundArena nodes → n < length nodes → IsDistinct (siblings (forest_of nodes) n) × (stands_in n (siblings (forest_of nodes) n) ≡ true)
+row : (nodes : List TreeNode) (n : ℕ) → IsSoundArena nodes → n < length nodes → IsDistinct (siblings (forest_of nodes) n) × (is_member n (siblings (forest_of nodes) n) ≡ true)
 row nodes n sound h = (siblings_once (forest_of nodes) n sound.arena.once, sound.arena.once.placed n (linked nodes n sound h))
 
 pub sound_agrees : (nodes : List TreeNode) (n : ℕ) → IsSoundArena nodes → n < length nodes → Agrees nodes n
@@ -208,13 +208,13 @@ way_inside nodes _ _ (one_link n m e) = prev_inside nodes n m e
 way_inside nodes _ _ (then_link n k m way e) = way_inside nodes n k way
 
 -- who is met on the way back from n stands before it among its siblings
-back_in_front : (nodes : List TreeNode) (front back : List ℕ) (n m : ℕ) → IsSoundArena nodes → siblings (forest_of nodes) n ≡ front ++ n ∷ back → stands_in n back ≡ false → IsDistinct (front ++ n ∷ back) →
-    LinkPath (prev_link nodes) n m → stands_in m front ≡ true
+back_in_front : (nodes : List TreeNode) (front back : List ℕ) (n m : ℕ) → IsSoundArena nodes → siblings (forest_of nodes) n ≡ front ++ n ∷ back → is_member n back ≡ false → IsDistinct (front ++ n ∷ back) →
+    LinkPath (prev_link nodes) n m → is_member m front ≡ true
 back_in_front nodes front back _ _ sound is apart once (one_link n m e) =
     last-stands front m (sym (before_here front back n apart) ∙ ap (λ ks. before ks n) (sym is) ∙ sym (sound.arena.links.prevs n (prev_inside nodes n m e)) ∙ e)
 back_in_front nodes front back _ _ sound is apart once (then_link n k m way e) =
     let there = back_in_front nodes front back n k sound is apart once way in
-    let among : stands_in k (siblings (forest_of nodes) n) ≡ true = ap (stands_in k) is ∙ stands_in-append front (n ∷ back) k ∙ ap (λ t. t || stands_in k (n ∷ back)) there in
+    let among : is_member k (siblings (forest_of nodes) n) ≡ true = ap (is_member k) is ∙ is_member-append front (n ∷ back) k ∙ ap (λ t. t || is_member k (n ∷ back)) there in
     let by = beside (forest_of nodes) n k sound.arena.once among in
     before_in_front front (n ∷ back) k m once there (ap (λ ks. before ks k) (sym is ∙ sym by.same_siblings) ∙ sym (sound.arena.links.prevs k (node_of nodes k sound by.known)) ∙ e)
 

@@ -16,7 +16,7 @@ use Rattle.dom_nodes.specs.Kinds.{contents_named, is_fragment}
 use Rattle.dom_links.specs.Copies.{Extends, copied_below, copied_data, copy_numbers, data_at, root_numbers, node_count, with_copies, with_node_below}
 use Rattle.dom_links.specs.Copying.{AreNodesOf, AreRows, CopiesAll, CopiesAlone, CopiesAndNotes, Copying, IsPlaceFor, IsRow, IsTooLarge, IsUnderWay, LacksRoom, read_nodes, row_from, with_row, with_rows}
 use Rattle.dom_links.specs.declared.ops.copies.Row.{Row}
-use Rattle.dom_links.specs.Lists.{stands_in, first, after, before}
+use Rattle.dom_links.specs.Lists.{is_member, first, after, before}
 use Rattle.dom_links.specs.Forest.{Forest, StandsOnce, IsArenaOf, children_of, run_of, parent, siblings, arena_ids, forest_of}
 use Rattle.dom_links.specs.Growth.{with_node, with_child}
 use Rattle.dom_links.specs.Moves.{children_with, run_with, end_of}
@@ -58,7 +58,7 @@ runs-child p n content forest once known =
     let more = with_node content forest in
     let moved = length forest.content ∷ [] in
     let inside : n < length more.runs = omega (arith, length_push forest.runs (length forest.content ∷ []), once.runs_each) in
-    let other : stands_in n moved ≡ false = one-stands (length forest.content) n ∙ ne_eqb (length forest.content) n (λ e. absurd (omega (arith, e))) in
+    let other : is_member n moved ≡ false = one-stands (length forest.content) n ∙ ne_eqb (length forest.content) n (λ e. absurd (omega (arith, e))) in
     get_or-map_all (λ m run. run_with (end_of p) moved more m) more.runs n inside ∙ rw other (run-more content forest n once known)
 
 pub keeps-child : (base forest : Forest) (p : ℕ) (content : NodeData) → StandsOnce forest → length base.content ≤ p → Extends base forest → Extends base (with_child p content forest)
@@ -74,11 +74,11 @@ keeps-child base forest p content once new kept =
 pub parent_kept : (old new : Forest) (n : ℕ) → IsForest old → StandsOnce new → Extends old new → n < length old.content → parent new n ≡ parent old n
 parent_kept old new n good once kept known = elim (cases_Option (parent old n)) [
   | inl none ↦
-      (let there : stands_in n (run_of old n) ≡ true = ap (stands_in n) (sym (siblings_run old n none)) ∙ good.once.placed n known in
-      (once.in_run n n (ap (stands_in n) (kept.runs n known) ∙ there)).1 ∙ sym none)
+      (let there : is_member n (run_of old n) ≡ true = ap (is_member n) (sym (siblings_run old n none)) ∙ good.once.placed n known in
+      (once.in_run n n (ap (is_member n) (kept.runs n known) ∙ there)).1 ∙ sym none)
   | inr (p, some) ↦
-      (let there : stands_in n (children_of old p) ≡ true = ap (stands_in n) (sym (siblings_child old n p some)) ∙ good.once.placed n known in
-      (once.in_children p n (ap (stands_in n) (kept.children p (parent_inside old n p good some)) ∙ there)).1 ∙ sym some)
+      (let there : is_member n (children_of old p) ≡ true = ap (is_member n) (sym (siblings_child old n p some)) ∙ good.once.placed n known in
+      (once.in_children p n (ap (is_member n) (kept.children p (parent_inside old n p good some)) ∙ there)).1 ∙ sym some)
 ]
 
 pub siblings_kept : (old new : Forest) (n : ℕ) → IsForest old → StandsOnce new → Extends old new → n < length old.content → siblings new n ≡ siblings old n
@@ -476,7 +476,7 @@ rows_larger source rows forest fault h = larger forest (with_rows source rows fo
 
 -- a list of nodes is its first and the others
 
-pub all_known : (source : Forest) (ns : List ℕ) → AreNodesOf source ns → (m : ℕ) → stands_in m ns ≡ true → m < length source.content
+pub all_known : (source : Forest) (ns : List ℕ) → AreNodesOf source ns → (m : ℕ) → is_member m ns ≡ true → m < length source.content
 all_known source [] known m s = cc
 all_known source (n ∷ ns) known m s = elim (cases_eq n m) [
   | inl e ↦ subst (λ (k : ℕ). k < length source.content) e known.0

@@ -13,7 +13,7 @@ use Rattle.dom_nodes.specs.Kinds.{contents_named, is_element, is_fragment, is_to
 use Rattle.dom_nodes.specs.declared.node_data.TreeNode.{TreeNode}
 use Rattle.dom_links.specs.Copying.{AreNodesOf, IsTooLarge}
 use Rattle.dom_links.specs.Copies.{CopiesNodes, CopyCause, Extends, MayCopy, copied, copy_numbers, fragment_of, copied_data, data_at, with_copies, with_node_below}
-use Rattle.dom_links.specs.Lists.{stands_in}
+use Rattle.dom_links.specs.Lists.{is_member}
 use Rattle.dom_links.specs.Forest.{Forest, IsArenaOf, children_of, forest_of}
 use Rattle.dom_links.specs.Growth.{lone, with_child, with_node}
 use Rattle.dom_links.specs.Sound.{IsForest, IsSoundArena, children_allowed_at, contents_at, stays}
@@ -87,7 +87,7 @@ children_allowed_at-new p content forest = ap (λ xs. option_map_or children_all
 -- the roots may be children of q
 abbrev MayTake : Forest → Option ℕ → List ℕ → Forest → Type 0
 MayTake source None ns forest = Unit {0}
-MayTake source (Some q) ns forest = (q < length forest.content) × ((m : ℕ) → stands_in m ns ≡ true → (children_allowed_at forest q ≡ true) × (is_top (data_at source m) ≡ false))
+MayTake source (Some q) ns forest = (q < length forest.content) × ((m : ℕ) → is_member m ns ≡ true → (children_allowed_at forest q ≡ true) × (is_top (data_at source m) ≡ false))
 
 take_on : (source : Forest) (p q : Option ℕ) (n : ℕ) (ns : List ℕ) (ts : Trees) (forest : Forest) → MayTake source p (n ∷ ns) forest → MayTake source p ns (with_copies source q ts forest)
 take_on source None q n ns ts forest may = tt
@@ -142,7 +142,7 @@ held_kept source (Some q) n c ns forest good may some =
     (record { target_known = may.0; open_here = (may.1 n (here_stands n ns)).0; no_top = no_top (copied_data (length forest.content) (data_at source n)) (length forest.content + 1) named; named = named })
 
 abbrev pub AreInside : Forest → List ℕ → Type 0
-AreInside source ns = (m : ℕ) → stands_in m ns ≡ true → m < length source.content
+AreInside source ns = (m : ℕ) → is_member m ns ≡ true → m < length source.content
 
 -- what trees are made of
 pub record Parts (source : Forest) (ns : List ℕ) (n : ℕ) (contents children later : Trees) : Type 0 where
@@ -290,7 +290,7 @@ sound_again old taken sound arena =
     }
 
 -- an element of a list stands in it
-pub stands_here : (ns : List ℕ) (i n : ℕ) → i < length ns → n ≡ get_or ns i n → stands_in n ns ≡ true
+pub stands_here : (ns : List ℕ) (i n : ℕ) → i < length ns → n ≡ get_or ns i n → is_member n ns ≡ true
 stands_here [] i n h e = absurd (omega arith)
 stands_here (m ∷ ns) zero n h e = rw (eq-eqb m n (sym e)) refl
 stands_here (m ∷ ns) (suc i) n h e = later_stands m n ns (stands_here ns i n (omega arith) e)
@@ -335,7 +335,7 @@ none_left source ns old taken fault sound back large = record {
 
 -- ---- fragments
 
-may_be_child : (source : Forest) (ns : List ℕ) (m : ℕ) → MayCopy source ns → stands_in m ns ≡ true → is_top (data_at source m) ≡ false
+may_be_child : (source : Forest) (ns : List ℕ) (m : ℕ) → MayCopy source ns → is_member m ns ≡ true → is_top (data_at source m) ≡ false
 may_be_child source [] m may s = cc
 may_be_child source (n ∷ ns) m may s = elim (cases_Bool (n == m)) [
   | inl t ↦ subst (λ (k : ℕ). is_top (data_at source k) ≡ false) (eqb-true n m t) (sym (test_at is_top source n may.0.known) ∙ may.0.no_top)

@@ -10,7 +10,7 @@ use Rattle.dom_nodes.specs.Kinds.{contents_named, is_fragment}
 use Rattle.dom_links.specs.Copies.{Extends, copied, copied_data, data_at, root_numbers, node_count, with_copies, with_node_below}
 use Rattle.dom_links.specs.CopiedTrees.{AreCopies, HoldCopies, renumbered}
 use Rattle.dom_links.specs.Copying.{AreNodesOf}
-use Rattle.dom_links.specs.Lists.{stands_in}
+use Rattle.dom_links.specs.Lists.{is_member}
 use Rattle.dom_links.specs.Forest.{Forest, children_of, run_of}
 use Rattle.dom_links.specs.Growth.{with_node}
 use Rattle.dom_links.specs.Moves.{children_with, run_with, end_of}
@@ -149,7 +149,7 @@ runs_below (Some p) n content forest fits known =
     let more = with_node content forest in
     let moved = length forest.content ∷ [] in
     let inside : n < length more.runs = omega (arith, length_push forest.runs moved, fits.runs_each) in
-    let other : stands_in n moved ≡ false = one-stands (length forest.content) n ∙ ne_eqb (length forest.content) n (λ e. absurd (omega (arith, e))) in
+    let other : is_member n moved ≡ false = one-stands (length forest.content) n ∙ ne_eqb (length forest.content) n (λ e. absurd (omega (arith, e))) in
     get_or-map_all (λ m run. run_with (end_of p) moved more m) more.runs n inside ∙ rw other (run_node n content forest fits known)
 
 runs_kept : (source : Forest) (p : Option ℕ) (ts : Trees) (forest : Forest) (n : ℕ) → Aligned forest → n < length forest.content → run_of (with_copies source p ts forest) n ≡ run_of forest n
@@ -168,7 +168,7 @@ all_kept source ts forest fits = record {
 
 -- ---- trees
 
-roots_inside : (ts : Trees) (k m : ℕ) → stands_in m (root_numbers k ts) ≡ true → m < k + node_count ts
+roots_inside : (ts : Trees) (k m : ℕ) → is_member m (root_numbers k ts) ≡ true → m < k + node_count ts
 roots_inside NoTrees k m s = cc
 roots_inside (Tree n contents children later) k m s = elim (cases_eq k m) [
   | inl e ↦ omega (arith, e)

@@ -13,8 +13,8 @@ use Rattle.dom_links.specs.CopiedTrees.{HoldCopies}
 use Rattle.dom_links.specs.Forest.{Forest, StandsOnce, forest_of, parent}
 use Rattle.dom_links.specs.Insertions.{Place, after_it, around_it, at_end, at_front, before_it, gap_at, instead_of_children, instead_of_node}
 use Rattle.dom_links.specs.ListMoves.{AllowedList, AreNodes}
-use Rattle.dom_links.specs.Lists.{IsDistinct, stands_in}
-use Rattle.dom_links.specs.Moves.{Gap, after_node, before_node, end_of, front_of}
+use Rattle.dom_links.specs.Lists.{IsDistinct, is_member}
+use Rattle.dom_links.specs.Moves.{InsertionPoint, after_node, before_node, end_of, front_of}
 use Rattle.dom_links.specs.Sound.{IsForest, IsSoundArena, IsHostAncestor, IsParentOrHost, contents_at, is_open, one_step, stays, target, then_step}
 use Rattle.dom_links.specs.Trees.{NoTrees, Tree, Trees, trees, trees_to}
 use Rattle.dom_links.proofs.copies.Copied.{all_copies_keep, parent_kept, node_count-below}
@@ -26,7 +26,7 @@ use Rattle.dom_links.proofs.forest.Places.{cases_Option}
 
 -- ---- the numbers of copies
 
-roots_inside : (k : ℕ) (ts : Trees) (m : ℕ) → stands_in m (root_numbers k ts) ≡ true → (k ≤ m) × (m < k + node_count ts)
+roots_inside : (k : ℕ) (ts : Trees) (m : ℕ) → is_member m (root_numbers k ts) ≡ true → (k ≤ m) × (m < k + node_count ts)
 roots_inside k NoTrees m s = cc
 roots_inside k (Tree n contents children later) m s = elim (cases_Bool (k == m)) [
   | inl t ↦ (let is : k ≡ m = eqb-true k m t in (omega (arith, is), omega (arith, is)))
@@ -39,7 +39,7 @@ roots_inside k (Tree n contents children later) m s = elim (cases_Bool (k == m))
 roots_once : (k : ℕ) (ts : Trees) → IsDistinct (root_numbers k ts)
 roots_once k NoTrees = tt
 roots_once k (Tree n contents children later) = (
-  elim (cases_Bool (stands_in k (root_numbers (k + node_count (Tree n contents children NoTrees)) later))) [
+  elim (cases_Bool (is_member k (root_numbers (k + node_count (Tree n contents children NoTrees)) later))) [
     | inr f ↦ f
     | inl t ↦ (let low = (roots_inside (k + node_count (Tree n contents children NoTrees)) later k t).0 in absurd (omega (arith, low)))
   ],
@@ -112,7 +112,7 @@ trees_move : (source : Forest) (ns : List ℕ) → MayCopy source ns → RootsMo
 unfolding trees
 trees_move source ns may = roots_move source (length source.content) ns may
 
-copies_move : (source forest : Forest) (k : ℕ) (ts : Trees) (m : ℕ) → HoldCopies source ts k forest → RootsMove source ts → 0 < k → stands_in m (root_numbers k ts) ≡ true → stays forest m ≡ false
+copies_move : (source forest : Forest) (k : ℕ) (ts : Trees) (m : ℕ) → HoldCopies source ts k forest → RootsMove source ts → 0 < k → is_member m (root_numbers k ts) ≡ true → stays forest m ≡ false
 copies_move source forest k NoTrees m held moves some s = cc
 copies_move source forest k (Tree n contents children later) m held moves some s = elim (cases_Bool (k == m)) [
   | inl t ↦ (let is : k ≡ m = eqb-true k m t in
@@ -125,18 +125,18 @@ copies_move source forest k (Tree n contents children later) m held moves some s
 -- ---- the whole
 
 -- what stands open stays so
-still_open : (old new : Forest) (gap : Gap) → Extends old new → target gap < length old.content → is_open gap old ≡ true → is_open gap new ≡ true
+still_open : (old new : Forest) (gap : InsertionPoint) → Extends old new → target gap < length old.content → is_open gap old ≡ true → is_open gap new ≡ true
 still_open old new (end_of t) kept known h = ap (λ o. option_map_or children_allowed o false) (kept.contents t known) ∙ h
 still_open old new (front_of t) kept known h = ap (λ o. option_map_or children_allowed o false) (kept.contents t known) ∙ h
 still_open old new (before_node t) kept known h = ap (λ o. not ((t == 0) || option_map_or is_top o false)) (kept.contents t known) ∙ h
 still_open old new (after_node t) kept known h = ap (λ o. not ((t == 0) || option_map_or is_top o false)) (kept.contents t known) ∙ h
 
 -- copies, at a gap among the nodes that stood there before
-pub record AreFresh (source : Forest) (ns : List ℕ) (forest : Forest) (gap : Gap) : Type 0 where
+pub record AreFresh (source : Forest) (ns : List ℕ) (forest : Forest) (gap : InsertionPoint) : Type 0 where
   pub are : AreNodes (copied source ns forest) (copy_numbers source ns forest)
   pub allowed : AllowedList (copied source ns forest) gap (copy_numbers source ns forest)
 
-pub are_fresh : (source : Forest) (ns : List ℕ) (forest : Forest) (gap : Gap) → IsForest source → IsForest forest → MayCopy source ns → target gap < length forest.content → is_open gap forest ≡ true → AreFresh source ns forest gap
+pub are_fresh : (source : Forest) (ns : List ℕ) (forest : Forest) (gap : InsertionPoint) → IsForest source → IsForest forest → MayCopy source ns → target gap < length forest.content → is_open gap forest ≡ true → AreFresh source ns forest gap
 are_fresh source ns forest gap good fine may known open_here =
     let whole = copied source ns forest in
     let base = length forest.content in

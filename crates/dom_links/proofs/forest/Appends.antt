@@ -5,9 +5,9 @@ use Rattle.std.proofs.lemmas.Bool.{cases_Bool, eqb-true, ne_eqb, true≢false}
 use Rattle.std.proofs.lemmas.List.{same_lists, get_or_default, length-map, length_push}
 use Rattle.dom_nodes.specs.declared.node_data.NodeData.{NodeData}
 use Rattle.dom_nodes.specs.Kinds.{contents_named}
-use Rattle.dom_links.specs.Lists.{stands_in, without, map_from}
+use Rattle.dom_links.specs.Lists.{is_member, without, map_from}
 use Rattle.dom_links.specs.Forest.{Forest, StandsOnce, IsArenaOf, children_of, run_of, parent, forest_of}
-use Rattle.dom_links.specs.Moves.{cut}
+use Rattle.dom_links.specs.Moves.{detach}
 use Rattle.dom_links.specs.Sound.{IsHostAncestor, IsParentOrHost, one_step, then_step, AtOrBelow, IsForest, MayPlace, contents_at}
 use Rattle.dom_links.specs.Growth.{with_node, lone, MayAppend}
 use Rattle.dom_links.proofs.forest.Neighbours.{without_one-none}
@@ -20,10 +20,10 @@ use Rattle.dom_links.proofs.forest.Climbs.{contents_at-known}
 use Rattle.dom_links.proofs.forest.Grown.{slice_get-there, new_parentless, run-new, parent-more, contents-more, step-more, ways-more}
 use Rattle.dom_links.proofs.forest.Depth.{parent_inside}
 
--- cutting out a node that stands alone changes nothing
-pub cut-alone : (forest : Forest) (x : ℕ) → StandsOnce forest → Alone forest x → cut (x ∷ []) forest ≡ forest
-cut-alone forest x once lone =
-    let no_child : (p : ℕ) → stands_in x (children_of forest p) ≡ false = λ p. elim (cases_Bool (stands_in x (children_of forest p))) [
+-- detaching a node that stands alone changes nothing
+pub detach-alone : (forest : Forest) (x : ℕ) → StandsOnce forest → Alone forest x → detach (x ∷ []) forest ≡ forest
+detach-alone forest x once lone =
+    let no_child : (p : ℕ) → is_member x (children_of forest p) ≡ false = λ p. elim (cases_Bool (is_member x (children_of forest p))) [
       | inr f ↦ f
       | inl s ↦ (let up = (once.in_children p x s).1 in let none = lone.no_parent in cc)
     ] in
@@ -31,7 +31,7 @@ cut-alone forest x once lone =
     let children : map (without (x ∷ [])) forest.children ≡ forest.children = same_lists (map (without (x ∷ [])) forest.children) forest.children long
     (λ p d h. get_or_default (map (without (x ∷ [])) forest.children) p d [] h ∙ children_mapped (without (x ∷ [])) forest.children p refl
     ∙ without_one-none (children_of forest p) x (no_child p) ∙ get_or_default forest.children p [] d (omega (arith, long))) in
-    let f : ℕ → List ℕ → List ℕ = λ n run. cond (stands_in n (x ∷ [])) (x ∷ []) (without (x ∷ []) run) in
+    let f : ℕ → List ℕ → List ℕ = λ n run. cond (is_member n (x ∷ [])) (x ∷ []) (without (x ∷ []) run) in
     let wide : length (map_from 0 f forest.runs) ≡ length forest.runs = length-map_from 0 f forest.runs in
     let runs : map_from 0 f forest.runs ≡ forest.runs = same_lists (map_from 0 f forest.runs) forest.runs wide
     (λ n d h. let here : n < length forest.runs = omega (arith, wide) in
@@ -39,14 +39,14 @@ cut-alone forest x once lone =
     ∙ get_or_default forest.runs n [] d here) in
     rw (children, runs) refl
   where
-    run_kept : (n : ℕ) → n < length forest.runs → cond (stands_in n (x ∷ [])) (x ∷ []) (without (x ∷ []) (run_of forest n)) ≡ run_of forest n
+    run_kept : (n : ℕ) → n < length forest.runs → cond (is_member n (x ∷ [])) (x ∷ []) (without (x ∷ []) (run_of forest n)) ≡ run_of forest n
     run_kept n here = elim (cases_Bool (x == n)) [
       | inl t ↦ rw (one-stands x n, t) (sym lone.alone ∙ ap (run_of forest) (eqb-true x n t))
-      | inr g ↦ rw (one-stands x n, g) (without_one-none (run_of forest n) x (elim (cases_Bool (stands_in x (run_of forest n))) [
+      | inr g ↦ rw (one-stands x n, g) (without_one-none (run_of forest n) x (elim (cases_Bool (is_member x (run_of forest n))) [
         | inr k ↦ k
         | inl s ↦ (let known : n < length forest.content = omega (arith, once.runs_each) in
             let whole : run_of forest n ≡ x ∷ [] = sym (once.in_run n x s).2 ∙ lone.alone in
-            absurd (true≢false (sym (in_own_run forest n x once known s) ∙ ap (stands_in n) whole ∙ one-stands x n ∙ g)))
+            absurd (true≢false (sym (in_own_run forest n x once known s) ∙ ap (is_member n) whole ∙ one-stands x n ∙ g)))
       ]))
     ]
 

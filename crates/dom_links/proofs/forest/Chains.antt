@@ -6,9 +6,9 @@ use Rattle.std.proofs.lemmas.List.{same_lists, get_or_default, reverse-reverse, 
 use Rattle.std.proofs.lemmas.Bool.{cases_Bool, true≢false, eq-eqb, ne_eqb, eqb-true, eqb-false, or_parts}
 use Rattle.std.proofs.lemmas.Map.Steps.{length-le_from_distinct_below}
 use Rattle.dom_nodes.specs.declared.node_data.TreeNode.{TreeNode}
-use Rattle.dom_links.specs.Lists.{stands_in, IsDistinct, first, after, before, map_from}
+use Rattle.dom_links.specs.Lists.{is_member, IsDistinct, first, after, before, map_from}
 use Rattle.dom_links.specs.Forest.{Forest, IsArenaOf, children_of, parent, siblings, parent_link, prev_link, next_link, chain, children_in, row_in, run_under, forest_of}
-use Rattle.dom_links.proofs.forest.Neighbours.{stands_in-append, after_here, before_here, around, distinct_parts, reverse_around, distinct-reverse, stands_in-reverse}
+use Rattle.dom_links.proofs.forest.Neighbours.{is_member-append, after_here, before_here, around, distinct_parts, reverse_around, distinct-reverse, is_member-reverse}
 use Rattle.dom_links.proofs.forest.Places.{cases_Option, siblings_child, siblings_once, Beside, beside}
 use Rattle.dom_links.proofs.moves.Cuts.{length-contents}
 
@@ -24,14 +24,14 @@ eqb_comm m n = elim (cases_Bool (m == n)) [
   | inr f ↦ f ∙ sym (ne_eqb n m (λ e. eqb-false m n f (sym e)))
 ]
 
-any_stands : (n : ℕ) (ns : List ℕ) → list_any (eqb n) ns ≡ stands_in n ns
+any_stands : (n : ℕ) (ns : List ℕ) → list_any (eqb n) ns ≡ is_member n ns
 any_stands n [] = refl
 any_stands n (m ∷ ms) = rw (any_stands n ms, eqb_comm n m) refl
 
-apart_from : (n : ℕ) (ns : List ℕ) → stands_in n ns ≡ false → AllByRecursion (λ m. eqb n m ≡ false) ns
+apart_from : (n : ℕ) (ns : List ℕ) → is_member n ns ≡ false → AllByRecursion (λ m. eqb n m ≡ false) ns
 apart_from n [] h = tt
 apart_from n (m ∷ ms) h =
-    let two = or_parts (m == n) (stands_in n ms) h in
+    let two = or_parts (m == n) (is_member n ms) h in
     (eqb_comm n m ∙ two.0, apart_from n ms two.1)
 
 apart : (ns : List ℕ) → IsDistinct ns → IsApart eqb ns
@@ -39,27 +39,27 @@ unfolding IsApart
 apart [] d = tt
 apart (n ∷ ns) d = (apart_from n ns d.0, apart ns d.1)
 
-pub length_below : (ns : List ℕ) (n : ℕ) → IsDistinct ns → ((m : ℕ) → stands_in m ns ≡ true → m < n) → length ns ≤ n
+pub length_below : (ns : List ℕ) (n : ℕ) → IsDistinct ns → ((m : ℕ) → is_member m ns ≡ true → m < n) → length ns ≤ n
 length_below ns n d below = length-le_from_distinct_below ns n (apart ns d) (λ q h. below q (sym (any_stands q ns) ∙ h))
 
 -- a chain of links that go from each number of a list to the next goes through the rest of the list
 pub chain_rest : (link : ℕ → Option ℕ) (front back : List ℕ) (most : ℕ) → IsDistinct (front ++ back) →
-    ((n : ℕ) → stands_in n (front ++ back) ≡ true → link n ≡ after (front ++ back) n) → length back ≤ most → chain link most (first back) ≡ back
+    ((n : ℕ) → is_member n (front ++ back) ≡ true → link n ≡ after (front ++ back) n) → length back ≤ most → chain link most (first back) ≡ back
 chain_rest link front [] zero d linked h = refl
 chain_rest link front [] (suc most) d linked h = refl
 chain_rest link front (n ∷ back) zero d linked h = absurd (omega arith)
 chain_rest link front (n ∷ back) (suc most) d linked h =
     let parts = distinct_parts front (n ∷ back) d in
     let here : (n == n) ≡ true = eq-eqb n n refl in
-    let stands : stands_in n (n ∷ back) ≡ true = rw here refl in
-    let not_front : stands_in n front ≡ false = elim (cases_Bool (stands_in n front)) [ inl t ↦ absurd (true≢false (sym stands ∙ parts.2 n t)) | inr f ↦ f ] in
-    let inside : stands_in n (front ++ n ∷ back) ≡ true = stands_in-append front (n ∷ back) n ∙ rw (not_front, here) refl in
+    let stands : is_member n (n ∷ back) ≡ true = rw here refl in
+    let not_front : is_member n front ≡ false = elim (cases_Bool (is_member n front)) [ inl t ↦ absurd (true≢false (sym stands ∙ parts.2 n t)) | inr f ↦ f ] in
+    let inside : is_member n (front ++ n ∷ back) ≡ true = is_member-append front (n ∷ back) n ∙ rw (not_front, here) refl in
     let next : link n ≡ first back = linked n inside ∙ after_here front back n not_front in
     let regroup : (front ++ n ∷ []) ++ back ≡ front ++ n ∷ back = append_assoc front (n ∷ []) back in
     rw next (ap (λ ns. n ∷ ns) (chain_rest link (front ++ n ∷ []) back most (rw regroup d) (rw regroup linked) (omega arith)))
 
 pub chain_all : (link : ℕ → Option ℕ) (ns : List ℕ) (most : ℕ) → IsDistinct ns →
-    ((n : ℕ) → stands_in n ns ≡ true → link n ≡ after ns n) → ((n : ℕ) → stands_in n ns ≡ true → n < most) → chain link most (first ns) ≡ ns
+    ((n : ℕ) → is_member n ns ≡ true → link n ≡ after ns n) → ((n : ℕ) → is_member n ns ≡ true → n < most) → chain link most (first ns) ≡ ns
 chain_all link ns most d linked below = chain_rest link [] ns most d linked (length_below ns most d below)
 
 pub children_in-arena : (forest : Forest) (nodes : List TreeNode) (p : ℕ) → IsArenaOf forest nodes → p < length nodes → children_in nodes p ≡ children_of forest p
@@ -79,9 +79,9 @@ row_in-arena forest nodes n arena h =
     let ns = siblings forest n in
     let once : IsDistinct ns = siblings_once forest n arena.once in
     let parts = around n ns once (arena.once.placed n known) in
-    let below : (m : ℕ) → stands_in m ns ≡ true → m < length nodes = λ m s. (let there : m < length forest.content = Beside.known (beside forest n m arena.once s) in omega arith) in
-    let nexts : (m : ℕ) → stands_in m ns ≡ true → next_link nodes m ≡ after ns m = λ m s. arena.links.nexts m (below m s) ∙ ap (λ ks. after ks m) (Beside.same_siblings (beside forest n m arena.once s)) in
-    let prevs : (m : ℕ) → stands_in m ns ≡ true → prev_link nodes m ≡ before ns m = λ m s. arena.links.prevs m (below m s) ∙ ap (λ ks. before ks m) (Beside.same_siblings (beside forest n m arena.once s)) in
+    let below : (m : ℕ) → is_member m ns ≡ true → m < length nodes = λ m s. (let there : m < length forest.content = Beside.known (beside forest n m arena.once s) in omega arith) in
+    let nexts : (m : ℕ) → is_member m ns ≡ true → next_link nodes m ≡ after ns m = λ m s. arena.links.nexts m (below m s) ∙ ap (λ ks. after ks m) (Beside.same_siblings (beside forest n m arena.once s)) in
+    let prevs : (m : ℕ) → is_member m ns ≡ true → prev_link nodes m ≡ before ns m = λ m s. arena.links.prevs m (below m s) ∙ ap (λ ks. before ks m) (Beside.same_siblings (beside forest n m arena.once s)) in
     let short : length ns ≤ length nodes = length_below ns (length nodes) once below in
     let two : length ns ≡ length (parts.front ++ n ∷ parts.back) = ap length parts.is in
     let forward : chain (next_link nodes) (length nodes) (Some n) ≡ n ∷ parts.back =
@@ -89,7 +89,7 @@ row_in-arena forest nodes n arena h =
     (omega (arith, length-append parts.front (n ∷ parts.back))) in
     let around_back : reverse ns ≡ (reverse parts.back ++ n ∷ []) ++ reverse parts.front = ap reverse parts.is ∙ reverse_around parts.front parts.back n ∙ sym (append_assoc (reverse parts.back) (n ∷ []) (reverse parts.front)) in
     let prev : prev_link nodes n ≡ first (reverse parts.front) = prevs n (arena.once.placed n known) ∙ ap (λ ks. before ks n) parts.is ∙ before_here parts.front parts.back n parts.not_back in
-    let turned : (m : ℕ) → stands_in m (reverse ns) ≡ true → prev_link nodes m ≡ after (reverse ns) m = λ m s. prevs m (sym (stands_in-reverse ns m) ∙ s) in
+    let turned : (m : ℕ) → is_member m (reverse ns) ≡ true → prev_link nodes m ≡ after (reverse ns) m = λ m s. prevs m (sym (is_member-reverse ns m) ∙ s) in
     let backward : chain (prev_link nodes) (length nodes) (prev_link nodes n) ≡ reverse parts.front =
     rw prev (chain_rest (prev_link nodes) (reverse parts.back ++ n ∷ []) (reverse parts.front) (length nodes)
     (subst IsDistinct around_back (distinct-reverse ns once)) (rw around_back at turned)

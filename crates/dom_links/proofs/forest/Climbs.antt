@@ -8,7 +8,7 @@ use Rattle.dom_nodes.specs.declared.node_data.NodeData.{NodeData}
 use Rattle.dom_nodes.specs.declared.node_data.NodeData.TheVariants.{Document, Element, Fragment}
 use Rattle.dom_nodes.specs.declared.node_data.TreeNode.{TreeNode}
 use Rattle.dom_nodes.specs.Kinds.{children_allowed, contents_named, is_element, is_fragment, is_top}
-use Rattle.dom_links.specs.Lists.{stands_in, IsDistinct, first}
+use Rattle.dom_links.specs.Lists.{is_member, IsDistinct, first}
 use Rattle.dom_links.specs.Forest.{Forest, IsArenaOf, StandsOnce, children_of, parent, contents_of, arena_ids}
 use Rattle.dom_links.specs.Sound.{IsParentOrHost, IsHostAncestor, one_step, then_step, contents_at, IsForest, AtOrBelow}
 use Rattle.dom_links.proofs.moves.Cuts.{length-contents, parent_known}
@@ -70,7 +70,7 @@ pub record Climb (forest : Forest) (t x n steps : ℕ) : Type 0 where
   pub met : List ℕ
   pub met_once : IsDistinct met
   pub counted : length met ≡ steps
-  pub met_known : (m : ℕ) → stands_in m met ≡ true → (m < length forest.content) × IsHostAncestor forest n m
+  pub met_known : (m : ℕ) → is_member m met ≡ true → (m < length forest.content) × IsHostAncestor forest n m
   pub known : n < length forest.content
   pub onto : AtOrBelow forest x t → AtOrBelow forest x n
   pub back : AtOrBelow forest x n → AtOrBelow forest x t
@@ -89,7 +89,7 @@ last_step forest _ above _ good h up (then_step x k n way step) = inr (subst (Is
 pub climb_more : (forest : Forest) (nodes : List TreeNode) (t x n above steps : ℕ) → IsArenaOf forest nodes → IsForest forest → Climb forest t x n steps → (n ≡ x → ⊥) → IsParentOrHost forest above n → Climb forest t x above (steps + 1)
 climb_more forest nodes t x n above steps arena good climb ne up = record {
   met = n ∷ climb.met;
-  met_once = (elim (cases_Bool (stands_in n climb.met)) [ inr f ↦ f | inl s ↦ absurd (good.acyclic n (climb.met_known n s).1) ], climb.met_once);
+  met_once = (elim (cases_Bool (is_member n climb.met)) [ inr f ↦ f | inl s ↦ absurd (good.acyclic n (climb.met_known n s).1) ], climb.met_once);
   counted = (let c = climb.counted in omega arith);
   met_known = λ m s. elim (cases_Bool (n == m)) [
     | inl e ↦ (let is = eqb-true n m e in (subst (λ (k : ℕ). k < length forest.content) is climb.known, subst (IsHostAncestor forest above) is (one_step above n up)))
@@ -102,7 +102,7 @@ climb_more forest nodes t x n above steps arena good climb ne up = record {
 
 pub climb_ends : (forest : Forest) (t x n steps : ℕ) → IsForest forest → Climb forest t x n steps → length forest.content ≤ steps → ⊥
 climb_ends forest t x n steps good climb h =
-    let once : stands_in n climb.met ≡ false = elim (cases_Bool (stands_in n climb.met)) [ inr f ↦ f | inl s ↦ absurd (good.acyclic n (climb.met_known n s).1) ] in
+    let once : is_member n climb.met ≡ false = elim (cases_Bool (is_member n climb.met)) [ inr f ↦ f | inl s ↦ absurd (good.acyclic n (climb.met_known n s).1) ] in
     let few : length (n ∷ climb.met) ≤ length forest.content = length_below (n ∷ climb.met) (length forest.content) (once, climb.met_once)
     (λ m s. elim (cases_Bool (n == m)) [
       | inl e ↦ subst (λ (k : ℕ). k < length forest.content) (eqb-true n m e) climb.known
@@ -131,10 +131,10 @@ pub holder_passed : (forest : Forest) (nodes : List TreeNode) (i n : ℕ) (node 
 holder_passed forest nodes i n node arena h is other holds =
     other (ap (λ x. contents_named x.content) is ∙ sym (contents_at-read forest nodes i node arena h) ∙ holds)
 
-child_stands : (forest : Forest) (n p : ℕ) → StandsOnce forest → parent forest n ≡ Some p → stands_in n (children_of forest p) ≡ true
+child_stands : (forest : Forest) (n p : ℕ) → StandsOnce forest → parent forest n ≡ Some p → is_member n (children_of forest p) ≡ true
 child_stands forest n p once child =
     let known : n < length forest.content = elim (cases_lt n (length forest.content)) [ inl h ↦ h | inr past ↦ (let none = new_parentless forest n once past in cc) ] in
-    subst (λ (ns : List ℕ). stands_in n ns ≡ true) (siblings_child forest n p child) (once.placed n known)
+    subst (λ (ns : List ℕ). is_member n ns ≡ true) (siblings_child forest n p child) (once.placed n known)
 
 -- a node without children and contents reaches none
 pub leaf_reaches_none : (forest : Forest) (nodes : List TreeNode) (x n : ℕ) (node : TreeNode) → IsArenaOf forest nodes → x < length nodes → node ≡ get_or nodes x node →
@@ -142,8 +142,8 @@ pub leaf_reaches_none : (forest : Forest) (nodes : List TreeNode) (x n : ℕ) (n
 leaf_reaches_none forest nodes _ _ node arena here is no_child no_contents (one_step x n (inl child)) =
     let read = slice_get_read nodes (length nodes) x node refl here is in
     let firsts : first (children_of forest x) ≡ None = sym (node_read forest nodes x node arena read).first_is ∙ no_child in
-    let stands : stands_in n (children_of forest x) ≡ true = child_stands forest n x arena.once child in
-    let lacks : stands_in n (children_of forest x) ≡ false = ap (stands_in n) (first_none (children_of forest x) firsts) in
+    let stands : is_member n (children_of forest x) ≡ true = child_stands forest n x arena.once child in
+    let lacks : is_member n (children_of forest x) ≡ false = ap (is_member n) (first_none (children_of forest x) firsts) in
     cc
 leaf_reaches_none forest nodes _ _ node arena here is no_child no_contents (one_step x n (inr held)) =
     let read : contents_at forest x ≡ contents_named node.content = contents_at-read forest nodes x node arena here ∙ ap (λ z. contents_named z.content) (sym is) in

@@ -3,7 +3,7 @@ use Rattle.std.proofs.Common.{ℕ, zero, suc, ◌≡◌, ◌<◌, ◌≤◌, ◌
 use Rattle.std.specs.Prelude.{◌==◌}
 use Rattle.std.proofs.lemmas.Bool.{cases_Bool, eqb-true, eq-eqb, cases_lt}
 use Rattle.dom_nodes.specs.Kinds.{is_fragment, children_allowed}
-use Rattle.dom_links.specs.Lists.{stands_in, IsDistinct}
+use Rattle.dom_links.specs.Lists.{is_member, IsDistinct}
 use Rattle.dom_links.specs.Forest.{Forest, children_of, parent, chain}
 use Rattle.dom_links.specs.Sound.{IsParentOrHost, IsHostAncestor, one_step, then_step, children_allowed_at, contents_at, IsForest}
 use Rattle.dom_links.specs.Trees.{NoTrees, Tree, contents_list, trees_to, trees, upward, ancestors}
@@ -13,7 +13,7 @@ use Rattle.dom_links.proofs.moves.Acyclicity.{onward}
 use Rattle.dom_links.proofs.forest.Grown.{new_parentless, within}
 
 -- a list of other nodes than n is shorter than there are nodes
-short : (forest : Forest) (met : List ℕ) (n : ℕ) → n < length forest.content → IsDistinct met → ((m : ℕ) → stands_in m met ≡ true → m < length forest.content) → stands_in n met ≡ false → length met < length forest.content
+short : (forest : Forest) (met : List ℕ) (n : ℕ) → n < length forest.content → IsDistinct met → ((m : ℕ) → is_member m met ≡ true → m < length forest.content) → is_member n met ≡ false → length met < length forest.content
 short forest met n known once inside new =
     let few : length (n ∷ met) ≤ length forest.content = length_below (n ∷ met) (length forest.content) (new, once)
     (λ m s. elim (cases_Bool (n == m)) [
@@ -30,27 +30,27 @@ step_inside forest m n good (inl p) = elim (cases_lt n (length forest.content)) 
   | inr past ↦ (let none = new_parentless forest n good.once past in cc)
 ]
 
-pub here_stands : (n : ℕ) (ns : List ℕ) → stands_in n (n ∷ ns) ≡ true
+pub here_stands : (n : ℕ) (ns : List ℕ) → is_member n (n ∷ ns) ≡ true
 here_stands n ns = rw (eq-eqb n n refl) refl
 
-pub later_stands : (n m : ℕ) (ns : List ℕ) → stands_in m ns ≡ true → stands_in m (n ∷ ns) ≡ true
+pub later_stands : (n m : ℕ) (ns : List ℕ) → is_member m ns ≡ true → is_member m (n ∷ ns) ≡ true
 later_stands n m ns s = elim (cases_Bool (n == m)) [ inl t ↦ rw t refl | inr f ↦ rw f s ]
 
 -- nodes were met, each once, on ways that lead down to ns
 pub record Down (forest : Forest) (met ns : List ℕ) : Type 0 where
   once : IsDistinct met
-  inside : (m : ℕ) → stands_in m met ≡ true → m < length forest.content
-  known : (n : ℕ) → stands_in n ns ≡ true → n < length forest.content
-  onto : (m n : ℕ) → stands_in m met ≡ true → stands_in n ns ≡ true → IsHostAncestor forest m n
+  inside : (m : ℕ) → is_member m met ≡ true → m < length forest.content
+  known : (n : ℕ) → is_member n ns ≡ true → n < length forest.content
+  onto : (m n : ℕ) → is_member m met ≡ true → is_member n ns ≡ true → IsHostAncestor forest m n
 
-down_new : (forest : Forest) (met ns : List ℕ) (n : ℕ) → IsForest forest → Down forest met (n ∷ ns) → stands_in n met ≡ false
-down_new forest met ns n good down = elim (cases_Bool (stands_in n met)) [
+down_new : (forest : Forest) (met ns : List ℕ) (n : ℕ) → IsForest forest → Down forest met (n ∷ ns) → is_member n met ≡ false
+down_new forest met ns n good down = elim (cases_Bool (is_member n met)) [
   | inr f ↦ f
   | inl s ↦ absurd (good.acyclic n (down.onto n n s (here_stands n ns)))
 ]
 
 -- one step further down
-deeper : (forest : Forest) (met ns : List ℕ) (n : ℕ) (ks : List ℕ) → IsForest forest → Down forest met (n ∷ ns) → ((k : ℕ) → stands_in k ks ≡ true → IsParentOrHost forest n k) → Down forest (n ∷ met) ks
+deeper : (forest : Forest) (met ns : List ℕ) (n : ℕ) (ks : List ℕ) → IsForest forest → Down forest met (n ∷ ns) → ((k : ℕ) → is_member k ks ≡ true → IsParentOrHost forest n k) → Down forest (n ∷ met) ks
 deeper forest met ns n ks good down steps = record {
   once = (down_new forest met ns n good down, down.once);
   inside = λ m s. elim (cases_Bool (n == m)) [
@@ -72,16 +72,16 @@ beside_it forest met ns n down = record {
   onto = λ m k s t. down.onto m k s (later_stands n k ns t);
 }
 
-pub child_step : (forest : Forest) (n k : ℕ) → IsForest forest → stands_in k (children_of forest n) ≡ true → IsParentOrHost forest n k
+pub child_step : (forest : Forest) (n k : ℕ) → IsForest forest → is_member k (children_of forest n) ≡ true → IsParentOrHost forest n k
 child_step forest n k good s = inl (good.once.in_children n k s).1
 
-contents_step : (forest : Forest) (n k : ℕ) → stands_in k (contents_list forest n) ≡ true → IsParentOrHost forest n k
+contents_step : (forest : Forest) (n k : ℕ) → is_member k (contents_list forest n) ≡ true → IsParentOrHost forest n k
 contents_step forest n k s = elim (cases_Option (contents_at forest n)) [
   | inl none ↦ (let no = rw none at s in cc)
   | inr (c, some) ↦ (let one = rw some at s in inr (some ∙ ap Some (only c one)))
 ]
   where
-    only : (c : ℕ) → stands_in k (c ∷ []) ≡ true → c ≡ k
+    only : (c : ℕ) → is_member k (c ∷ []) ≡ true → c ≡ k
     only c one = elim (cases_Bool (c == k)) [ inl t ↦ eqb-true c k t | inr f ↦ (let no = rw f at one in cc) ]
 
 -- one step more adds nothing, where with the nodes met there are steps enough
@@ -96,7 +96,7 @@ trees_stay forest (suc most) met (n ∷ ns) good down enough =
     let others = trees_stay forest (suc most) met ns good (beside_it forest met ns n down) enough in
     cc
 
-pub start_down : (forest : Forest) (ns : List ℕ) → ((n : ℕ) → stands_in n ns ≡ true → n < length forest.content) → Down forest [] ns
+pub start_down : (forest : Forest) (ns : List ℕ) → ((n : ℕ) → is_member n ns ≡ true → n < length forest.content) → Down forest [] ns
 start_down forest ns known = record { once = tt; inside = λ m s. cc; known = known; onto = λ m n s t. cc }
 
 pub trees-none : (forest : Forest) → trees forest [] ≡ NoTrees
@@ -104,7 +104,7 @@ unfolding trees
 trees-none forest = refl
 
 -- the trees of some nodes: the first one with its contents and its children, and the trees of the others
-pub trees-some : (forest : Forest) (n : ℕ) (ns : List ℕ) → IsForest forest → ((m : ℕ) → stands_in m (n ∷ ns) ≡ true → m < length forest.content) →
+pub trees-some : (forest : Forest) (n : ℕ) (ns : List ℕ) → IsForest forest → ((m : ℕ) → is_member m (n ∷ ns) ≡ true → m < length forest.content) →
     trees forest (n ∷ ns) ≡ Tree n (trees forest (contents_list forest n)) (trees forest (children_of forest n)) (trees forest ns)
 unfolding trees
 trees-some forest n ns good known =
@@ -115,12 +115,12 @@ trees-some forest n ns good known =
 -- nodes were met, each once, on a way up that goes on here
 record Up (forest : Forest) (met : List ℕ) (from : Option ℕ) : Type 0 where
   once : IsDistinct met
-  inside : (m : ℕ) → stands_in m met ≡ true → m < length forest.content
+  inside : (m : ℕ) → is_member m met ≡ true → m < length forest.content
   known : (n : ℕ) → from ≡ Some n → n < length forest.content
-  onto : (n m : ℕ) → from ≡ Some n → stands_in m met ≡ true → IsHostAncestor forest n m
+  onto : (n m : ℕ) → from ≡ Some n → is_member m met ≡ true → IsHostAncestor forest n m
 
-up_new : (forest : Forest) (met : List ℕ) (n : ℕ) → IsForest forest → Up forest met (Some n) → stands_in n met ≡ false
-up_new forest met n good up = elim (cases_Bool (stands_in n met)) [
+up_new : (forest : Forest) (met : List ℕ) (n : ℕ) → IsForest forest → Up forest met (Some n) → is_member n met ≡ false
+up_new forest met n good up = elim (cases_Bool (is_member n met)) [
   | inr f ↦ f
   | inl s ↦ absurd (good.acyclic n (up.onto n n refl s))
 ]

@@ -8,7 +8,7 @@ use Rattle.std.proofs.lemmas.Option.{slice_get_past}
 use Rattle.dom_nodes.specs.declared.node_data.NodeData.{NodeData}
 use Rattle.dom_nodes.specs.declared.node_data.TreeNode.{TreeNode}
 use Rattle.dom_nodes.specs.Kinds.{contents_named, is_fragment, is_top, children_allowed}
-use Rattle.dom_links.specs.Lists.{stands_in, IsDistinct, first, last, after, before}
+use Rattle.dom_links.specs.Lists.{is_member, IsDistinct, first, last, after, before}
 use Rattle.dom_links.specs.Forest.{Forest, StandsOnce, AreLinks, IsArenaOf, children_of, run_of, owner_from, parent, siblings, arena_ids, forest_of}
 use Rattle.dom_links.specs.Sound.{IsParentOrHost, IsHostAncestor, one_step, then_step, contents_at, IsForest}
 use Rattle.dom_links.specs.Growth.{with_node, HasFreeContents, Created}
@@ -71,9 +71,9 @@ new_parentless forest n once h = elim (cases_Option (parent forest n)) [
   | inr (p, some) ↦ absurd (unknown_owner 0 forest.children n p some (λ q s. (let known : n < length forest.content = (once.in_children q n s).0 in omega arith)))
 ]
   where
-    unknown_owner : (i : ℕ) (lists : List (List ℕ)) (n p : ℕ) → owner_from i lists n ≡ Some p → ((q : ℕ) → stands_in n (get_or lists q []) ≡ true → ⊥) → ⊥
+    unknown_owner : (i : ℕ) (lists : List (List ℕ)) (n p : ℕ) → owner_from i lists n ≡ Some p → ((q : ℕ) → is_member n (get_or lists q []) ≡ true → ⊥) → ⊥
     unknown_owner i [] n p e none = cc
-    unknown_owner i (ns ∷ lists) n p e none = elim (cases_Bool (stands_in n ns)) [
+    unknown_owner i (ns ∷ lists) n p e none = elim (cases_Bool (is_member n ns)) [
       | inl t ↦ none 0 t
       | inr f ↦ unknown_owner (i + 1) lists n p (rw f at e) (λ q s. none (suc q) s)
     ]
@@ -106,19 +106,19 @@ once-more content forest once =
       runs_each = length_push forest.runs (length forest.content ∷ []) ∙ ap (λ (k : ℕ). k + 1) once.runs_each ∙ sym long;
       placed = λ n h. elim (cases_lt n (length forest.content)) [
         | inl here ↦ rw (siblings-more content forest n once here) (once.placed n here)
-        | inr past ↦ (let e : n ≡ length forest.content = omega arith in ap (stands_in n) (siblings-new content forest n once e) ∙ one-stands n n ∙ eq-eqb n n refl)
+        | inr past ↦ (let e : n ≡ length forest.content = omega arith in ap (is_member n) (siblings-new content forest n once e) ∙ one-stands n n ∙ eq-eqb n n refl)
       ];
-      in_children = λ p n s. (let facts = once.in_children p n (ap (stands_in n) (sym (children-more content forest p)) ∙ s) in
+      in_children = λ p n s. (let facts = once.in_children p n (ap (is_member n) (sym (children-more content forest p)) ∙ s) in
           let known : n < length forest.content = facts.0 in (omega arith, parent-more content forest n ∙ facts.1));
       in_run = λ m n s. elim (run_cases content forest m once) [
-        | inl both ↦ (let facts = once.in_run m n (ap (stands_in n) (sym both.1) ∙ s) in
+        | inl both ↦ (let facts = once.in_run m n (ap (is_member n) (sym both.1) ∙ s) in
             let known : n < length forest.content = facts.0 in
             (omega arith, parent-more content forest n ∙ facts.1, run-more content forest n once known ∙ facts.2 ∙ sym both.1))
         | inr other ↦ (elim other [
-          | inl both ↦ (let is : m ≡ n = eqb-true m n (sym (one-stands m n) ∙ ap (stands_in n) (sym both.1) ∙ s) in
+          | inl both ↦ (let is : m ≡ n = eqb-true m n (sym (one-stands m n) ∙ ap (is_member n) (sym both.1) ∙ s) in
               let new : m ≡ length forest.content = both.0 in
               (omega arith, parent-more content forest n ∙ new_parentless forest n once (omega arith), ap (run_of (with_node content forest)) (sym is)))
-          | inr none ↦ absurd (true≢false (sym s ∙ ap (stands_in n) none))
+          | inr none ↦ absurd (true≢false (sym s ∙ ap (is_member n) none))
         ])
       ];
       children_once = λ p. subst IsDistinct (sym (children-more content forest p)) (once.children_once p);

@@ -8,7 +8,7 @@ use Rattle.std.proofs.lemmas.Option.{slice_get_past}
 use Rattle.dom_nodes.specs.declared.node_data.NodeData.{NodeData}
 use Rattle.dom_nodes.specs.declared.node_data.TreeNode.{TreeNode}
 use Rattle.dom_nodes.specs.Kinds.{children_allowed}
-use Rattle.dom_links.specs.Lists.{stands_in, first, last, names}
+use Rattle.dom_links.specs.Lists.{is_member, first, last, names}
 use Rattle.dom_links.specs.Forest.{Forest, IsArenaOf, children_of, run_of, parent, forest_of, next_link, chain}
 use Rattle.dom_links.specs.Moves.{end_of, put, moved_to}
 use Rattle.dom_links.specs.Sound.{IsForest}
@@ -22,7 +22,7 @@ use Rattle.dom_links.proofs.moves.Kept.{forest-moved}
 use Rattle.dom_links.proofs.moves.BlockMoves.{run_put}
 use Rattle.dom_links.proofs.moves.Attach.{last_known, read_last}
 use Rattle.dom_links.proofs.forest.Grown.{children-more, link-more, link-new, test-more, once-more, forest-more, IsBare, created}
-use Rattle.dom_links.proofs.forest.Appends.{cut-alone, new_alone, may_place_new}
+use Rattle.dom_links.proofs.forest.Appends.{detach-alone, new_alone, may_place_new}
 
 -- ---- links of an arena with one node more
 
@@ -164,13 +164,13 @@ linked_last old new t left content arena known is links =
     let alone = subst (Alone more) is_new (new_alone content forest arena.once) in
     let stands : IsArenaOf more lone = subst (λ (f : Forest). IsArenaOf f lone) made.made made.linked in
     let within : t < length lone = omega (arith, length_push old (new_node x None None content)) in
-    let apart : stands_in t (run_of more x) ≡ false = ap (stands_in t) alone.alone ∙ one-stands x t ∙ ne_eqb x t (λ e. omega (arith, e)) in
+    let apart : is_member t (run_of more x) ≡ false = ap (is_member t) alone.alone ∙ one-stands x t ∙ ne_eqb x t (λ e. omega (arith, e)) in
     let ends : left ≡ last (children_of more t) = is ∙ ap last (sym (children-more content forest t)) in
     let put_there = run_put more lone new (end_of t) x (Some t) left None stands (record { no_parent = alone.no_parent; starts = ap first alone.alone }) within apart refl ends refl (attached old new t left content left_known links) in
     let there : IsArenaOf (with_child t content forest) new =
     subst (λ (ns : List ℕ). IsArenaOf (put (end_of t) ns more) new) (alone.alone ∙ ap (λ (k : ℕ). k ∷ []) (sym is_new)) put_there in
     let whole : moved_to (length forest.content ∷ []) (end_of t) more ≡ with_child t content forest =
-    ap (put (end_of t) (length forest.content ∷ [])) (cut-alone more (length forest.content) (once-more content forest arena.once) (new_alone content forest arena.once)) in
+    ap (put (end_of t) (length forest.content ∷ [])) (detach-alone more (length forest.content) (once-more content forest arena.once) (new_alone content forest arena.once)) in
     let is_so : forest_of new ≡ with_child t content forest = forest_of-arena (with_child t content forest) new there in
     record {
       made = is_so;

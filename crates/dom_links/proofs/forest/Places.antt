@@ -2,10 +2,10 @@
 use Rattle.std.proofs.Common.{ℕ, zero, suc, ◌≡◌, ◌<◌, ◌≤◌, ◌+◌, true, false, List, [], ◌∷◌, Option, Some, None, refl, sym, ap, ◌∙◌, subst, arith, cond, inl, inr, ◌⊎◌, length, map, get_or}
 use Rattle.std.specs.Prelude.{◌&&◌, not}
 use Rattle.std.proofs.lemmas.List.{get_or_past}
-use Rattle.dom_links.specs.Lists.{stands_in, IsDistinct, without}
+use Rattle.dom_links.specs.Lists.{is_member, IsDistinct, without}
 use Rattle.dom_links.specs.Forest.{Forest, StandsOnce, children_of, run_of, owner_from, parent, children_or, siblings}
 use Rattle.dom_links.specs.Lists.{map_from}
-use Rattle.dom_links.proofs.forest.Neighbours.{stands_in-without}
+use Rattle.dom_links.proofs.forest.Neighbours.{is_member-without}
 
 pub cases_Option : (o : Option ℕ) → (o ≡ None) ⊎ ((p : ℕ) × (o ≡ Some p))
 cases_Option None = inl refl
@@ -29,11 +29,11 @@ pub record Beside (forest : Forest) (n m : ℕ) : Type 0 where
   pub same_parent : parent forest m ≡ parent forest n
   pub same_siblings : siblings forest m ≡ siblings forest n
 
-pub beside : (forest : Forest) (n m : ℕ) → StandsOnce forest → stands_in m (siblings forest n) ≡ true → Beside forest n m
+pub beside : (forest : Forest) (n m : ℕ) → StandsOnce forest → is_member m (siblings forest n) ≡ true → Beside forest n m
 beside forest n m once h = elim (cases_Option (parent forest n)) [
-  | inl e ↦ (let facts = once.in_run n m (subst (λ (ns : List ℕ). stands_in m ns ≡ true) (siblings_run forest n e) h) in
+  | inl e ↦ (let facts = once.in_run n m (subst (λ (ns : List ℕ). is_member m ns ≡ true) (siblings_run forest n e) h) in
       record { known = facts.0; same_parent = facts.1 ∙ sym e; same_siblings = siblings_run forest m facts.1 ∙ facts.2 ∙ sym (siblings_run forest n e) })
-  | inr (p, e) ↦ (let facts = once.in_children p m (subst (λ (ns : List ℕ). stands_in m ns ≡ true) (siblings_child forest n p e) h) in
+  | inr (p, e) ↦ (let facts = once.in_children p m (subst (λ (ns : List ℕ). is_member m ns ≡ true) (siblings_child forest n p e) h) in
       record { known = facts.0; same_parent = facts.1 ∙ sym e; same_siblings = siblings_child forest m p facts.1 ∙ sym (siblings_child forest n p e) })
 ]
 
@@ -59,13 +59,13 @@ length-map_from i f [] = refl
 length-map_from i f (ns ∷ lists) = ap suc (length-map_from (i + 1) f lists)
 
 pub owner-without : (i : ℕ) (moved : List ℕ) (lists : List (List ℕ)) (n : ℕ) →
-    owner_from i (map (without moved) lists) n ≡ cond (stands_in n moved) None (owner_from i lists n)
-owner-without i moved [] n = elim (stands_in n moved) as (λ t. None ≡ cond {A = Option ℕ} t None None) [ true ↦ refl | false ↦ refl ]
+    owner_from i (map (without moved) lists) n ≡ cond (is_member n moved) None (owner_from i lists n)
+owner-without i moved [] n = elim (is_member n moved) as (λ t. None ≡ cond {A = Option ℕ} t None None) [ true ↦ refl | false ↦ refl ]
 owner-without i moved (ns ∷ lists) n =
-    rw (stands_in-without moved ns n, owner-without (i + 1) moved lists n)
-    (elim (stands_in n moved) as (λ t. cond (stands_in n ns && not t) (Some i) (cond t None (owner_from (i + 1) lists n)) ≡ cond t None (cond (stands_in n ns) (Some i) (owner_from (i + 1) lists n))) [
-      | true ↦ (elim (stands_in n ns) as (λ u. cond (u && false) (Some i) None ≡ None) [ true ↦ refl | false ↦ refl ])
-      | false ↦ (elim (stands_in n ns) as (λ u. cond (u && true) (Some i) (owner_from (i + 1) lists n) ≡ cond u (Some i) (owner_from (i + 1) lists n)) [ true ↦ refl | false ↦ refl ])
+    rw (is_member-without moved ns n, owner-without (i + 1) moved lists n)
+    (elim (is_member n moved) as (λ t. cond (is_member n ns && not t) (Some i) (cond t None (owner_from (i + 1) lists n)) ≡ cond t None (cond (is_member n ns) (Some i) (owner_from (i + 1) lists n))) [
+      | true ↦ (elim (is_member n ns) as (λ u. cond (u && false) (Some i) None ≡ None) [ true ↦ refl | false ↦ refl ])
+      | false ↦ (elim (is_member n ns) as (λ u. cond (u && true) (Some i) (owner_from (i + 1) lists n) ≡ cond u (Some i) (owner_from (i + 1) lists n)) [ true ↦ refl | false ↦ refl ])
     ])
 
 pub get_or-map_past : (f : ℕ → List ℕ → List ℕ) (lists : List (List ℕ)) (n : ℕ) → length lists ≤ n → get_or (map_from 0 f lists) n [] ≡ []

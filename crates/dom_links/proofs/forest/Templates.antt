@@ -8,7 +8,7 @@ use Rattle.dom_nodes.specs.declared.node_data.NodeData.{NodeData}
 use Rattle.dom_nodes.specs.declared.node_data.NodeData.TheVariants.{Fragment, Text}
 use Rattle.dom_nodes.specs.declared.node_data.TreeNode.{TreeNode}
 use Rattle.dom_nodes.specs.Kinds.{contents_named, is_fragment, is_top, children_allowed}
-use Rattle.dom_links.specs.Lists.{stands_in, map_from}
+use Rattle.dom_links.specs.Lists.{is_member, map_from}
 use Rattle.dom_links.specs.Forest.{Forest, StandsOnce, IsArenaOf, forest_of}
 use Rattle.dom_links.specs.Moves.{end_of, children_with, run_with, put, moved_to}
 use Rattle.dom_links.specs.Sound.{IsParentOrHost, IsHostAncestor, one_step, then_step, contents_at, stays, IsForest, Moved}
@@ -20,7 +20,7 @@ use Rattle.dom_links.proofs.forest.Climbs.{contents_at-known}
 use Rattle.dom_links.proofs.moves.Kept.{forest-moved}
 use Rattle.dom_links.proofs.forest.Depth.{parent_inside}
 use Rattle.dom_links.proofs.forest.Grown.{within, get_or-before, get_or-there, run-more, slice_get-there, test-more, once-more, parent-more, contents-more, forest-more}
-use Rattle.dom_links.proofs.forest.Appends.{cut-alone, new_alone, may_place_new}
+use Rattle.dom_links.proofs.forest.Appends.{detach-alone, new_alone, may_place_new}
 
 -- ---- a node more does not matter to what is put elsewhere
 
@@ -62,9 +62,9 @@ put-more new forest t n once ht hn =
         let own : List ℕ = length forest.content ∷ [] in
         let long = length-map_from 0 h forest.runs in
         elim (cases_lt k (length forest.runs)) [
-          | inl here ↦ ap (λ (ns : List ℕ). cond (stands_in k (n ∷ [])) [] ns) (get_or-before forest.runs own k here) ∙ sym (get_or-before (map_from 0 h forest.runs) own k (omega (arith, long)) ∙ get_or-map_all h forest.runs k here)
+          | inl here ↦ ap (λ (ns : List ℕ). cond (is_member k (n ∷ [])) [] ns) (get_or-before forest.runs own k here) ∙ sym (get_or-before (map_from 0 h forest.runs) own k (omega (arith, long)) ∙ get_or-map_all h forest.runs k here)
           | inr past ↦
-              (let other : stands_in k (n ∷ []) ≡ false = one-stands n k ∙ ne_eqb n k (λ e. omega (arith, e, once.runs_each)) in
+              (let other : is_member k (n ∷ []) ≡ false = one-stands n k ∙ ne_eqb n k (λ e. omega (arith, e, once.runs_each)) in
               ap (λ (b : Bool). cond b [] (get_or (forest.runs ++ own ∷ []) k [])) other ∙ get_or-there forest.runs own k (omega arith) ∙ sym (get_or-there (map_from 0 h forest.runs) own k (omega (arith, long))))
         ]
 
@@ -180,7 +180,7 @@ child_kept forest t content good may =
     let more = length_push forest.content content in
     let known = may.target_known in
     let whole : moved_to (n ∷ []) (end_of t) (with_node content forest) ≡ with_child t content forest =
-    ap (put (end_of t) (n ∷ [])) (cut-alone (with_node content forest) n (once-more content forest good.once) (new_alone content forest good.once)) in
+    ap (put (end_of t) (n ∷ [])) (detach-alone (with_node content forest) n (once-more content forest good.once) (new_alone content forest good.once)) in
     subst IsForest whole
     (forest-moved (with_node content forest) (end_of t) n (forest-more content forest good may.free) (omega arith) (omega arith)
     (test-more children_allowed forest.content content t may.open_here) (may_place_new content forest t good may))
@@ -257,7 +257,7 @@ appended_template old mid one new t x content arena number target created' secon
     } in
     let two : forest_of one ≡ with_node Fragment made = second.made ∙ ap (with_node Fragment) created'.made in
     let whole : moved_to (n ∷ []) (end_of t) (with_node Fragment made) ≡ with_template t content forest =
-    ap (put (end_of t) (n ∷ [])) (cut-alone (with_node Fragment made) n (once-more Fragment made once) still) ∙ put-more Fragment made t n once (omega (arith, more)) (omega (arith, more)) in
+    ap (put (end_of t) (n ∷ [])) (detach-alone (with_node Fragment made) n (once-more Fragment made once) still) ∙ put-more Fragment made t n once (omega (arith, more)) (omega (arith, more)) in
     let is : forest_of new ≡ with_template t content forest = moved.made ∙ ap (λ (k : ℕ). moved_to (k ∷ []) (end_of t) (forest_of one)) is_new ∙ ap (moved_to (n ∷ []) (end_of t)) two ∙ whole in
     record {
       made = is;

@@ -4,11 +4,11 @@ use Rattle.std.specs.Prelude.{◌==◌}
 use Rattle.std.specs.Option.{IfSome}
 use Rattle.std.proofs.lemmas.Bool.{eq-eqb, eqb-true, or_parts}
 use Rattle.dom_nodes.specs.declared.node_data.TreeNode.{TreeNode}
-use Rattle.dom_links.specs.declared.gap.Moving.{Moving}
-use Rattle.dom_links.specs.declared.gap.Moving.TheVariants.{Node, WithLater, WholeList}
-use Rattle.dom_links.specs.Lists.{stands_in, first, last, after, before, names}
+use Rattle.dom_links.specs.declared.gap.MovedNodes.{MovedNodes}
+use Rattle.dom_links.specs.declared.gap.MovedNodes.TheVariants.{Node, WithLater, WholeList}
+use Rattle.dom_links.specs.Lists.{is_member, first, last, after, before, names}
 use Rattle.dom_links.specs.Forest.{Forest, StandsOnce, IsArenaOf, forest_of, children_of, parent, run_of, siblings, next_link}
-use Rattle.dom_links.specs.Moves.{Gap, end_of, front_of, before_node, after_node, put, cut, owner_at, before_gap, after_gap, StartsRun}
+use Rattle.dom_links.specs.Moves.{InsertionPoint, end_of, front_of, before_node, after_node, put, detach, owner_at, before_gap, after_gap, StartsRun}
 use Rattle.dom_links.specs.Sound.{MayPlace, Moved, target}
 use Rattle.dom_links.specs.Walk.{rest_after}
 use Rattle.dom_links.specs.Writes.{Joined}
@@ -24,10 +24,10 @@ use Rattle.dom_links.proofs.moves.BlockFills.{AreAlone, arena-put}
 use Rattle.dom_links.proofs.moves.BlockGaps.{put-end_of, put-front_of, put-before, put-after}
 use Rattle.dom_links.proofs.moves.BlockKept.{alone-cut_list, list_moved}
 
-pub rest_here : (front back : List ℕ) (x : ℕ) → stands_in x front ≡ false → rest_after (front ++ x ∷ back) x ≡ back
+pub rest_here : (front back : List ℕ) (x : ℕ) → is_member x front ≡ false → rest_after (front ++ x ∷ back) x ≡ back
 rest_here [] back x h = rw (eq-eqb x x refl) refl
 rest_here (n ∷ front) back x h =
-    let two = or_parts (n == x) (stands_in x front) h in
+    let two = or_parts (n == x) (is_member x front) h in
     let off : (n == x) ≡ false = two.0 in
     rw off (rest_here front back x two.1)
 
@@ -63,7 +63,7 @@ nexts_known_opened forest old shortened opened x owner left arena join open' n h
     (elim (names left n) as (λ t. IfSome (cond t None (next_link old n)) (λ m. m < length old)) [ true ↦ tt | false ↦ nexts_known forest old arena n (omega arith) ]))
 
 pub cut_freed : (forest : Forest) (old shortened opened new : List TreeNode) (x : ℕ) (owner left : Option ℕ) → IsArenaOf forest old → x < length old → owner ≡ parent forest x → left ≡ before (siblings forest x) x →
-    Joined old shortened owner left None → Joined shortened opened None None (Some x) → ParentsSet opened new (next_chain opened x) None → IsArenaOf (cut (with_later forest x) forest) new
+    Joined old shortened owner left None → Joined shortened opened None None (Some x) → ParentsSet opened new (next_chain opened x) None → IsArenaOf (detach (with_later forest x) forest) new
 cut_freed forest old shortened opened new x owner left arena h o l join open' set =
     let long : length old ≡ length forest.content = length-contents forest old arena.links in
     let it = tailed forest x arena.once (omega arith) in
@@ -84,8 +84,8 @@ run_alone forest x once run = record {
   alone = λ n s. (once.in_run x n s).2;
 }
 
-pub run_put : (forest : Forest) (old new : List TreeNode) (gap : Gap) (x : ℕ) (owner left right : Option ℕ) → IsArenaOf forest old → StartsRun forest x → target gap < length old →
-    stands_in (target gap) (run_of forest x) ≡ false → owner ≡ owner_at gap forest → left ≡ before_gap gap forest → right ≡ after_gap gap forest → RunAttached old new x owner left right →
+pub run_put : (forest : Forest) (old new : List TreeNode) (gap : InsertionPoint) (x : ℕ) (owner left right : Option ℕ) → IsArenaOf forest old → StartsRun forest x → target gap < length old →
+    is_member (target gap) (run_of forest x) ≡ false → owner ≡ owner_at gap forest → left ≡ before_gap gap forest → right ≡ after_gap gap forest → RunAttached old new x owner left right →
     IsArenaOf (put gap (run_of forest x) forest) new
 run_put forest old new (end_of t) x owner left right arena run h out o l r attached =
     let moved = run_of forest x in
@@ -122,43 +122,43 @@ start_known forest nodes x arena run =
 
 -- what a gap names is in the forest
 
-pub owner_known : (forest : Forest) (nodes : List TreeNode) (gap : Gap) (o : Option ℕ) → IsArenaOf forest nodes → target gap < length nodes → o ≡ owner_at gap forest → IfSome o (λ m. m < length nodes)
+pub owner_known : (forest : Forest) (nodes : List TreeNode) (gap : InsertionPoint) (o : Option ℕ) → IsArenaOf forest nodes → target gap < length nodes → o ≡ owner_at gap forest → IfSome o (λ m. m < length nodes)
 owner_known forest nodes (end_of t) o arena h e = rw e h
 owner_known forest nodes (front_of t) o arena h e = rw e h
 owner_known forest nodes (before_node t) o arena h e = parent_known forest nodes t o arena h e
 owner_known forest nodes (after_node t) o arena h e = parent_known forest nodes t o arena h e
 
-pub left_known : (forest : Forest) (nodes : List TreeNode) (gap : Gap) (o : Option ℕ) → IsArenaOf forest nodes → target gap < length nodes → o ≡ before_gap gap forest → IfSome o (λ m. m < length nodes)
+pub left_known : (forest : Forest) (nodes : List TreeNode) (gap : InsertionPoint) (o : Option ℕ) → IsArenaOf forest nodes → target gap < length nodes → o ≡ before_gap gap forest → IfSome o (λ m. m < length nodes)
 left_known forest nodes (end_of t) o arena h e = last_known forest nodes t o arena e
 left_known forest nodes (front_of t) o arena h e = rw e tt
 left_known forest nodes (before_node t) o arena h e = prev_known forest nodes t o arena h e
 left_known forest nodes (after_node t) o arena h e = rw e h
 
-pub right_known : (forest : Forest) (nodes : List TreeNode) (gap : Gap) (o : Option ℕ) → IsArenaOf forest nodes → target gap < length nodes → o ≡ after_gap gap forest → IfSome o (λ m. m < length nodes)
+pub right_known : (forest : Forest) (nodes : List TreeNode) (gap : InsertionPoint) (o : Option ℕ) → IsArenaOf forest nodes → target gap < length nodes → o ≡ after_gap gap forest → IfSome o (λ m. m < length nodes)
 right_known forest nodes (end_of t) o arena h e = rw e tt
 right_known forest nodes (front_of t) o arena h e = first_known forest nodes t o arena e
 right_known forest nodes (before_node t) o arena h e = rw e h
 right_known forest nodes (after_node t) o arena h e = next_known forest nodes t o arena h e
 
--- the nodes that are moved are cut out, and put at a gap
+-- the nodes that are moved are detached, and put at a gap
 
-pub moved_are : (forest : Forest) (moving : Moving) → StandsOnce forest → moving_id moving < length forest.content → AreNodes forest (moved_nodes forest moving)
+pub moved_are : (forest : Forest) (moving : MovedNodes) → StandsOnce forest → moving_id moving < length forest.content → AreNodes forest (moved_nodes forest moving)
 moved_are forest (Node x) once h = one_node forest x h
 moved_are forest (WithLater x) once h = later_are forest x once h
 moved_are forest (WholeList x) once h = record { once = siblings_once forest x once; known = λ n s. Beside.known (beside forest x n once s) }
 
 -- what is known of the run
 pub record IsRun (old middle : List TreeNode) (moved : List ℕ) (x : ℕ) : Type 0 where
-  pub is : forest_of middle ≡ cut moved (forest_of old)
+  pub is : forest_of middle ≡ detach moved (forest_of old)
   pub linked : IsArenaOf (forest_of middle) middle
   pub run : StartsRun (forest_of middle) x
   pub all : run_of (forest_of middle) x ≡ moved
 
-pub is_run : (old middle : List TreeNode) (moved : List ℕ) (x : ℕ) → IsArenaOf (forest_of old) old → AreNodes (forest_of old) moved → IsArenaOf (cut moved (forest_of old)) middle → first moved ≡ Some x → IsRun old middle moved x
+pub is_run : (old middle : List TreeNode) (moved : List ℕ) (x : ℕ) → IsArenaOf (forest_of old) old → AreNodes (forest_of old) moved → IsArenaOf (detach moved (forest_of old)) middle → first moved ≡ Some x → IsRun old middle moved x
 is_run old middle moved x arena are arena' starts =
     let lone = alone-cut_list (forest_of old) moved arena.once are in
-    let is : forest_of middle ≡ cut moved (forest_of old) = forest_of-arena (cut moved (forest_of old)) middle arena' in
-    let inside : stands_in x moved ≡ true = first-stands moved x starts in
+    let is : forest_of middle ≡ detach moved (forest_of old) = forest_of-arena (detach moved (forest_of old)) middle arena' in
+    let inside : is_member x moved ≡ true = first-stands moved x starts in
     record {
       is = is;
       linked = subst (λ (f : Forest). IsArenaOf f middle) (sym is) arena';
@@ -166,27 +166,27 @@ is_run old middle moved x arena are arena' starts =
       all = ap (λ (f : Forest). run_of f x) is ∙ lone.alone x inside;
     }
 
-pub run_moved : (old middle new : List TreeNode) (gap : Gap) (moved : List ℕ) (x : ℕ) → IsArenaOf (forest_of old) old → AreNodes (forest_of old) moved → IsRun old middle moved x →
+pub run_moved : (old middle new : List TreeNode) (gap : InsertionPoint) (moved : List ℕ) (x : ℕ) → IsArenaOf (forest_of old) old → AreNodes (forest_of old) moved → IsRun old middle moved x →
     IsArenaOf (put gap (run_of (forest_of middle) x) (forest_of middle)) new → MovedList old new gap moved
 run_moved old middle new gap moved x arena are out put_there =
     list_moved old new gap moved are (subst (λ (f : Forest). IsArenaOf f new) (ap (λ ns. put gap ns (forest_of middle)) out.all ∙ ap (put gap moved) out.is) put_there)
 
-abbrev pub CutOut : List TreeNode → List TreeNode → Moving → ℕ → Type 0
+abbrev pub CutOut : List TreeNode → List TreeNode → MovedNodes → ℕ → Type 0
 CutOut old middle moving x = IsRun old middle (moved_nodes (forest_of old) moving) x
 
-all_known : (old : List TreeNode) (moving : Moving) → IsArenaOf (forest_of old) old → moving_id moving < length old → AreNodes (forest_of old) (moved_nodes (forest_of old) moving)
+all_known : (old : List TreeNode) (moving : MovedNodes) → IsArenaOf (forest_of old) old → moving_id moving < length old → AreNodes (forest_of old) (moved_nodes (forest_of old) moving)
 all_known old moving arena h = moved_are (forest_of old) moving arena.once (known_inside (forest_of old) old (moving_id moving) arena h)
 
-pub is_cut_out : (old middle : List TreeNode) (moving : Moving) (x : ℕ) → IsArenaOf (forest_of old) old → moving_id moving < length old →
-    IsArenaOf (cut (moved_nodes (forest_of old) moving) (forest_of old)) middle → first (moved_nodes (forest_of old) moving) ≡ Some x → CutOut old middle moving x
+pub is_cut_out : (old middle : List TreeNode) (moving : MovedNodes) (x : ℕ) → IsArenaOf (forest_of old) old → moving_id moving < length old →
+    IsArenaOf (detach (moved_nodes (forest_of old) moving) (forest_of old)) middle → first (moved_nodes (forest_of old) moving) ≡ Some x → CutOut old middle moving x
 is_cut_out old middle moving x arena h = is_run old middle (moved_nodes (forest_of old) moving) x arena (all_known old moving arena h)
 
-pub moves : (old middle new : List TreeNode) (gap : Gap) (moving : Moving) (x : ℕ) → IsArenaOf (forest_of old) old → moving_id moving < length old → CutOut old middle moving x →
+pub moves : (old middle new : List TreeNode) (gap : InsertionPoint) (moving : MovedNodes) (x : ℕ) → IsArenaOf (forest_of old) old → moving_id moving < length old → CutOut old middle moving x →
     IsArenaOf (put gap (run_of (forest_of middle) x) (forest_of middle)) new → Moves old new gap moving
 moves old middle new gap moving x arena h = run_moved old middle new gap (moved_nodes (forest_of old) moving) x arena (all_known old moving arena h)
 
 -- the move of one node
-pub moved_one : (old new : List TreeNode) (gap : Gap) (x : ℕ) → Moves old new gap (Node x) → Moved old new gap x
+pub moved_one : (old new : List TreeNode) (gap : InsertionPoint) (x : ℕ) → Moves old new gap (Node x) → Moved old new gap x
 moved_one old new gap x moved = record {
   made = moved.made;
   linked = moved.linked;

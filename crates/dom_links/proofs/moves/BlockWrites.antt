@@ -4,10 +4,10 @@ use Rattle.std.specs.Prelude.{◌==◌, ◌||◌, slice_set}
 use Rattle.std.specs.Option.{IfSome}
 use Rattle.std.proofs.lemmas.List.{length-set, append-nil}
 use Rattle.dom_nodes.specs.declared.node_data.TreeNode.{TreeNode}
-use Rattle.dom_links.specs.Lists.{stands_in, last}
+use Rattle.dom_links.specs.Lists.{is_member, last}
 use Rattle.dom_links.specs.Forest.{parent_link, next_link, chain}
 use Rattle.dom_links.specs.ListWrites.{NextsKnown, ParentsSet, next_chain}
-use Rattle.dom_links.proofs.forest.Neighbours.{stands_in-append, last-append, last-cons_cons}
+use Rattle.dom_links.proofs.forest.Neighbours.{is_member-append, last-append, last-cons_cons}
 use Rattle.dom_links.proofs.moves.Cuts.{one-stands}
 use Rattle.dom_links.proofs.forest.Written.{link-set, link-kept, map-kept, link-read}
 use Rattle.dom_links.proofs.forest.Chains.{chain_empty}
@@ -23,10 +23,10 @@ one_more_set old nodes met owner i at d set h e =
       same_length = length-set nodes i node ∙ set.same_length;
       contents = map-kept (λ x. x.content) nodes i node d h refl ∙ set.contents;
       ids = map-kept (λ x. x.id) nodes i node d h refl ∙ set.ids;
-      parents = λ n. link-set (λ x. x.parent) nodes i node h n ∙ rw (set.parents n, stands_in-append met (at ∷ []) n, one-stands at n, e)
-          (elim (at == n) as (λ t. cond t owner (cond (stands_in n met) owner (parent_link old n)) ≡ cond (stands_in n met || t) owner (parent_link old n)) [
-            | true ↦ (elim (stands_in n met) as (λ u. owner ≡ cond (u || true) owner (parent_link old n)) [ true ↦ refl | false ↦ refl ])
-            | false ↦ (elim (stands_in n met) as (λ u. cond u owner (parent_link old n) ≡ cond (u || false) owner (parent_link old n)) [ true ↦ refl | false ↦ refl ])
+      parents = λ n. link-set (λ x. x.parent) nodes i node h n ∙ rw (set.parents n, is_member-append met (at ∷ []) n, one-stands at n, e)
+          (elim (at == n) as (λ t. cond t owner (cond (is_member n met) owner (parent_link old n)) ≡ cond (is_member n met || t) owner (parent_link old n)) [
+            | true ↦ (elim (is_member n met) as (λ u. owner ≡ cond (u || true) owner (parent_link old n)) [ true ↦ refl | false ↦ refl ])
+            | false ↦ (elim (is_member n met) as (λ u. cond u owner (parent_link old n) ≡ cond (u || false) owner (parent_link old n)) [ true ↦ refl | false ↦ refl ])
           ]);
       prevs = λ n. link-kept (λ x. x.prev_sibling) nodes i node d h refl n ∙ set.prevs n;
       nexts = λ n. link-kept (λ x. x.next_sibling) nodes i node d h refl n ∙ set.nexts n;

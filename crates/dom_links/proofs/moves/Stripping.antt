@@ -8,11 +8,11 @@ use Rattle.dom_nodes.specs.Attrs.{name_in}
 use Rattle.dom_nodes.specs.Words.{is_among}
 use Rattle.std.specs.Prelude.{slice_get}
 use Rattle.dom_nodes.specs.declared.node_data.TreeNode.{TreeNode}
-use Rattle.dom_links.specs.Lists.{stands_in, IsDistinct, first, without}
+use Rattle.dom_links.specs.Lists.{is_member, IsDistinct, first, without}
 use Rattle.dom_links.specs.Forest.{Forest, children_of, forest_of, parent}
 use Rattle.dom_links.specs.Sound.{IsForest, IsSoundArena}
 use Rattle.dom_links.specs.Stripped.{IsStripped, all_dissolved, dissolved, is_named, stripped}
-use Rattle.dom_links.specs.Trees.{walk_below, ancestors, upward}
+use Rattle.dom_links.specs.Trees.{descendants_in_order, ancestors, upward}
 use Rattle.dom_links.specs.Walk.{IsBelow, rest_after, walk_on}
 use Rattle.dom_links.proofs.walks.Apart.{walk-inside, walk-once}
 use Rattle.dom_links.proofs.moves.BlockMoves.{rest_here}
@@ -20,7 +20,7 @@ use Rattle.dom_links.proofs.forest.Depth.{here_stands, later_stands, upward-none
 use Rattle.dom_links.proofs.moves.Dissolving.{forest-dissolved, walk_dissolved}
 use Rattle.dom_links.proofs.walks.DownUp.{below_or_above}
 use Rattle.dom_links.proofs.walks.Later.{not_above_itself}
-use Rattle.dom_links.proofs.forest.Neighbours.{distinct_parts, stands_in-append, stands_in-without, without_here}
+use Rattle.dom_links.proofs.forest.Neighbours.{distinct_parts, is_member-append, is_member-without, without_here}
 use Rattle.dom_links.proofs.forest.Places.{cases_Option}
 use Rattle.dom_links.proofs.walks.Steps.{walk_given, walk_starts}
 use Rattle.dom_links.proofs.walks.Suffixes.{is_end}
@@ -38,17 +38,17 @@ pub same_names : (names : List (List ℕ)) (one other : Forest) (n : ℕ) → on
 same_names names one other n e = ap (λ contents. option_map_or (λ name. is_among name names) (option_and_then name_in (slice_get contents n)) false) e
 
 -- who stands below another node has a parent
-pub has_parent : (forest : Forest) (x n : ℕ) → stands_in x (ancestors forest n) ≡ true → (q : ℕ) × (parent forest n ≡ Some q)
+pub has_parent : (forest : Forest) (x n : ℕ) → is_member x (ancestors forest n) ≡ true → (q : ℕ) × (parent forest n ≡ Some q)
 has_parent forest x n s = elim (cases_Option (parent forest n)) [
   | inr some ↦ some
   | inl none ↦ (let no : ancestors forest n ≡ [] = ap (upward forest) none ∙ upward-none forest in cc)
 ]
 
 -- m stands in no list before it
-pub only_here : (xs ys : List ℕ) (m : ℕ) → IsDistinct (xs ++ m ∷ ys) → (stands_in m xs ≡ false) × (stands_in m ys ≡ false)
+pub only_here : (xs ys : List ℕ) (m : ℕ) → IsDistinct (xs ++ m ∷ ys) → (is_member m xs ≡ false) × (is_member m ys ≡ false)
 only_here xs ys m once =
     let parts = distinct_parts xs (m ∷ ys) once in (
-      elim (cases_Bool (stands_in m xs)) [
+      elim (cases_Bool (is_member m xs)) [
         | inr f ↦ f
         | inl t ↦ absurd (true≢false (sym (here_stands m ys) ∙ parts.2 m t))
       ],
@@ -67,8 +67,8 @@ pub record Stripping (old now : List TreeNode) (x : ℕ) (names : List (List ℕ
   done : List ℕ
   passed : List ℕ
   is : forest_of now ≡ all_dissolved (filter (is_named names (forest_of old)) done) (forest_of old)
-  whole : walk_below (forest_of old) x ≡ done ++ walk_on (forest_of now) x next
-  left : walk_below (forest_of now) x ≡ passed ++ walk_on (forest_of now) x next
+  whole : descendants_in_order (forest_of old) x ≡ done ++ walk_on (forest_of now) x next
+  left : descendants_in_order (forest_of now) x ≡ passed ++ walk_on (forest_of now) x next
   pub below : IsBelow (forest_of now) x next
 
 pub strip_starts : (old : List TreeNode) (x : ℕ) (names : List (List ℕ)) (next : Option ℕ) → IsSoundArena old → next ≡ first (children_of (forest_of old) x) → Stripping old old x names next
@@ -78,7 +78,7 @@ strip_starts old x names next sound is =
 
 pub strip_ends : (old now : List TreeNode) (x : ℕ) (names : List (List ℕ)) (next : Option ℕ) → next ≡ None → Stripping old now x names next → forest_of now ≡ stripped names x (forest_of old)
 strip_ends old now x names next none h =
-    let all : walk_below (forest_of old) x ≡ h.done = h.whole ∙ ap (λ o. h.done ++ walk_on (forest_of now) x o) none ∙ append-nil h.done in
+    let all : descendants_in_order (forest_of old) x ≡ h.done = h.whole ∙ ap (λ o. h.done ++ walk_on (forest_of now) x o) none ∙ append-nil h.done in
     h.is ∙ ap (λ ns. all_dissolved (filter (is_named names (forest_of old)) ns) (forest_of old)) (sym all)
 
 -- a node that isn't named is passed
@@ -103,15 +103,15 @@ strip_passes old now x at names next beyond some steps place other h =
 -- where the walk goes on after a node was replaced by its children
 record GoesOn (now new : Forest) (x : ℕ) (passed : List ℕ) (beyond : Option ℕ) : Type 0 where
   same : walk_on new x beyond ≡ walk_on now x beyond
-  left : walk_below new x ≡ passed ++ walk_on new x beyond
+  left : descendants_in_order new x ≡ passed ++ walk_on new x beyond
   below : IsBelow new x beyond
 
-goes_on : (now new : Forest) (x : ℕ) (passed : List ℕ) (beyond : Option ℕ) → IsForest now → IsForest new → IsBelow now x beyond → walk_below new x ≡ passed ++ walk_on now x beyond → GoesOn now new x passed beyond
+goes_on : (now new : Forest) (x : ℕ) (passed : List ℕ) (beyond : Option ℕ) → IsForest now → IsForest new → IsBelow now x beyond → descendants_in_order new x ≡ passed ++ walk_on now x beyond → GoesOn now new x passed beyond
 goes_on now new x passed None good better place left = record { same = refl; left = left; below = tt }
 goes_on now new x passed (Some m) good better place left =
     let given = walk_given now x m good place in
     let whole = left ∙ ap (λ ns. passed ++ ns) given in
-    let stands : stands_in m (walk_below new x) ≡ true = ap (stands_in m) whole ∙ stands_in-append passed _ m ∙ or-true _ _ (here_stands m _) in
+    let stands : is_member m (descendants_in_order new x) ≡ true = ap (is_member m) whole ∙ is_member-append passed _ m ∙ or-true _ _ (here_stands m _) in
     let place : IsBelow new x (Some m) = (walk-inside new x m better stands, sym (below_or_above new better x m) ∙ stands) in
     let end = is_end new x m better place in
     let once = subst IsDistinct whole (walk-once new x better) in
@@ -133,9 +133,9 @@ strip_dissolves old now new x at q names next beyond some steps place named up m
     let here : walk_on (forest_of now) x next ≡ at ∷ rest = ap (walk_on (forest_of now) x) some ∙ steps in
     let place_at = subst (IsBelow (forest_of now) x) some h.below in
     let apart : x ≡ at → ⊥ = λ e. not_above_itself (forest_of now) at x good place_at.1 (sym e) in
-    let whole : walk_below (forest_of now) x ≡ h.passed ++ at ∷ rest = h.left ∙ ap (λ ns. h.passed ++ ns) here in
+    let whole : descendants_in_order (forest_of now) x ≡ h.passed ++ at ∷ rest = h.left ∙ ap (λ ns. h.passed ++ ns) here in
     let once = only_here h.passed rest at (subst IsDistinct whole (walk-once (forest_of now) x good)) in
-    let out : walk_below (forest_of new) x ≡ h.passed ++ rest = ap (λ forest. walk_below forest x) made ∙ walk_dissolved (forest_of now) at q good up x apart ∙ ap (without (at ∷ [])) whole ∙ without_here h.passed rest at once.0 once.1 in
+    let out : descendants_in_order (forest_of new) x ≡ h.passed ++ rest = ap (λ forest. descendants_in_order forest x) made ∙ walk_dissolved (forest_of now) at q good up x apart ∙ ap (without (at ∷ [])) whole ∙ without_here h.passed rest at once.0 once.1 in
     let on = goes_on (forest_of now) (forest_of new) x h.passed beyond good sound.forest place out in
     let is_one : is_named names (forest_of old) at ≡ true = same_names names (forest_of old) (forest_of now) at (sym (ap (λ (forest : Forest). forest.content) h.is ∙ content_stays (filter (is_named names (forest_of old)) h.done) (forest_of old))) ∙ named in
     let one : filter (is_named names (forest_of old)) (at ∷ []) ≡ at ∷ [] = rw is_one refl in
@@ -165,42 +165,42 @@ without_two : (p : ℕ) (ps ns : List ℕ) → without ps (without (p ∷ []) ns
 without_two p ps [] = refl
 without_two p ps (n ∷ ns) = elim (cases_Bool (p == n)) [
   | inl t ↦ rw (t, without_two p ps ns) refl
-  | inr f ↦ elim (cases_Bool (stands_in n ps)) [ inl s ↦ rw (f, s, without_two p ps ns) refl | inr s ↦ rw (f, s, without_two p ps ns) refl ]
+  | inr f ↦ elim (cases_Bool (is_member n ps)) [ inl s ↦ rw (f, s, without_two p ps ns) refl | inr s ↦ rw (f, s, without_two p ps ns) refl ]
 ]
 
-still_stands : (p m : ℕ) (ns : List ℕ) → (p == m) ≡ false → stands_in m ns ≡ true → stands_in m (without (p ∷ []) ns) ≡ true
-still_stands p m ns ne s = stands_in-without (p ∷ []) ns m ∙ rw (s, ne) refl
+still_stands : (p m : ℕ) (ns : List ℕ) → (p == m) ≡ false → is_member m ns ≡ true → is_member m (without (p ∷ []) ns) ≡ true
+still_stands p m ns ne s = is_member-without (p ∷ []) ns m ∙ rw (s, ne) refl
 
 pub record AllDissolved (ps : List ℕ) (x : ℕ) (forest : Forest) : Type 0 where
   pub good : IsForest (all_dissolved ps forest)
-  pub left : walk_below (all_dissolved ps forest) x ≡ without ps (walk_below forest x)
+  pub left : descendants_in_order (all_dissolved ps forest) x ≡ without ps (descendants_in_order forest x)
 
-each_dissolved : (ps : List ℕ) (x : ℕ) (forest : Forest) → IsForest forest → IsDistinct ps → ((p : ℕ) → stands_in p ps ≡ true → stands_in p (walk_below forest x) ≡ true) → AllDissolved ps x forest
-each_dissolved [] x forest good once below = record { good = good; left = sym (without_nothing (walk_below forest x)) }
+each_dissolved : (ps : List ℕ) (x : ℕ) (forest : Forest) → IsForest forest → IsDistinct ps → ((p : ℕ) → is_member p ps ≡ true → is_member p (descendants_in_order forest x) ≡ true) → AllDissolved ps x forest
+each_dissolved [] x forest good once below = record { good = good; left = sym (without_nothing (descendants_in_order forest x)) }
 each_dissolved (p ∷ ps) x forest good once below =
-    let above : stands_in x (ancestors forest p) ≡ true = sym (below_or_above forest good x p) ∙ below p (here_stands p ps) in
+    let above : is_member x (ancestors forest p) ≡ true = sym (below_or_above forest good x p) ∙ below p (here_stands p ps) in
     let up = has_parent forest x p above in
     let out = walk_dissolved forest p up.0 good up.1 x (λ e. not_above_itself forest p x good above (sym e)) in
     let rest = each_dissolved ps x (dissolved p forest) (forest-dissolved forest p up.0 good up.1) once.1
-    (λ m s. ap (stands_in m) out ∙ still_stands p m (walk_below forest x) (other m s) (below m (later_stands p m ps s))) in
-    record { good = rest.good; left = rest.left ∙ ap (without ps) out ∙ without_two p ps (walk_below forest x) }
+    (λ m s. ap (is_member m) out ∙ still_stands p m (descendants_in_order forest x) (other m s) (below m (later_stands p m ps s))) in
+    record { good = rest.good; left = rest.left ∙ ap (without ps) out ∙ without_two p ps (descendants_in_order forest x) }
   where
-    other : (m : ℕ) → stands_in m ps ≡ true → (p == m) ≡ false
+    other : (m : ℕ) → is_member m ps ≡ true → (p == m) ≡ false
     other m s = elim (cases_Bool (p == m)) [
       | inr f ↦ f
-      | inl t ↦ absurd (true≢false (sym (ap (λ k. stands_in k ps) (eqb-true p m t) ∙ s) ∙ once.0))
+      | inl t ↦ absurd (true≢false (sym (ap (λ k. is_member k ps) (eqb-true p m t) ∙ s) ∙ once.0))
     ]
 
-pub stands_in-filter : (test : ℕ → Bool) (ns : List ℕ) (n : ℕ) → stands_in n (filter test ns) ≡ (stands_in n ns && test n)
-stands_in-filter test [] n = refl
-stands_in-filter test (m ∷ ns) n = elim (cases_Bool (m == n)) [
+pub is_member-filter : (test : ℕ → Bool) (ns : List ℕ) (n : ℕ) → is_member n (filter test ns) ≡ (is_member n ns && test n)
+is_member-filter test [] n = refl
+is_member-filter test (m ∷ ns) n = elim (cases_Bool (m == n)) [
   | inl t ↦ elim (cases_Bool (test n)) [
     | inl h ↦ (let same : test m ≡ true = ap test (eqb-true m n t) ∙ h in rw (same, t, h) refl)
-    | inr f ↦ (let same : test m ≡ false = ap test (eqb-true m n t) ∙ f in rw (same, t, f) (stands_in-filter test ns n ∙ rw f (and-false (stands_in n ns))))
+    | inr f ↦ (let same : test m ≡ false = ap test (eqb-true m n t) ∙ f in rw (same, t, f) (is_member-filter test ns n ∙ rw f (and-false (is_member n ns))))
   ]
   | inr f ↦ elim (cases_Bool (test m)) [
-    | inl h ↦ rw (h, f) (stands_in-filter test ns n)
-    | inr h ↦ rw (h, f) (stands_in-filter test ns n)
+    | inl h ↦ rw (h, f) (is_member-filter test ns n)
+    | inr h ↦ rw (h, f) (is_member-filter test ns n)
   ]
 ]
   where
@@ -208,7 +208,7 @@ stands_in-filter test (m ∷ ns) n = elim (cases_Bool (m == n)) [
     and-false true = refl
     and-false false = refl
 
-without_tested : (test : ℕ → Bool) (moved ns : List ℕ) → ((n : ℕ) → stands_in n ns ≡ true → stands_in n moved ≡ test n) → without moved ns ≡ filter (λ n. not (test n)) ns
+without_tested : (test : ℕ → Bool) (moved ns : List ℕ) → ((n : ℕ) → is_member n ns ≡ true → is_member n moved ≡ test n) → without moved ns ≡ filter (λ n. not (test n)) ns
 without_tested test moved [] same = refl
 without_tested test moved (n ∷ ns) same =
     let rest = without_tested test moved ns (λ m s. same m (later_stands n m ns s)) in
@@ -222,7 +222,7 @@ distinct-filter : (test : ℕ → Bool) (ns : List ℕ) → IsDistinct ns → Is
 distinct-filter test [] once = tt
 distinct-filter test (n ∷ ns) once = elim (cases_Bool (test n)) [
   | inr f ↦ rw f (distinct-filter test ns once.1)
-  | inl t ↦ rw t (stands_in-filter test ns n ∙ rw once.0 refl, distinct-filter test ns once.1)
+  | inl t ↦ rw t (is_member-filter test ns n ∙ rw once.0 refl, distinct-filter test ns once.1)
 ]
 
 none_twice : (test : ℕ → Bool) (ns : List ℕ) → filter test (filter (λ n. not (test n)) ns) ≡ []
@@ -239,13 +239,13 @@ filter_alike test other (n ∷ ns) same = rw (same n, filter_alike test other ns
 pub is_stripped : (names : List (List ℕ)) (x : ℕ) (forest : Forest) → IsForest forest → IsStripped names x forest
 is_stripped names x forest good =
     let test = is_named names forest in
-    let nodes = walk_below forest x in
+    let nodes = descendants_in_order forest x in
     let after = stripped names x forest in
     let all = each_dissolved (filter test nodes) x forest good (distinct-filter test nodes (walk-once forest x good))
-    (λ p s. and-left (stands_in p nodes) (test p) (sym (stands_in-filter test nodes p) ∙ s)) in
-    let left : walk_below after x ≡ filter (λ n. not (test n)) nodes = all.left ∙ without_tested test (filter test nodes) nodes (λ n s. stands_in-filter test nodes n ∙ rw s refl) in
-    let none : filter (is_named names after) (walk_below after x) ≡ [] =
-    filter_alike (is_named names after) test (walk_below after x) (λ n. same_names names after forest n (content_stays (filter test nodes) forest)) ∙ ap (filter test) left ∙ none_twice test nodes in
+    (λ p s. and-left (is_member p nodes) (test p) (sym (is_member-filter test nodes p) ∙ s)) in
+    let left : descendants_in_order after x ≡ filter (λ n. not (test n)) nodes = all.left ∙ without_tested test (filter test nodes) nodes (λ n s. is_member-filter test nodes n ∙ rw s refl) in
+    let none : filter (is_named names after) (descendants_in_order after x) ≡ [] =
+    filter_alike (is_named names after) test (descendants_in_order after x) (λ n. same_names names after forest n (content_stays (filter test nodes) forest)) ∙ ap (filter test) left ∙ none_twice test nodes in
     record { kept = all.good; left = left; again = ap (λ ps. all_dissolved ps after) none }
   where
     and-left : (a b : Bool) → (a && b) ≡ true → a ≡ true

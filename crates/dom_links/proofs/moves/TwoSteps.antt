@@ -4,15 +4,15 @@ use Rattle.std.specs.Prelude.{◌==◌, MatchOption, option_and_then}
 use Rattle.std.proofs.lemmas.List.{append-nil}
 use Rattle.std.proofs.lemmas.Bool.{cases_Bool, not-true}
 use Rattle.dom_nodes.specs.declared.node_data.TreeNode.{TreeNode}
-use Rattle.dom_links.specs.Lists.{stands_in, first, without, map_from, put_after, put_before}
+use Rattle.dom_links.specs.Lists.{is_member, first, without, map_from, put_after, put_before}
 use Rattle.dom_links.specs.Forest.{Forest, StandsOnce, IsArenaOf, forest_of, children_of, run_of, parent, siblings}
-use Rattle.dom_links.specs.Moves.{Gap, after_node, before_node, end_of, front_of, children_with, run_with, put, cut, moved_to}
+use Rattle.dom_links.specs.Moves.{InsertionPoint, after_node, before_node, end_of, front_of, children_with, run_with, put, detach, moved_to}
 use Rattle.dom_links.specs.Sound.{one_step, then_step, Allowed, IsForest, MayPlace, Moved, Removed, stays}
 use Rattle.dom_links.specs.ListMoves.{AllowedList, MovedList, ChildrenRemoved, Reparents, MayWrap, Replaced, Wrapped, Unwrapped, element_at, element_above, wrapper, without_wrapper, with_later}
 use Rattle.dom_links.proofs.forest.Neighbours.{around, first-stands, first_none}
 use Rattle.dom_links.proofs.forest.Places.{cases_Option, siblings_once}
 use Rattle.dom_links.proofs.moves.Cuts.{no_other, one_here}
-use Rattle.dom_links.proofs.moves.BlockCuts.{once-cut, one_node}
+use Rattle.dom_links.proofs.moves.BlockCuts.{once-detach, one_node}
 use Rattle.dom_links.proofs.moves.BlockFills.{parent-put_in, parent-put_out}
 use Rattle.dom_links.proofs.moves.BlockGaps.{put-before}
 use Rattle.dom_links.proofs.forest.Depth.{parent_inside}
@@ -20,7 +20,7 @@ use Rattle.dom_links.proofs.walks.SiblingWalks.{not_beside_below}
 use Rattle.dom_links.proofs.moves.BlockKept.{alone-cut_list, children_are, children_move, children_removed, list_moved}
 use Rattle.dom_links.proofs.moves.BlockMoves.{all_children}
 
--- no node at all is cut out or put anywhere
+-- no node at all is detached or put anywhere
 
 pub map_from_same : (i : ℕ) (f : ℕ → List ℕ → List ℕ) (lists : List (List ℕ)) → ((n : ℕ) → n < length lists → f (i + n) (get_or lists n []) ≡ get_or lists n []) → map_from i f lists ≡ lists
 map_from_same i f [] same = refl
@@ -38,7 +38,7 @@ pub map_without_nothing : (lists : List (List ℕ)) → map (without []) lists �
 map_without_nothing [] = refl
 map_without_nothing (ns ∷ lists) = rw (without_nothing ns, map_without_nothing lists) refl
 
-pub cut_nothing : (forest : Forest) → cut [] forest ≡ forest
+pub cut_nothing : (forest : Forest) → detach [] forest ≡ forest
 cut_nothing forest =
     let runs : map_from 0 (λ n run. without [] run) forest.runs ≡ forest.runs = map_from_same 0 (λ n run. without [] run) forest.runs (λ n h. without_nothing (get_or forest.runs n [])) in
     rw (map_without_nothing forest.children, runs) refl
@@ -51,19 +51,19 @@ nothing_before : (t : ℕ) (ns : List ℕ) → put_before t [] ns ≡ ns
 nothing_before t [] = refl
 nothing_before t (n ∷ ns) = elim (n == t) as (λ b. cond b (n ∷ ns) (n ∷ put_before t [] ns) ≡ n ∷ ns) [ true ↦ refl | false ↦ ap (λ ks. n ∷ ks) (nothing_before t ns) ]
 
-nothing_with : (gap : Gap) (p : ℕ) (ns : List ℕ) → children_with gap [] p ns ≡ ns
+nothing_with : (gap : InsertionPoint) (p : ℕ) (ns : List ℕ) → children_with gap [] p ns ≡ ns
 nothing_with (end_of t) p ns = elim (p == t) as (λ b. cond b (ns ++ []) ns ≡ ns) [ true ↦ append-nil ns | false ↦ refl ]
 nothing_with (front_of t) p ns = elim (p == t) as (λ b. cond b ns ns ≡ ns) [ true ↦ refl | false ↦ refl ]
 nothing_with (before_node t) p ns = nothing_before t ns
 nothing_with (after_node t) p ns = nothing_after t ns
 
-nothing_in_run : (gap : Gap) (forest : Forest) (n : ℕ) → run_with gap [] forest n ≡ run_of forest n
+nothing_in_run : (gap : InsertionPoint) (forest : Forest) (n : ℕ) → run_with gap [] forest n ≡ run_of forest n
 nothing_in_run (end_of t) forest n = refl
 nothing_in_run (front_of t) forest n = refl
 nothing_in_run (before_node t) forest n = nothing_before t (run_of forest n)
 nothing_in_run (after_node t) forest n = nothing_after t (run_of forest n)
 
-pub nothing_put : (gap : Gap) (forest : Forest) → put gap [] forest ≡ forest
+pub nothing_put : (gap : InsertionPoint) (forest : Forest) → put gap [] forest ≡ forest
 nothing_put gap forest =
     let children : map_from 0 (children_with gap []) forest.children ≡ forest.children = map_from_same 0 (children_with gap []) forest.children (λ n h. nothing_with gap (0 + n) (get_or forest.children n [])) in
     let runs : map_from 0 (λ n run. run_with gap [] forest n) forest.runs ≡ forest.runs = map_from_same 0 (λ n run. run_with gap [] forest n) forest.runs (λ n h.
@@ -72,10 +72,10 @@ nothing_put gap forest =
 
 pub no_children_removed : (old : List TreeNode) (x : ℕ) → IsArenaOf (forest_of old) old → children_of (forest_of old) x ≡ [] → ChildrenRemoved old old x
 no_children_removed old x arena none =
-    children_removed old old x arena (subst (λ (forest : Forest). IsArenaOf forest old) (sym (ap (λ moved. cut moved (forest_of old)) none ∙ cut_nothing (forest_of old))) arena)
+    children_removed old old x arena (subst (λ (forest : Forest). IsArenaOf forest old) (sym (ap (λ moved. detach moved (forest_of old)) none ∙ cut_nothing (forest_of old))) arena)
 
-pub children_cut_out : (old new : List TreeNode) (x first_child : ℕ) → IsArenaOf (forest_of old) old → with_later (forest_of old) first_child ≡ children_of (forest_of old) x → IsArenaOf (cut (with_later (forest_of old) first_child) (forest_of old)) new → ChildrenRemoved old new x
-children_cut_out old new x first_child arena all cut_out = children_removed old new x arena (subst (λ moved. IsArenaOf (cut moved (forest_of old)) new) all cut_out)
+pub children_cut_out : (old new : List TreeNode) (x first_child : ℕ) → IsArenaOf (forest_of old) old → with_later (forest_of old) first_child ≡ children_of (forest_of old) x → IsArenaOf (detach (with_later (forest_of old) first_child) (forest_of old)) new → ChildrenRemoved old new x
+children_cut_out old new x first_child arena all cut_out = children_removed old new x arena (subst (λ moved. IsArenaOf (detach moved (forest_of old)) new) all cut_out)
 
 pub first_child_given : (nodes : List TreeNode) (x : ℕ) (o : Option ℕ) → IsArenaOf (forest_of nodes) nodes → o ≡ first (children_of (forest_of nodes) x) →
     MatchOption o (children_of (forest_of nodes) x ≡ []) (λ child. with_later (forest_of nodes) child ≡ children_of (forest_of nodes) x)
@@ -84,7 +84,7 @@ first_child_given nodes x (Some k) arena e = all_children (forest_of nodes) x k 
 
 -- the children of a node are moved
 
-pub no_children_moved : (old : List TreeNode) (x : ℕ) (gap : Gap) → IsArenaOf (forest_of old) old → children_of (forest_of old) x ≡ [] → MovedList old old gap (children_of (forest_of old) x)
+pub no_children_moved : (old : List TreeNode) (x : ℕ) (gap : InsertionPoint) → IsArenaOf (forest_of old) old → children_of (forest_of old) x ≡ [] → MovedList old old gap (children_of (forest_of old) x)
 no_children_moved old x gap arena none =
     list_moved old old gap (children_of (forest_of old) x) (children_are (forest_of old) x arena.once)
     (subst (λ (forest : Forest). IsArenaOf forest old) (sym (ap (λ moved. moved_to moved gap (forest_of old)) none ∙ ap (put gap []) (cut_nothing (forest_of old)) ∙ nothing_put gap (forest_of old))) arena)
@@ -92,10 +92,10 @@ no_children_moved old x gap arena none =
 pub reparents_to : (old new : List TreeNode) (x t : ℕ) (p : Option ℕ) → p ≡ Some t → MovedList old new (end_of t) (children_of (forest_of old) x) → Reparents old new x p
 reparents_to old new x t p some moved = subst (Reparents old new x) (sym some) (record { made = moved.made; linked = moved.linked; kept = moved.kept })
 
--- a node was put before another, and that one was cut out
+-- a node was put before another, and that one was detached
 pub replaces : (old middle new : List TreeNode) (t x : ℕ) → Moved old middle (before_node t) x → Removed middle new t → Replaced old new t x
 replaces old middle new t x beside' out = record {
-  made = out.made ∙ ap (cut (t ∷ [])) beside'.made;
+  made = out.made ∙ ap (detach (t ∷ [])) beside'.made;
   linked = out.linked;
   kept = λ allowed good. out.kept tt (beside'.kept allowed good);
 }
@@ -105,9 +105,9 @@ replaces old middle new t x beside' out = record {
 pub one_parent : (forest : Forest) (x w : ℕ) → StandsOnce forest → Allowed forest (before_node x) w → parent (moved_to (w ∷ []) (before_node x) forest) w ≡ parent (moved_to (w ∷ []) (before_node x) forest) x
 one_parent forest x w once allowed =
     let moved : List ℕ = w ∷ [] in
-    let middle = cut moved forest in
+    let middle = detach moved forest in
     let after' = moved_to moved (before_node x) forest in
-    let once' = once-cut forest w once allowed.known in
+    let once' = once-detach forest w once allowed.known in
     let known : x < length middle.content = allowed.target_known in
     let out = no_other x w (MayPlace.apart allowed.may) in
     let parts = around x (siblings middle x) (siblings_once middle x once') (once'.placed x known) in
@@ -189,8 +189,8 @@ wrapper_is forest x p e = elim (cases_Option (element_above forest x)) [
 
 -- the children of a wrapper may be put before it
 
-pub wrapper_apart : (forest : Forest) (p : ℕ) → IsForest forest → stands_in p (children_of forest p) ≡ false
-wrapper_apart forest p good = elim (cases_Bool (stands_in p (children_of forest p))) [
+pub wrapper_apart : (forest : Forest) (p : ℕ) → IsForest forest → is_member p (children_of forest p) ≡ false
+wrapper_apart forest p good = elim (cases_Bool (is_member p (children_of forest p))) [
   | inr f ↦ f
   | inl s ↦ absurd (good.acyclic p (one_step p p (inl (good.once.in_children p p s).1)))
 ]
@@ -212,7 +212,7 @@ children_before forest x p good is = record {
 
 pub unwraps : (old middle new : List TreeNode) (x p : ℕ) → wrapper (forest_of old) x ≡ Some p → MovedList old middle (before_node p) (children_of (forest_of old) p) → Removed middle new p → Unwrapped old new x
 unwraps old middle new x p some moved removed = record {
-  made = removed.made ∙ ap (cut (p ∷ [])) moved.made ∙ sym (ap (λ o. without_wrapper o (forest_of old)) some);
+  made = removed.made ∙ ap (detach (p ∷ [])) moved.made ∙ sym (ap (λ o. without_wrapper o (forest_of old)) some);
   linked = removed.linked;
   kept = λ _ good. removed.kept tt (moved.kept (children_before (forest_of old) x p good (wrapper_is (forest_of old) x p some)) good);
 }

@@ -4,16 +4,16 @@ use Rattle.std.specs.Prelude.{◌==◌}
 use Rattle.std.proofs.lemmas.List.{get_or_past, get_or_default, same_lists, length-map}
 use Rattle.std.proofs.lemmas.Bool.{cases_Bool, cases_lt, eq-eqb, ne_eqb, eqb-true, eqb-false, or_parts}
 use Rattle.dom_nodes.specs.declared.node_data.NodeData.{NodeData}
-use Rattle.dom_links.specs.Lists.{stands_in, IsDistinct, without, put_before}
+use Rattle.dom_links.specs.Lists.{is_member, IsDistinct, without, put_before}
 use Rattle.dom_links.specs.Forest.{Forest, children_of, run_of, parent, siblings}
-use Rattle.dom_links.specs.Moves.{Gap, end_of, before_node, children_with, run_with, cut, moved_to}
+use Rattle.dom_links.specs.Moves.{InsertionPoint, end_of, before_node, children_with, run_with, detach, moved_to}
 use Rattle.dom_links.specs.Sound.{IsForest}
 use Rattle.dom_nodes.specs.Kinds.{is_element}
 use Rattle.dom_links.specs.ListMoves.{IsBare, element_at, wrapper, wrapped, unwrapped, without_wrapper}
-use Rattle.dom_links.proofs.forest.Neighbours.{around, stands_in-append, without-append, without_one-none}
+use Rattle.dom_links.proofs.forest.Neighbours.{around, is_member-append, without-append, without_one-none}
 use Rattle.dom_links.proofs.forest.Places.{siblings_once, get_or-map_all, get_or-map_past, length-map_from}
-use Rattle.dom_links.proofs.moves.Cuts.{children-cut, no_other, one_here, parent-cut, run-cut, one-stands}
-use Rattle.dom_links.proofs.moves.BlockCuts.{once-cut, one_node}
+use Rattle.dom_links.proofs.moves.Cuts.{children-detach, no_other, one_here, parent-detach, run-detach, one-stands}
+use Rattle.dom_links.proofs.moves.BlockCuts.{once-detach, one_node}
 use Rattle.dom_links.proofs.moves.BlockFills.{once-put, parent-put_in, parent-put_out}
 use Rattle.dom_links.proofs.moves.BlockGaps.{before_none_list, before_split_list, put-before, put-end_of}
 use Rattle.dom_links.proofs.moves.BlockKept.{alone-cut_list}
@@ -27,79 +27,79 @@ use Rattle.dom_links.proofs.moves.TwoSteps.{element_named, wrapper_found}
 
 children_beside : (forest : Forest) (t y q : ℕ) → children_of (moved_to (y ∷ []) (before_node t) forest) q ≡ put_before t (y ∷ []) (without (y ∷ []) (children_of forest q))
 children_beside forest t y q =
-    let middle = cut (y ∷ []) forest in
+    let middle = detach (y ∷ []) forest in
     (elim (cases_lt q (length middle.children)) [
       | inl here ↦ get_or-map_all (children_with (before_node t) (y ∷ [])) middle.children q here
       | inr past ↦ get_or-map_past (children_with (before_node t) (y ∷ [])) middle.children q past ∙ ap (put_before t (y ∷ [])) (sym (get_or_past middle.children q [] past))
-    ]) ∙ ap (put_before t (y ∷ [])) (children-cut (y ∷ []) forest q)
+    ]) ∙ ap (put_before t (y ∷ [])) (children-detach (y ∷ []) forest q)
 
 children_into : (forest : Forest) (t y q : ℕ) → q < length forest.children → children_of (moved_to (y ∷ []) (end_of t) forest) q ≡ cond (q == t) (without (y ∷ []) (children_of forest q) ++ y ∷ []) (without (y ∷ []) (children_of forest q))
 children_into forest t y q h =
-    let middle = cut (y ∷ []) forest in
+    let middle = detach (y ∷ []) forest in
     let long : length middle.children ≡ length forest.children = length-map forest.children (without (y ∷ [])) in
-    get_or-map_all (children_with (end_of t) (y ∷ [])) middle.children q (omega arith) ∙ ap (λ ns. cond (q == t) (ns ++ y ∷ []) ns) (children-cut (y ∷ []) forest q)
+    get_or-map_all (children_with (end_of t) (y ∷ [])) middle.children q (omega arith) ∙ ap (λ ns. cond (q == t) (ns ++ y ∷ []) ns) (children-detach (y ∷ []) forest q)
 
-runs_count : (forest : Forest) (gap : Gap) (y : ℕ) → length ((moved_to (y ∷ []) gap forest).runs) ≡ length forest.runs
+runs_count : (forest : Forest) (gap : InsertionPoint) (y : ℕ) → length ((moved_to (y ∷ []) gap forest).runs) ≡ length forest.runs
 runs_count forest gap y =
-    let middle = cut (y ∷ []) forest in
+    let middle = detach (y ∷ []) forest in
     let one : length ((moved_to (y ∷ []) gap forest).runs) ≡ length middle.runs = length-map_from 0 (λ n run. run_with gap (y ∷ []) middle n) middle.runs in
-    one ∙ length-map_from 0 (λ k run. cond (stands_in k (y ∷ [])) (y ∷ []) (without (y ∷ []) run)) forest.runs
+    one ∙ length-map_from 0 (λ k run. cond (is_member k (y ∷ [])) (y ∷ []) (without (y ∷ []) run)) forest.runs
 
-children_count : (forest : Forest) (gap : Gap) (y : ℕ) → length ((moved_to (y ∷ []) gap forest).children) ≡ length forest.children
+children_count : (forest : Forest) (gap : InsertionPoint) (y : ℕ) → length ((moved_to (y ∷ []) gap forest).children) ≡ length forest.children
 children_count forest gap y =
-    let middle = cut (y ∷ []) forest in
+    let middle = detach (y ∷ []) forest in
     let one : length ((moved_to (y ∷ []) gap forest).children) ≡ length middle.children = length-map_from 0 (children_with gap (y ∷ [])) middle.children in
     one ∙ length-map forest.children (without (y ∷ []))
 
-run_put : (forest : Forest) (gap : Gap) (y n : ℕ) → n < length forest.runs → run_of (moved_to (y ∷ []) gap forest) n ≡ run_with gap (y ∷ []) (cut (y ∷ []) forest) n
+run_put : (forest : Forest) (gap : InsertionPoint) (y n : ℕ) → n < length forest.runs → run_of (moved_to (y ∷ []) gap forest) n ≡ run_with gap (y ∷ []) (detach (y ∷ []) forest) n
 run_put forest gap y n h =
-    let middle = cut (y ∷ []) forest in
-    let long : length middle.runs ≡ length forest.runs = length-map_from 0 (λ k run. cond (stands_in k (y ∷ [])) (y ∷ []) (without (y ∷ []) run)) forest.runs in
+    let middle = detach (y ∷ []) forest in
+    let long : length middle.runs ≡ length forest.runs = length-map_from 0 (λ k run. cond (is_member k (y ∷ [])) (y ∷ []) (without (y ∷ []) run)) forest.runs in
     get_or-map_all (λ n run. run_with gap (y ∷ []) middle n) middle.runs n (omega arith)
 
 -- a node that isn't y, beside t
 run_beside : (forest : Forest) (t y n : ℕ) → n < length forest.runs → (y ≡ n → ⊥) → run_of (moved_to (y ∷ []) (before_node t) forest) n ≡ put_before t (y ∷ []) (without (y ∷ []) (run_of forest n))
 run_beside forest t y n h ne =
-    let out : stands_in n (y ∷ []) ≡ false = no_other n y ne in
-    run_put forest (before_node t) y n h ∙ rw (out, run-cut (y ∷ []) forest n h, out) refl
+    let out : is_member n (y ∷ []) ≡ false = no_other n y ne in
+    run_put forest (before_node t) y n h ∙ rw (out, run-detach (y ∷ []) forest n h, out) refl
 
 -- y itself, beside t
 run_beside_it : (forest : Forest) (t y : ℕ) → y < length forest.runs → t < length forest.runs → (y ≡ t → ⊥) → run_of (moved_to (y ∷ []) (before_node t) forest) y ≡ put_before t (y ∷ []) (without (y ∷ []) (run_of forest t))
 run_beside_it forest t y h ht ne =
-    let out : stands_in t (y ∷ []) ≡ false = no_other t y ne in
-    let here : stands_in y (y ∷ []) ≡ true = one_here y in
-    run_put forest (before_node t) y y h ∙ rw (here, run-cut (y ∷ []) forest t ht, out) refl
+    let out : is_member t (y ∷ []) ≡ false = no_other t y ne in
+    let here : is_member y (y ∷ []) ≡ true = one_here y in
+    run_put forest (before_node t) y y h ∙ rw (here, run-detach (y ∷ []) forest t ht, out) refl
 
 run_into : (forest : Forest) (t y n : ℕ) → n < length forest.runs → (y ≡ n → ⊥) → run_of (moved_to (y ∷ []) (end_of t) forest) n ≡ without (y ∷ []) (run_of forest n)
 run_into forest t y n h ne =
-    let out : stands_in n (y ∷ []) ≡ false = no_other n y ne in
-    run_put forest (end_of t) y n h ∙ rw (out, run-cut (y ∷ []) forest n h, out) refl
+    let out : is_member n (y ∷ []) ≡ false = no_other n y ne in
+    run_put forest (end_of t) y n h ∙ rw (out, run-detach (y ∷ []) forest n h, out) refl
 
 -- there and back
 
-without_second : (front back : List ℕ) (y z : ℕ) → (y ≡ z → ⊥) → stands_in y front ≡ false → stands_in y back ≡ false → without (y ∷ []) (front ++ z ∷ y ∷ back) ≡ front ++ z ∷ back
+without_second : (front back : List ℕ) (y z : ℕ) → (y ≡ z → ⊥) → is_member y front ≡ false → is_member y back ≡ false → without (y ∷ []) (front ++ z ∷ y ∷ back) ≡ front ++ z ∷ back
 without_second front back y z ne f b =
     let other : (y == z) ≡ false = ne_eqb y z ne in
     let same : (y == y) ≡ true = eq-eqb y y refl in
     without-append (y ∷ []) front (z ∷ y ∷ back) ∙ rw (without_one-none front y f, other, same, without_one-none back y b) refl
 
-absent : (front back : List ℕ) (y z : ℕ) → (y ≡ z → ⊥) → stands_in y front ≡ false → stands_in y back ≡ false → stands_in y (front ++ z ∷ back) ≡ false
+absent : (front back : List ℕ) (y z : ℕ) → (y ≡ z → ⊥) → is_member y front ≡ false → is_member y back ≡ false → is_member y (front ++ z ∷ back) ≡ false
 absent front back y z ne f b =
     let other : (z == y) ≡ false = ne_eqb z y (λ e. ne (sym e)) in
-    stands_in-append front (z ∷ back) y ∙ rw (f, other, b) refl
+    is_member-append front (z ∷ back) y ∙ rw (f, other, b) refl
 
 -- the steps of wrapping x in w and unwrapping it, on a list without w
-there_and_back : (x w : ℕ) (ns : List ℕ) → (x ≡ w → ⊥) → IsDistinct ns → stands_in w ns ≡ false →
+there_and_back : (x w : ℕ) (ns : List ℕ) → (x ≡ w → ⊥) → IsDistinct ns → is_member w ns ≡ false →
     without (w ∷ []) (put_before w (x ∷ []) (without (x ∷ []) (without (x ∷ []) (put_before x (w ∷ []) (without (w ∷ []) ns))))) ≡ ns
-there_and_back x w ns ne once out = elim (cases_Bool (stands_in x ns)) [
+there_and_back x w ns ne once out = elim (cases_Bool (is_member x ns)) [
   | inr f ↦ rw (without_one-none ns w out, before_none_list ns x (w ∷ []) f, without_one-none ns x f, without_one-none ns x f, before_none_list ns w (x ∷ []) out, without_one-none ns w out) refl
   | inl t ↦ (let parts = around x ns once t in
       let front = parts.front in
       let back = parts.back in
-      let out' : stands_in w (front ++ x ∷ back) ≡ false = ap (stands_in w) (sym parts.is) ∙ out in
-      let w_front : stands_in w front ≡ false = not_front front (x ∷ back) w out' in
-      let w_rest : stands_in w (x ∷ back) ≡ false = not_back front (x ∷ back) w out' in
-      let w_back : stands_in w back ≡ false = (or_parts (x == w) (stands_in w back) w_rest).1 in
+      let out' : is_member w (front ++ x ∷ back) ≡ false = ap (is_member w) (sym parts.is) ∙ out in
+      let w_front : is_member w front ≡ false = not_front front (x ∷ back) w out' in
+      let w_rest : is_member w (x ∷ back) ≡ false = not_back front (x ∷ back) w out' in
+      let w_back : is_member w back ≡ false = (or_parts (x == w) (is_member w back) w_rest).1 in
       let there : put_before x (w ∷ []) (front ++ x ∷ back) ≡ front ++ w ∷ x ∷ back = before_split_list front back x (w ∷ []) parts.not_front in
       let gone : without (x ∷ []) (front ++ w ∷ x ∷ back) ≡ front ++ w ∷ back = without_second front back x w ne parts.not_front parts.not_back in
       let still : without (x ∷ []) (front ++ w ∷ back) ≡ front ++ w ∷ back = without_one-none (front ++ w ∷ back) x (absent front back x w ne parts.not_front parts.not_back) in
@@ -113,7 +113,7 @@ there_and_back x w ns ne once out = elim (cases_Bool (stands_in x ns)) [
 ]
 
 -- the same, on a list without both
-both_absent : (x w : ℕ) (ns : List ℕ) → stands_in x ns ≡ false → stands_in w ns ≡ false →
+both_absent : (x w : ℕ) (ns : List ℕ) → is_member x ns ≡ false → is_member w ns ≡ false →
     without (w ∷ []) (put_before w (x ∷ []) (without (x ∷ []) (without (x ∷ []) (put_before x (w ∷ []) (without (w ∷ []) ns))))) ≡ ns
 both_absent x w ns f out = rw (without_one-none ns w out, before_none_list ns x (w ∷ []) f, without_one-none ns x f, without_one-none ns x f, before_none_list ns w (x ∷ []) out, without_one-none ns w out) refl
 
@@ -154,22 +154,22 @@ record Above (forest : Forest) (x p w : ℕ) : Type 0 where
 parents_wrapped : (forest : Forest) (x p w : ℕ) → Bare forest x p w → Above forest x p w
 parents_wrapped forest x p w b =
     let once = b.good.once in
-    let middle = cut (w ∷ []) forest in
+    let middle = detach (w ∷ []) forest in
     let beside = moved_to (w ∷ []) (before_node x) forest in
-    let once' = once-cut forest w once b.w_known in
+    let once' = once-detach forest w once b.w_known in
     let parts = around x (siblings middle x) (siblings_once middle x once') (once'.placed x b.x_known) in
     let out = no_other x w (λ e. b.differ (sym e)) in
     let fill = put-before middle (w ∷ []) x once' (alone-cut_list forest (w ∷ []) once (one_node forest w b.w_known)) out b.x_known parts in
-    let beside_w : parent beside w ≡ Some p = parent-put_in middle beside (w ∷ []) (parent middle x) parts.front (x ∷ parts.back) w once' fill (one_here w) ∙ parent-cut (w ∷ []) forest x ∙ rw out b.above in
+    let beside_w : parent beside w ≡ Some p = parent-put_in middle beside (w ∷ []) (parent middle x) parts.front (x ∷ parts.back) w once' fill (one_here w) ∙ parent-detach (w ∷ []) forest x ∙ rw out b.above in
     let once'' = once-put middle beside (w ∷ []) (parent middle x) parts.front (x ∷ parts.back) once' fill in
-    let between = cut (x ∷ []) beside in
+    let between = detach (x ∷ []) beside in
     let inside = wrapped x w forest in
-    let cut_once = once-cut beside x once'' b.x_known in
+    let cut_once = once-detach beside x once'' b.x_known in
     let fill' = put-end_of between (x ∷ []) w cut_once (alone-cut_list beside (x ∷ []) once'' (one_node beside x b.x_known)) b.w_known in
     let out' = no_other w x b.differ in
     record {
       of_x = parent-put_in between inside (x ∷ []) (Some w) (children_of between w) [] x cut_once fill' (one_here x);
-      of_w = parent-put_out between inside (x ∷ []) (Some w) (children_of between w) [] w fill' out' ∙ parent-cut (x ∷ []) beside w ∙ rw out' beside_w;
+      of_w = parent-put_out between inside (x ∷ []) (Some w) (children_of between w) [] w fill' out' ∙ parent-detach (x ∷ []) beside w ∙ rw out' beside_w;
     }
 
 wrapper_wrapped : (forest : Forest) (x p w : ℕ) → Bare forest x p w → wrapper (wrapped x w forest) x ≡ Some w
@@ -188,13 +188,13 @@ children_wrapped forest x p w b =
 
 -- the forest after both
 back : (x w : ℕ) (forest : Forest) → Forest
-back x w forest = cut (w ∷ []) (moved_to (x ∷ []) (before_node w) (wrapped x w forest))
+back x w forest = detach (w ∷ []) (moved_to (x ∷ []) (before_node w) (wrapped x w forest))
 
 unwrapped_is : (forest : Forest) (x p w : ℕ) → Bare forest x p w → unwrapped x (wrapped x w forest) ≡ back x w forest
 unfolding back
 unwrapped_is forest x p w b =
     ap (λ o. without_wrapper o (wrapped x w forest)) (wrapper_wrapped forest x p w b)
-    ∙ ap (λ ns. cut (w ∷ []) (moved_to ns (before_node w) (wrapped x w forest))) (children_wrapped forest x p w b)
+    ∙ ap (λ ns. detach (w ∷ []) (moved_to ns (before_node w) (wrapped x w forest))) (children_wrapped forest x p w b)
 
 children_back : (forest : Forest) (x p w q : ℕ) → Bare forest x p w → q < length forest.children → children_of (back x w forest) q ≡ children_of forest q
 unfolding back
@@ -202,7 +202,7 @@ children_back forest x p w q b h =
     let beside = moved_to (w ∷ []) (before_node x) forest in
     let inside = wrapped x w forest in
     let all : children_of (back x w forest) q ≡ without (w ∷ []) (put_before w (x ∷ []) (without (x ∷ []) (children_of inside q))) =
-    children-cut (w ∷ []) (moved_to (x ∷ []) (before_node w) inside) q ∙ ap (without (w ∷ [])) (children_beside inside w x q) in
+    children-detach (w ∷ []) (moved_to (x ∷ []) (before_node w) inside) q ∙ ap (without (w ∷ [])) (children_beside inside w x q) in
     let into = children_into beside w x q (omega (arith, children_count forest (before_node x) w)) in
     let was = children_beside forest x w q in
     elim (cases_Bool (q == w)) [
@@ -228,7 +228,7 @@ run_back forest x p w n b h =
     let after_long = runs_count inside (before_node w) x in
     let x_here : x < length forest.runs = omega (arith, once.runs_each, b.x_known) in
     let w_here : w < length forest.runs = omega (arith, once.runs_each, b.w_known) in
-    let all : run_of (back x w forest) n ≡ cond (stands_in n (w ∷ [])) (w ∷ []) (without (w ∷ []) (run_of after' n)) = run-cut (w ∷ []) after' n (omega (arith, beside_long, inside_long, after_long)) in
+    let all : run_of (back x w forest) n ≡ cond (is_member n (w ∷ [])) (w ∷ []) (without (w ∷ []) (run_of after' n)) = run-detach (w ∷ []) after' n (omega (arith, beside_long, inside_long, after_long)) in
     let apart : x ≡ w → ⊥ = b.differ in
     elim (cases_Bool (w == n)) [
       | inl t ↦ (let is : w ≡ n = eqb-true w n t in
@@ -243,11 +243,11 @@ run_back forest x p w n b h =
                 let in_after : run_of after' x ≡ [] = run_beside_it inside w x (omega (arith, beside_long, inside_long)) (omega (arith, beside_long, inside_long)) apart ∙ ap (λ ns. put_before w (x ∷ []) (without (x ∷ []) ns)) in_inside in
                 rest ∙ ap (λ (k : ℕ). without (w ∷ []) (run_of after' k)) (sym is) ∙ ap (without (w ∷ [])) in_after ∙ sym none ∙ ap (run_of forest) is)
             | inr g ↦ (let x_other : x ≡ n → ⊥ = eqb-false x n g in
-                let no_x : stands_in x (run_of forest n) ≡ false = elim (cases_Bool (stands_in x (run_of forest n))) [
+                let no_x : is_member x (run_of forest n) ≡ false = elim (cases_Bool (is_member x (run_of forest n))) [
                   | inr off ↦ off
                   | inl s ↦ (let two = sym (once.in_run n x s).1 ∙ b.above in cc)
                 ] in
-                let no_w : stands_in w (run_of forest n) ≡ false = elim (cases_Bool (stands_in w (run_of forest n))) [
+                let no_w : is_member w (run_of forest n) ≡ false = elim (cases_Bool (is_member w (run_of forest n))) [
                   | inr off ↦ off
                   | inl s ↦ (let its : run_of forest n ≡ w ∷ [] = sym (once.in_run n w s).2 ∙ b.bare.alone in
                       absurd (w_other (only_one forest w n once (omega (arith, once.runs_each)) its)))
@@ -271,7 +271,7 @@ unfolding back
 runs_count_back x w forest =
     let inside = wrapped x w forest in
     let after' = moved_to (x ∷ []) (before_node w) inside in
-    length-map_from 0 (λ k run. cond (stands_in k (w ∷ [])) (w ∷ []) (without (w ∷ []) run)) after'.runs ∙ runs_count inside (before_node w) x ∙ runs_count (moved_to (w ∷ []) (before_node x) forest) (end_of w) x ∙ runs_count forest (before_node x) w
+    length-map_from 0 (λ k run. cond (is_member k (w ∷ [])) (w ∷ []) (without (w ∷ []) run)) after'.runs ∙ runs_count inside (before_node w) x ∙ runs_count (moved_to (w ∷ []) (before_node x) forest) (end_of w) x ∙ runs_count forest (before_node x) w
 
 content_back : (x w : ℕ) (forest : Forest) → (back x w forest).content ≡ forest.content
 unfolding back

@@ -13,11 +13,11 @@ use Rattle.dom_links.specs.Contents.{KeepsKind, with_content}
 use Rattle.dom_links.specs.Forest.{Forest, StandsOnce, forest_of}
 use Rattle.dom_links.specs.Growth.{MayAppend, with_child, with_node}
 use Rattle.dom_links.specs.ListMoves.{Moves}
-use Rattle.dom_links.specs.Moves.{Gap, end_of, front_of, before_node, after_node, put}
-use Rattle.dom_links.specs.declared.gap.Moving.TheVariants.{Node}
+use Rattle.dom_links.specs.Moves.{InsertionPoint, end_of, front_of, before_node, after_node, put}
+use Rattle.dom_links.specs.declared.gap.MovedNodes.TheVariants.{Node}
 use Rattle.dom_links.specs.Sound.{Allowed, IsForest, IsOpenGap, IsSoundArena, IsHostAncestor, is_open, one_step, stays, target, then_step}
 use Rattle.dom_links.proofs.moves.BlockMoves.{moved_one}
-use Rattle.dom_links.proofs.forest.Appends.{cut-alone, new_alone}
+use Rattle.dom_links.proofs.forest.Appends.{detach-alone, new_alone}
 use Rattle.dom_links.proofs.forest.Climbs.{contents_at-known}
 use Rattle.dom_links.proofs.forest.Depth.{parent_inside}
 use Rattle.dom_links.proofs.moves.Dissolving.{still_sound}
@@ -41,14 +41,14 @@ no_way text forest good _ _ (then_step m k n way step) new = no_way text forest 
 stays-more : (content : NodeData) (forest : Forest) (n : ℕ) → n < length forest.content → stays (with_node content forest) n ≡ stays forest n
 stays-more content forest n known = ap (λ o. (n == 0) || option_map_or is_top o false) (slice_get-before forest.content content n known)
 
-open-more : (content : NodeData) (forest : Forest) (gap : Gap) → target gap < length forest.content → is_open gap forest ≡ true → is_open gap (with_node content forest) ≡ true
+open-more : (content : NodeData) (forest : Forest) (gap : InsertionPoint) → target gap < length forest.content → is_open gap forest ≡ true → is_open gap (with_node content forest) ≡ true
 open-more content forest (end_of t) known open_here = test-more children_allowed forest.content content t open_here
 open-more content forest (front_of t) known open_here = test-more children_allowed forest.content content t open_here
 open-more content forest (before_node t) known open_here = ap not (stays-more content forest t known) ∙ open_here
 open-more content forest (after_node t) known open_here = ap not (stays-more content forest t known) ∙ open_here
 
 -- a new text may be put at an open gap
-new_allowed : (forest : Forest) (gap : Gap) (text : List ℕ) → IsForest forest → target gap < length forest.content → is_open gap forest ≡ true → Allowed (with_node (Text text) forest) gap (length forest.content)
+new_allowed : (forest : Forest) (gap : InsertionPoint) (text : List ℕ) → IsForest forest → target gap < length forest.content → is_open gap forest ≡ true → Allowed (with_node (Text text) forest) gap (length forest.content)
 new_allowed forest gap text good known open_here =
     let long = length_push forest.content (Text text) in
     let not_root : (length forest.content == 0) ≡ false = ne_eqb (length forest.content) 0 (λ e. absurd (omega arith)) in
@@ -63,12 +63,12 @@ new_allowed forest gap text good known open_here =
       };
     }
 
-pub allowed_at : (forest now : Forest) (gap : Gap) (x : ℕ) (text : List ℕ) → IsForest forest → target gap < length forest.content → is_open gap forest ≡ true → now ≡ with_node (Text text) forest → x ≡ length forest.content → Allowed now gap x
+pub allowed_at : (forest now : Forest) (gap : InsertionPoint) (x : ℕ) (text : List ℕ) → IsForest forest → target gap < length forest.content → is_open gap forest ≡ true → now ≡ with_node (Text text) forest → x ≡ length forest.content → Allowed now gap x
 allowed_at forest now gap x text good known open_here made number =
     subst (λ (f : Forest). Allowed f gap x) (sym made) (subst (λ (c : ℕ). Allowed (with_node (Text text) forest) gap c) (sym number) (new_allowed forest gap text good known open_here))
 
 -- no text stands before the gap, so a new one is made
-pub none_before : (gap : Gap) (text : List ℕ) (forest : Forest) → text_before gap forest ≡ None → with_node_at gap (Text text) forest ≡ with_text_at gap text forest
+pub none_before : (gap : InsertionPoint) (text : List ℕ) (forest : Forest) → text_before gap forest ≡ None → with_node_at gap (Text text) forest ≡ with_text_at gap text forest
 none_before gap text forest none = ap (λ (before : Option ℕ). with_more before gap text forest) (sym none)
 
 -- the same of a new one that is made as the last child: it stood nowhere before
@@ -76,7 +76,7 @@ pub last_child_text : (t : ℕ) (text : List ℕ) (forest : Forest) → StandsOn
 last_child_text t text forest once none =
     let more = with_node (Text text) forest in
     let n = length forest.content in
-    ap (put (end_of t) (n ∷ [])) (sym (cut-alone more n (once-more (Text text) forest once) (new_alone (Text text) forest once)))
+    ap (put (end_of t) (n ∷ [])) (sym (detach-alone more n (once-more (Text text) forest once) (new_alone (Text text) forest once)))
     ∙ none_before (end_of t) text forest none
 
 -- a text may be made as the last child of a node that may have children
@@ -89,10 +89,10 @@ text_may_append t text forest opens = record {
   apart = λ c named at. (let none : None ≡ Some c = named in cc);
 }
 
-pub some_before : (gap : Gap) (text : List ℕ) (forest : Forest) (n : ℕ) → Some n ≡ text_before gap forest → with_content n (lengthened text) forest ≡ with_text_at gap text forest
+pub some_before : (gap : InsertionPoint) (text : List ℕ) (forest : Forest) (n : ℕ) → Some n ≡ text_before gap forest → with_content n (lengthened text) forest ≡ with_text_at gap text forest
 some_before gap text forest n some = ap (λ (before : Option ℕ). with_more before gap text forest) some
 
-pub placed_sound : (old new : List TreeNode) (gap : Gap) (x : ℕ) → IsSoundArena old → Allowed (forest_of old) gap x → Moves old new gap (Node x) → IsSoundArena new
+pub placed_sound : (old new : List TreeNode) (gap : InsertionPoint) (x : ℕ) → IsSoundArena old → Allowed (forest_of old) gap x → Moves old new gap (Node x) → IsSoundArena new
 placed_sound old new gap x sound allowed moved =
     let one = moved_one old new gap x moved in
     still_sound old new sound one.linked (one.kept allowed sound.forest) (ap (λ (f : Forest). length f.content) one.made)

@@ -8,7 +8,7 @@ use Rattle.std.proofs.lemmas.List.Concat.{flat_map-append}
 use Rattle.dom_nodes.specs.Kinds.{is_text, children_allowed}
 use Rattle.dom_nodes.specs.declared.node_data.NodeData.{NodeData}
 use Rattle.dom_nodes.specs.declared.node_data.NodeData.TheVariants.{Document, Fragment, Text, Element}
-use Rattle.dom_links.specs.Lists.{stands_in, map_from, without}
+use Rattle.dom_links.specs.Lists.{is_member, map_from, without}
 use Rattle.dom_links.specs.Forest.{Forest, children_of}
 use Rattle.dom_links.specs.Readings.{JoinsTexts, Reading, read_as}
 use Rattle.dom_links.specs.SetTexts.{is_text_at, with_text_data}
@@ -63,16 +63,16 @@ text_leaf forest n good text = go (children_of forest n) refl
     go : (ks : List ℕ) → children_of forest n ≡ ks → ks ≡ []
     go [] is = refl
     go (k ∷ ks) is =
-        let up = (good.once.in_children n k (ap (stands_in k) is ∙ here_stands k ks)).1 in
+        let up = (good.once.in_children n k (ap (is_member k) is ∙ here_stands k ks)).1 in
         absurd (true≢false (sym (good.parents_allow n k up) ∙ none (slice_get forest.content n) text))
 
 pub without_reverse : (out ns : List ℕ) → without out (reverse ns) ≡ reverse (without out ns)
 without_reverse out [] = refl
 without_reverse out (n ∷ ns) =
     ap (without out) (reverse_cons n ns) ∙ without-append out (reverse ns) (n ∷ []) ∙ ap (λ ms. ms ++ without out (n ∷ [])) (without_reverse out ns)
-    ∙ last_part (stands_in n out) refl
+    ∙ last_part (is_member n out) refl
   where
-    last_part : (b : Bool) → stands_in n out ≡ b → reverse (without out ns) ++ without out (n ∷ []) ≡ reverse (without out (n ∷ ns))
+    last_part : (b : Bool) → is_member n out ≡ b → reverse (without out ns) ++ without out (n ∷ []) ≡ reverse (without out (n ∷ ns))
     last_part true is = rw is (append-nil (reverse (without out ns)))
     last_part false is = rw is (sym (reverse_cons n (without out ns)))
 
@@ -106,7 +106,7 @@ leaves forest good n none = go (children_of forest n) refl
     go : (ks : List ℕ) → children_of forest n ≡ ks → ks ≡ []
     go [] is = refl
     go (k ∷ ks) is =
-        let up = (good.once.in_children n k (ap (stands_in k) is ∙ here_stands k ks)).1 in
+        let up = (good.once.in_children n k (ap (is_member k) is ∙ here_stands k ks)).1 in
         absurd (true≢false (sym (good.parents_allow n k up) ∙ none))
 
 -- what a text holds, and what is read of the children of another node

@@ -7,14 +7,14 @@ use Rattle.std.proofs.lemmas.Bool.{cases_Bool, eqb-true, false≢true, ne_eqb}
 use Rattle.dom_nodes.specs.Kinds.{contents_named, is_fragment, is_text, children_allowed}
 use Rattle.dom_nodes.specs.declared.node_data.NodeData.{NodeData}
 use Rattle.dom_nodes.specs.declared.node_data.NodeData.TheVariants.{Text}
-use Rattle.dom_links.specs.Lists.{stands_in, IsDistinct, map_from, without}
+use Rattle.dom_links.specs.Lists.{is_member, IsDistinct, map_from, without}
 use Rattle.dom_links.specs.Forest.{Forest, children_of, owner_from, parent, siblings}
 use Rattle.dom_links.specs.Normalized.{dropped, front_texts, is_empty_text, joined, starts_text_run, nearest_before, normalized}
 use Rattle.dom_links.specs.Readings.{JoinsTexts, Reading, ReadsAlike, read_as}
 use Rattle.dom_links.specs.SetTexts.{is_text_at, with_text_data}
 use Rattle.dom_links.specs.Sound.{IsForest, children_allowed_at, contents_at, stays}
 use Rattle.dom_links.specs.Texts.{text_at, text_in, text_of}
-use Rattle.dom_links.specs.Trees.{ancestors, contents_list, Trees, NoTrees, Tree, trees, trees_to, upward, walk, walk_below}
+use Rattle.dom_links.specs.Trees.{ancestors, contents_list, Trees, NoTrees, Tree, trees, trees_to, upward, walk, descendants_in_order}
 use Rattle.dom_links.specs.Walk.{later, rest_after}
 use Rattle.dom_links.proofs.walks.Apart.{walk-inside}
 use Rattle.dom_links.proofs.moves.BlockMoves.{rest_here}
@@ -25,16 +25,16 @@ use Rattle.dom_links.proofs.walks.DownUp.{below_or_above}
 use Rattle.dom_links.proofs.forest.Grown.{within}
 use Rattle.dom_links.proofs.texts.JoinedNodes.{Leaves, and-false, bearing_kept, either, leaves, no_bytes, text_joins, text_reading, text_walked, got_held, length_held, text_kept, text_leaf, text_put, without_reverse}
 use Rattle.dom_links.proofs.walks.Later.{ancestors-parent, ancestors-same, not_above_itself}
-use Rattle.dom_links.proofs.forest.Neighbours.{around, reverse_around, stands_in-append, stands_in-reverse, stands_in-without, without-append}
+use Rattle.dom_links.proofs.forest.Neighbours.{around, reverse_around, is_member-append, is_member-reverse, is_member-without, without-append}
 use Rattle.dom_links.proofs.forest.Places.{children_mapped, owner-without, siblings_child}
 use Rattle.dom_links.proofs.texts.Rewriting.{forest_with, held, left_run, map_from_none, map_here, runs_nothing}
 use Rattle.dom_links.proofs.texts.SettingTexts.{other_stays}
-use Rattle.dom_links.proofs.moves.Stripping.{has_parent, only_here, stands_in-filter}
+use Rattle.dom_links.proofs.moves.Stripping.{has_parent, only_here, is_member-filter}
 use Rattle.dom_links.proofs.moves.TwoSteps.{map_without_nothing}
 
 module _ (forest : Forest) (x : ℕ) (good : IsForest forest) where
   abbrev nodes : List ℕ
-  nodes = walk_below forest x
+  nodes = descendants_in_order forest x
 
   abbrev out : List ℕ
   out = dropped forest nodes
@@ -50,24 +50,24 @@ module _ (forest : Forest) (x : ℕ) (good : IsForest forest) where
     where
       go : (o : Option NodeData) → option_map_or is_text (option_map (held forest nodes n) o) false ≡ option_map_or is_text o false
       go None = refl
-      go (Some c) = elim (cases_Bool (stands_in n nodes)) [ inl t ↦ rw t (text_kept (joined forest n) c) | inr f ↦ rw f refl ]
+      go (Some c) = elim (cases_Bool (is_member n nodes)) [ inl t ↦ rw t (text_kept (joined forest n) c) | inr f ↦ rw f refl ]
 
-  text_joined : (n : ℕ) → stands_in n nodes ≡ true → is_text_at forest n ≡ true → text_at after_it n ≡ joined forest n
+  text_joined : (n : ℕ) → is_member n nodes ≡ true → is_text_at forest n ≡ true → text_at after_it n ≡ joined forest n
   text_joined n s text = ap (λ o. option_map_or text_in o []) (got n) ∙ go (slice_get forest.content n) text
     where
       go : (o : Option NodeData) → option_map_or is_text o false ≡ true → option_map_or text_in (option_map (held forest nodes n) o) [] ≡ joined forest n
       go None h = cc
       go (Some c) h = ap (λ b. text_in (cond b (with_text_data (joined forest n) c) c)) s ∙ text_put (joined forest n) c h
 
-  text_same : (n : ℕ) → stands_in n nodes ≡ false → text_at after_it n ≡ text_at forest n
+  text_same : (n : ℕ) → is_member n nodes ≡ false → text_at after_it n ≡ text_at forest n
   text_same n s = ap (λ o. option_map_or text_in o []) (got n) ∙ go (slice_get forest.content n)
     where
       go : (o : Option NodeData) → option_map_or text_in (option_map (held forest nodes n) o) [] ≡ option_map_or text_in o []
       go None = refl
       go (Some c) = ap (λ b. text_in (cond b (with_text_data (joined forest n) c) c)) s
 
-  is_out : (n : ℕ) → stands_in n out ≡ (stands_in n nodes && (is_text_at forest n && not (starts_text_run forest n)))
-  is_out n = stands_in-filter (λ m. is_text_at forest m && not (starts_text_run forest m)) nodes n
+  is_out : (n : ℕ) → is_member n out ≡ (is_member n nodes && (is_text_at forest n && not (starts_text_run forest n)))
+  is_out n = is_member-filter (λ m. is_text_at forest m && not (starts_text_run forest m)) nodes n
 
   children_then : (q : ℕ) → children_of after_it q ≡ without out (children_of forest q)
   children_then q = children_mapped (without out) forest.children q refl
@@ -86,8 +86,8 @@ module _ (forest : Forest) (x : ℕ) (good : IsForest forest) where
       let others = walks_then (suc most) ns in
       let kids = walk (trees_to forest most (children_of forest n)) in
       let rest = walk (trees_to forest (suc most) ns) in
-      elim (cases_Bool (stands_in n out)) [
-        | inl t ↦ (let text = and_text (stands_in n nodes) (is_text_at forest n) (not (starts_text_run forest n)) (sym (is_out n) ∙ t) in
+      elim (cases_Bool (is_member n out)) [
+        | inl t ↦ (let text = and_text (is_member n nodes) (is_text_at forest n) (not (starts_text_run forest n)) (sym (is_out n) ∙ t) in
             let leaf : kids ≡ [] = ap (λ ks. walk (trees_to forest most ks)) (text_leaf forest n good text) in
             rw t (others ∙ ap (λ ks. without out (ks ++ rest)) (sym leaf)))
         | inr f ↦ rw f (ap (λ ms. n ∷ ms ++ walk (trees_to after_it (suc most) (without out ns))) (ap (λ ks. walk (trees_to after_it most ks)) (children_then n) ∙ below)
@@ -99,7 +99,7 @@ module _ (forest : Forest) (x : ℕ) (good : IsForest forest) where
       and_text true false c h = cc
       and_text false b c h = cc
 
-  pub walk_then : walk_below after_it x ≡ without out nodes
+  pub walk_then : descendants_in_order after_it x ≡ without out nodes
   unfolding trees
   walk_then =
       ap (λ most. walk (trees_to after_it most (children_of after_it x))) (length_held 0 (held forest nodes) forest.content)
@@ -123,16 +123,16 @@ module _ (forest : Forest) (x : ℕ) (good : IsForest forest) where
     up : parent forest n ≡ Some p
     back : later forest true n ≡ reverse before
     on : later forest false n ≡ behind
-    not_before : stands_in n before ≡ false
-    not_behind : stands_in n behind ≡ false
+    not_before : is_member n before ≡ false
+    not_behind : is_member n behind ≡ false
 
   stands_there : (p n : ℕ) (before behind : List ℕ) → children_of forest p ≡ before ++ n ∷ behind → Stands p n before behind
   stands_there p n before behind is =
-      let here : stands_in n (children_of forest p) ≡ true = ap (stands_in n) is ∙ stands_in-append before (n ∷ behind) n ∙ or-true (stands_in n before) _ (here_stands n behind) in
+      let here : is_member n (children_of forest p) ≡ true = ap (is_member n) is ∙ is_member-append before (n ∷ behind) n ∙ or-true (is_member n before) _ (here_stands n behind) in
       let up = (good.once.in_children p n here).1 in
       let row = siblings_child forest n p up ∙ is in
       let apart = only_here before behind n (subst IsDistinct is (good.once.children_once p)) in
-      let turned = stands_in-reverse behind n ∙ apart.1 in
+      let turned = is_member-reverse behind n ∙ apart.1 in
       record {
         up = up;
         back = ap (λ ms. rest_after (reverse ms) n) row ∙ ap (λ ms. rest_after ms n) (reverse_around before behind n) ∙ rest_here (reverse behind) (reverse before) n turned;
@@ -150,42 +150,42 @@ module _ (forest : Forest) (x : ℕ) (good : IsForest forest) where
       ap (λ b. b && not (is_empty_text forest n) && not (option_map_or (is_text_at forest) (nearest_before forest n) false)) text
       ∙ ap (λ ms. not (is_empty_text forest n) && not (option_map_or (is_text_at forest) (find (λ m. not (is_empty_text forest m)) ms) false)) there.back
 
-  out_text : (n : ℕ) → stands_in n nodes ≡ true → is_text_at forest n ≡ true → stands_in n out ≡ not (starts_text_run forest n)
+  out_text : (n : ℕ) → is_member n nodes ≡ true → is_text_at forest n ≡ true → is_member n out ≡ not (starts_text_run forest n)
   out_text n s text = is_out n ∙ ap (λ b. b && (is_text_at forest n && not (starts_text_run forest n))) s ∙ ap (λ b. b && not (starts_text_run forest n)) text
 
-  out_other : (n : ℕ) → is_text_at forest n ≡ false → stands_in n out ≡ false
-  out_other n other = is_out n ∙ ap (λ b. stands_in n nodes && (b && not (starts_text_run forest n))) other ∙ and-false (stands_in n nodes)
+  out_other : (n : ℕ) → is_text_at forest n ≡ false → is_member n out ≡ false
+  out_other n other = is_out n ∙ ap (λ b. is_member n nodes && (b && not (starts_text_run forest n))) other ∙ and-false (is_member n nodes)
 
   -- ---- what is read then
 
-  not_itself : stands_in x nodes ≡ false
-  not_itself = elim (cases_Bool (stands_in x nodes)) [
+  not_itself : is_member x nodes ≡ false
+  not_itself = elim (cases_Bool (is_member x nodes)) [
     | inr f ↦ f
     | inl t ↦ absurd (not_above_itself forest x x good (sym (below_or_above forest good x x) ∙ t) refl)
   ]
 
   -- a child stands below x where its parent is x or stands below it
-  child_stands : (n m : ℕ) → stands_in m (children_of forest n) ≡ true → stands_in m nodes ≡ ((n == x) || stands_in x (ancestors forest n))
+  child_stands : (n m : ℕ) → is_member m (children_of forest n) ≡ true → is_member m nodes ≡ ((n == x) || is_member x (ancestors forest n))
   child_stands n m s =
       let up = (good.once.in_children n m s).1 in
-      below_or_above forest good x m ∙ ap (stands_in x) (ancestors-parent forest m n good up (parent_inside forest m n good up))
+      below_or_above forest good x m ∙ ap (is_member x) (ancestors-parent forest m n good up (parent_inside forest m n good up))
 
-  held_is : (n m : ℕ) → stands_in m (contents_list forest n) ≡ true → contents_at forest n ≡ Some m
+  held_is : (n m : ℕ) → is_member m (contents_list forest n) ≡ true → contents_at forest n ≡ Some m
   held_is n m s = go (contents_at forest n) refl
     where
       go : (o : Option ℕ) → contents_at forest n ≡ o → contents_at forest n ≡ Some m
-      go None e = (let empty : contents_list forest n ≡ [] = rw e refl in absurd (false≢true (ap (stands_in m) (sym empty) ∙ s)))
-      go (Some c) e = (let one : contents_list forest n ≡ c ∷ [] = rw e refl in e ∙ ap Some (eqb-true c m (sym (one-stands c m) ∙ ap (stands_in m) (sym one) ∙ s)))
+      go None e = (let empty : contents_list forest n ≡ [] = rw e refl in absurd (false≢true (ap (is_member m) (sym empty) ∙ s)))
+      go (Some c) e = (let one : contents_list forest n ≡ c ∷ [] = rw e refl in e ∙ ap Some (eqb-true c m (sym (one-stands c m) ∙ ap (is_member m) (sym one) ∙ s)))
 
-  held_known : (n m : ℕ) → stands_in m (contents_list forest n) ≡ true → m < length forest.content
+  held_known : (n m : ℕ) → is_member m (contents_list forest n) ≡ true → m < length forest.content
   held_known n m s = within is_fragment forest.content m (good.contents_known n m (held_is n m s)).1
 
   -- contents stand alone, so they stand below nothing
-  held_outside : (n m : ℕ) → stands_in m (contents_list forest n) ≡ true → stands_in m nodes ≡ false
+  held_outside : (n m : ℕ) → is_member m (contents_list forest n) ≡ true → is_member m nodes ≡ false
   held_outside n m s =
       let fragment = (good.contents_known n m (held_is n m s)).1 in
       let none = (good.alone m (held_known n m s) (top_stays m fragment)).0 in
-      below_or_above forest good x m ∙ ap (stands_in x) (ap (upward forest) none ∙ upward-none forest)
+      below_or_above forest good x m ∙ ap (is_member x) (ap (upward forest) none ∙ upward-none forest)
     where
       or-true : (a b : Bool) → b ≡ true → (a || b) ≡ true
       or-true true b h = refl
@@ -194,12 +194,12 @@ module _ (forest : Forest) (x : ℕ) (good : IsForest forest) where
       top_stays : (m : ℕ) → option_map_or is_fragment (slice_get forest.content m) false ≡ true → stays forest m ≡ true
       top_stays m h = or-true (m == 0) _ (fragment_is_top (slice_get forest.content m) h)
 
-  -- the trees without the nodes that are cut out
+  -- the trees without the nodes that are detached
   abbrev pruned : Trees → Trees
   pruned NoTrees = NoTrees
-  pruned (Tree n contents children later) = cond (stands_in n out) (pruned later) (Tree n (pruned contents) (pruned children) (pruned later))
+  pruned (Tree n contents children later) = cond (is_member n out) (pruned later) (Tree n (pruned contents) (pruned children) (pruned later))
 
-  same_there : (n : ℕ) → stands_in n nodes ≡ false → slice_get after_it.content n ≡ slice_get forest.content n
+  same_there : (n : ℕ) → is_member n nodes ≡ false → slice_get after_it.content n ≡ slice_get forest.content n
   same_there n s = got n ∙ go (slice_get forest.content n)
     where
       go : (o : Option NodeData) → option_map (held forest nodes n) o ≡ o
@@ -211,7 +211,7 @@ module _ (forest : Forest) (x : ℕ) (good : IsForest forest) where
     where
       go : (o : Option NodeData) → option_map_or is_text o false ≡ false → option_map (held forest nodes n) o ≡ o
       go None h = refl
-      go (Some c) h = elim (cases_Bool (stands_in n nodes)) [
+      go (Some c) h = elim (cases_Bool (is_member n nodes)) [
         | inl t ↦ ap (λ b. Some (cond b (with_text_data (joined forest n) c) c)) t ∙ ap Some (other_stays (joined forest n) c h)
         | inr f ↦ ap (λ b. Some (cond b (with_text_data (joined forest n) c) c)) f
       ]
@@ -251,7 +251,7 @@ module _ (forest : Forest) (x : ℕ) (good : IsForest forest) where
   pruned_to : (most : ℕ) (ns : List ℕ) → trees_to after_it most (without out ns) ≡ pruned (trees_to forest most ns)
   pruned_to most [] = refl
   pruned_to zero (n ∷ ns) = none_zero after_it (without out (n ∷ ns))
-  pruned_to (suc most) (n ∷ ns) = elim (cases_Bool (stands_in n out)) [
+  pruned_to (suc most) (n ∷ ns) = elim (cases_Bool (is_member n out)) [
     | inl t ↦ rw t (pruned_to (suc most) ns)
     | inr f ↦ rw f (ap (λ ts. Tree n ts (trees_to after_it most (children_of after_it n)) (trees_to after_it (suc most) (without out ns))) (ap (trees_to after_it most) (contents_then n) ∙ pruned_to most (contents_list forest n))
         ∙ ap (λ ts. Tree n (pruned (trees_to forest most (contents_list forest n))) ts (trees_to after_it (suc most) (without out ns))) (ap (trees_to after_it most) (children_then n) ∙ pruned_to most (children_of forest n))
@@ -291,8 +291,8 @@ module _ (forest : Forest) (x : ℕ) (good : IsForest forest) where
   read_alike reading place inner inner' below below' same all None = refl
   read_alike reading place inner inner' below below' same all (Some c) = ap (λ ts. reading.node c place ts (below (reading.below c))) same ∙ ap (λ ts. reading.node c place inner' ts) (all (reading.below c))
 
-  readings_then : (reading : Reading) → JoinsTexts reading forest → (t : Trees) (p : ℕ) (is_row : Bool) (before behind : List ℕ) → t ≡ trees forest behind → (is_row ≡ true → children_of forest p ≡ before ++ behind) → ((m : ℕ) → stands_in m behind ≡ true → stands_in m nodes ≡ is_row) →
-      ((m : ℕ) → stands_in m behind ≡ true → m < length forest.content) → SameReading reading is_row before behind
+  readings_then : (reading : Reading) → JoinsTexts reading forest → (t : Trees) (p : ℕ) (is_row : Bool) (before behind : List ℕ) → t ≡ trees forest behind → (is_row ≡ true → children_of forest p ≡ before ++ behind) → ((m : ℕ) → is_member m behind ≡ true → is_member m nodes ≡ is_row) →
+      ((m : ℕ) → is_member m behind ≡ true → m < length forest.content) → SameReading reading is_row before behind
   readings_then reading joins t p is_row before [] e row in_row known =
       let none = trees-none forest in
       let old : (place : Bool) → old_read reading place [] ≡ [] = λ place. ap (λ ts. read_as reading forest place ts) none in
@@ -311,21 +311,21 @@ module _ (forest : Forest) (x : ℕ) (good : IsForest forest) where
       let here = in_row n (here_stands n behind) in
       let inside_here = known n (here_stands n behind) in
       let contents = readings_then reading joins c n false [] (contents_list forest n) held_are (λ no. absurd (false≢true no)) (λ m s. held_outside n m s) (λ m s. held_known n m s) in
-      let kids = readings_then reading joins k n ((n == x) || stands_in x (ancestors forest n)) [] (children_of forest n) kids_are (λ _. refl) (λ m s. child_stands n m s) (λ m s. (good.once.in_children n m s).0) in
+      let kids = readings_then reading joins k n ((n == x) || is_member x (ancestors forest n)) [] (children_of forest n) kids_are (λ _. refl) (λ m s. child_stands n m s) (λ m s. (good.once.in_children n m s).0) in
       let rest = readings_then reading joins l p is_row (before ++ n ∷ []) behind rest_are (λ h. row h ∙ sym (append_assoc before (n ∷ []) behind)) (λ m s. in_row m (later_stands n m behind s)) (λ m s. known m (later_stands n m behind s)) in
       let inner : Bool → List ℕ = λ place. new_read reading place (children_of forest n) in
       let old : (place : Bool) → old_read reading place (n ∷ behind) ≡ first_read reading place (old_read reading false (contents_list forest n)) (λ b. old_read reading b (children_of forest n)) (slice_get forest.content n) ++ old_read reading place behind
       = λ place. ap (read_as reading forest place) whole in
-      let left : (place : Bool) → new_read reading place (n ∷ behind) ≡ read_as reading after_it place (cond (stands_in n out) (pruned (trees forest behind)) (Tree n (pruned (trees forest (contents_list forest n))) (pruned (trees forest (children_of forest n))) (pruned (trees forest behind))))
+      let left : (place : Bool) → new_read reading place (n ∷ behind) ≡ read_as reading after_it place (cond (is_member n out) (pruned (trees forest behind)) (Tree n (pruned (trees forest (contents_list forest n))) (pruned (trees forest (children_of forest n))) (pruned (trees forest behind))))
       = λ place. ap (λ ts. read_as reading after_it place (pruned ts)) whole in
-      let gone : stands_in n out ≡ true → (place : Bool) → new_read reading place (n ∷ behind) ≡ new_read reading place behind
+      let gone : is_member n out ≡ true → (place : Bool) → new_read reading place (n ∷ behind) ≡ new_read reading place behind
       = λ t place. left place ∙ ap (λ b. read_as reading after_it place (cond b (pruned (trees forest behind)) (Tree n (pruned (trees forest (contents_list forest n))) (pruned (trees forest (children_of forest n))) (pruned (trees forest behind))))) t in
-      let kept : stands_in n out ≡ false → (place : Bool) → new_read reading place (n ∷ behind) ≡ first_read reading place (new_read reading false (contents_list forest n)) inner (slice_get after_it.content n) ++ new_read reading place behind
+      let kept : is_member n out ≡ false → (place : Bool) → new_read reading place (n ∷ behind) ≡ first_read reading place (new_read reading false (contents_list forest n)) inner (slice_get after_it.content n) ++ new_read reading place behind
       = λ f place. left place ∙ ap (λ b. read_as reading after_it place (cond b (pruned (trees forest behind)) (Tree n (pruned (trees forest (contents_list forest n))) (pruned (trees forest (children_of forest n))) (pruned (trees forest behind))))) f in
       let alike : (place : Bool) → first_read reading place (new_read reading false (contents_list forest n)) inner (slice_get forest.content n) ≡ first_read reading place (old_read reading false (contents_list forest n)) (λ b. old_read reading b (children_of forest n)) (slice_get forest.content n)
       = λ place. read_alike reading place _ _ inner (λ b. old_read reading b (children_of forest n)) (contents.apart (λ no. absurd (false≢true no)) false) (λ b. kids.apart (λ _. refl) b) (slice_get forest.content n) in
       -- the node is what it was, and what is behind it is read as before
-      let stayed : stands_in n out ≡ false → slice_get after_it.content n ≡ slice_get forest.content n → (place : Bool) → new_read reading place behind ≡ old_read reading place behind → new_read reading place (n ∷ behind) ≡ old_read reading place (n ∷ behind)
+      let stayed : is_member n out ≡ false → slice_get after_it.content n ≡ slice_get forest.content n → (place : Bool) → new_read reading place behind ≡ old_read reading place behind → new_read reading place (n ∷ behind) ≡ old_read reading place (n ∷ behind)
       = λ f is place later_same. kept f place ∙ ap (λ o. first_read reading place (new_read reading false (contents_list forest n)) inner o ++ new_read reading place behind) is
       ∙ ap (λ ms. ms ++ new_read reading place behind) (alike place)
       ∙ ap (λ ms. first_read reading place (old_read reading false (contents_list forest n)) (λ b. old_read reading b (children_of forest n)) (slice_get forest.content n) ++ ms) later_same ∙ sym (old place) in
@@ -383,15 +383,15 @@ module _ (forest : Forest) (x : ℕ) (good : IsForest forest) where
     back : later after_it true n ≡ without out (reverse before)
     on : later after_it false n ≡ without out behind
 
-  later_then : (p n : ℕ) (before behind : List ℕ) → children_of forest p ≡ before ++ n ∷ behind → stands_in n out ≡ false → LaterThen n before behind
+  later_then : (p n : ℕ) (before behind : List ℕ) → children_of forest p ≡ before ++ n ∷ behind → is_member n out ≡ false → LaterThen n before behind
   later_then p n before behind is stays =
       let there = stands_there p n before behind is in
       let up : parent after_it n ≡ Some p = owner-without 0 out forest.children n ∙ ap (λ b. cond b None (owner_from 0 forest.children n)) stays ∙ there.up in
       let kept : without out (n ∷ behind) ≡ n ∷ without out behind = ap (λ b. cond b (without out behind) (n ∷ without out behind)) stays in
       let row : siblings after_it n ≡ without out before ++ n ∷ without out behind =
       siblings_child after_it n p up ∙ children_then p ∙ ap (without out) is ∙ without-append out before (n ∷ behind) ∙ ap (λ ms. without out before ++ ms) kept in
-      let front : stands_in n (without out before) ≡ false = stands_in-without out before n ∙ ap (λ b. b && not (stands_in n out)) there.not_before in
-      let rear : stands_in n (reverse (without out behind)) ≡ false = stands_in-reverse (without out behind) n ∙ stands_in-without out behind n ∙ ap (λ b. b && not (stands_in n out)) there.not_behind in
+      let front : is_member n (without out before) ≡ false = is_member-without out before n ∙ ap (λ b. b && not (is_member n out)) there.not_before in
+      let rear : is_member n (reverse (without out behind)) ≡ false = is_member-reverse (without out behind) n ∙ is_member-without out behind n ∙ ap (λ b. b && not (is_member n out)) there.not_behind in
       record {
         back = ap (λ ms. rest_after (reverse ms) n) row ∙ ap (λ ms. rest_after ms n) (reverse_around (without out before) (without out behind) n)
             ∙ rest_here (reverse (without out behind)) (reverse (without out before)) n rear ∙ sym (without_reverse out before);
@@ -411,12 +411,12 @@ module _ (forest : Forest) (x : ℕ) (good : IsForest forest) where
       go false b h = h
 
   -- going back, no text is met then where none was
-  back_then : (ns : List ℕ) → ((m : ℕ) → stands_in m ns ≡ true → stands_in m nodes ≡ true) → option_map_or (is_text_at forest) (find (λ m. not (is_empty_text forest m)) ns) false ≡ false →
+  back_then : (ns : List ℕ) → ((m : ℕ) → is_member m ns ≡ true → is_member m nodes ≡ true) → option_map_or (is_text_at forest) (find (λ m. not (is_empty_text forest m)) ns) false ≡ false →
       option_map_or (is_text_at after_it) (find (λ m. not (is_empty_text after_it m)) (without out ns)) false ≡ false
   back_then [] in_it none = refl
   back_then (m ∷ ns) in_it none = elim (cases_Bool (is_empty_text forest m)) [
     | inl e ↦ (let text = empty_is_text m e in
-        let gone : stands_in m out ≡ true = out_text m (in_it m (here_stands m ns)) text ∙ ap not (empty_follows m text e) in
+        let gone : is_member m out ≡ true = out_text m (in_it m (here_stands m ns)) text ∙ ap not (empty_follows m text e) in
         let less = sym (ap (λ b. option_map_or (is_text_at forest) (cond (not b) (Some m) (find (λ k. not (is_empty_text forest k)) ns)) false) e) ∙ none in
         ap (λ b. option_map_or (is_text_at after_it) (find (λ k. not (is_empty_text after_it k)) (cond b (without out ns) (m ∷ without out ns))) false) gone
         ∙ back_then ns (λ k s. in_it k (later_stands m k ns s)) less)
@@ -428,12 +428,12 @@ module _ (forest : Forest) (x : ℕ) (good : IsForest forest) where
   ]
 
   -- no text is left right after one that starts its text run
-  front_then : (p : ℕ) (before behind : List ℕ) → children_of forest p ≡ before ++ behind → ((m : ℕ) → stands_in m behind ≡ true → stands_in m nodes ≡ true) → inside before ≡ true → front_texts after_it (without out behind) ≡ []
+  front_then : (p : ℕ) (before behind : List ℕ) → children_of forest p ≡ before ++ behind → ((m : ℕ) → is_member m behind ≡ true → is_member m nodes ≡ true) → inside before ≡ true → front_texts after_it (without out behind) ≡ []
   front_then p before [] row in_it h = refl
   front_then p before (m ∷ behind) row in_it h = elim (cases_Bool (is_text_at forest m)) [
     | inl text ↦ (let there = stands_there p m before behind row in
         let f : starts_text_run forest m ≡ false = starts_run_is p m before behind there text ∙ ap (λ b. not (is_empty_text forest m) && not b) h ∙ and-false (not (is_empty_text forest m)) in
-        let gone : stands_in m out ≡ true = out_text m (in_it m (here_stands m behind)) text ∙ ap not f in
+        let gone : is_member m out ≡ true = out_text m (in_it m (here_stands m behind)) text ∙ ap not f in
         let more : inside (before ++ m ∷ []) ≡ true = inside_next before m ∙ either (not (is_empty_text forest m)) (is_text_at forest m) (inside before) text h in
         ap (λ b. front_texts after_it (cond b (without out behind) (m ∷ without out behind))) gone
         ∙ front_then p (before ++ m ∷ []) behind (row ∙ sym (append_assoc before (m ∷ []) behind)) (λ k s. in_it k (later_stands m k behind s)) more)
@@ -450,22 +450,22 @@ module _ (forest : Forest) (x : ℕ) (good : IsForest forest) where
   both_parts false true h = cc
   both_parts true b h = cc
 
-  settled : (n : ℕ) → stands_in n nodes ≡ true → stands_in n out ≡ false → is_text_at forest n ≡ true → Settled n
+  settled : (n : ℕ) → is_member n nodes ≡ true → is_member n out ≡ false → is_text_at forest n ≡ true → Settled n
   settled n s stays text =
       let up = has_parent forest x n (sym (below_or_above forest good x n) ∙ s) in
       let p = up.0 in
-      let child : stands_in n (children_of forest p) ≡ true = ap (stands_in n) (sym (siblings_child forest n p up.1)) ∙ good.once.placed n (walk-inside forest x n good s) in
+      let child : is_member n (children_of forest p) ≡ true = ap (is_member n) (sym (siblings_child forest n p up.1)) ∙ good.once.placed n (walk-inside forest x n good s) in
       let parts = around n (children_of forest p) (good.once.children_once p) child in
-      let in_it : (m : ℕ) → stands_in m (children_of forest p) ≡ true → stands_in m nodes ≡ true = λ m c.
-      below_or_above forest good x m ∙ ap (stands_in x) (ancestors-same forest n m ((good.once.in_children p m c).1 ∙ sym up.1)) ∙ (sym (below_or_above forest good x n) ∙ s) in
+      let in_it : (m : ℕ) → is_member m (children_of forest p) ≡ true → is_member m nodes ≡ true = λ m c.
+      below_or_above forest good x m ∙ ap (is_member x) (ancestors-same forest n m ((good.once.in_children p m c).1 ∙ sym up.1)) ∙ (sym (below_or_above forest good x n) ∙ s) in
       let there = stands_there p n parts.front parts.back parts.is in
       let then' = later_then p n parts.front parts.back parts.is stays in
       let leading : starts_text_run forest n ≡ true = not-true (starts_text_run forest n) (sym (out_text n s text) ∙ stays) in
       let facts = both_parts (is_empty_text forest n) (inside parts.front) (sym (starts_run_is p n parts.front parts.back there text) ∙ leading) in
-      let front_in : (m : ℕ) → stands_in m (reverse parts.front) ≡ true → stands_in m nodes ≡ true = λ m c.
-      in_it m (ap (stands_in m) parts.is ∙ stands_in-append parts.front (n ∷ parts.back) m ∙ ap (λ b. b || stands_in m (n ∷ parts.back)) (sym (stands_in-reverse parts.front m) ∙ c)) in
-      let back_in : (m : ℕ) → stands_in m parts.back ≡ true → stands_in m nodes ≡ true = λ m c.
-      in_it m (ap (stands_in m) parts.is ∙ stands_in-append parts.front (n ∷ parts.back) m ∙ or-true (stands_in m parts.front) (stands_in m (n ∷ parts.back)) (later_stands n m parts.back c)) in
+      let front_in : (m : ℕ) → is_member m (reverse parts.front) ≡ true → is_member m nodes ≡ true = λ m c.
+      in_it m (ap (is_member m) parts.is ∙ is_member-append parts.front (n ∷ parts.back) m ∙ ap (λ b. b || is_member m (n ∷ parts.back)) (sym (is_member-reverse parts.front m) ∙ c)) in
+      let back_in : (m : ℕ) → is_member m parts.back ≡ true → is_member m nodes ≡ true = λ m c.
+      in_it m (ap (is_member m) parts.is ∙ is_member-append parts.front (n ∷ parts.back) m ∙ or-true (is_member m parts.front) (is_member m (n ∷ parts.back)) (later_stands n m parts.back c)) in
       let still : is_text_at after_it n ≡ true = kind n ∙ text in
       let held_now : text_at after_it n ≡ text_at forest n ++ front_texts forest (later forest false n) = text_joined n s text ∙ ap (λ b. cond b (text_at forest n ++ front_texts forest (later forest false n)) []) leading in
       let some : (length (text_at forest n) == 0) ≡ false = sym (ap (λ b. b && length (text_at forest n) == 0) text) ∙ facts.0 in
@@ -491,15 +491,15 @@ module _ (forest : Forest) (x : ℕ) (good : IsForest forest) where
       more_bytes (t ∷ ts) us h = ne_eqb (length (t ∷ (ts ++ us))) 0 (λ e. absurd (omega (arith, e)))
 
   -- who stands below then
-  below_then : (n : ℕ) → stands_in n (walk_below after_it x) ≡ true → (stands_in n nodes ≡ true) × (stands_in n out ≡ false)
-  below_then n s = go (stands_in n nodes) (stands_in n out) (sym (stands_in-without out nodes n) ∙ sym (ap (stands_in n) walk_then) ∙ s)
+  below_then : (n : ℕ) → is_member n (descendants_in_order after_it x) ≡ true → (is_member n nodes ≡ true) × (is_member n out ≡ false)
+  below_then n s = go (is_member n nodes) (is_member n out) (sym (is_member-without out nodes n) ∙ sym (ap (is_member n) walk_then) ∙ s)
     where
       go : (a b : Bool) → (a && not b) ≡ true → (a ≡ true) × (b ≡ false)
       go true false h = (refl, refl)
       go true true h = cc
       go false b h = cc
 
-  none_out : (ns : List ℕ) → ((n : ℕ) → stands_in n ns ≡ true → stands_in n (walk_below after_it x) ≡ true) → dropped after_it ns ≡ []
+  none_out : (ns : List ℕ) → ((n : ℕ) → is_member n ns ≡ true → is_member n (descendants_in_order after_it x) ≡ true) → dropped after_it ns ≡ []
   none_out [] in_it = refl
   none_out (n ∷ ns) in_it =
       let rest = none_out ns (λ m s. in_it m (later_stands n m ns s)) in
@@ -510,10 +510,10 @@ module _ (forest : Forest) (x : ℕ) (good : IsForest forest) where
       ] in
       ap (λ b. cond b (n ∷ dropped after_it ns) (dropped after_it ns)) stays ∙ rest
 
-  same_held : (n : ℕ) (content : NodeData) → slice_get after_it.content n ≡ Some content → held after_it (walk_below after_it x) (0 + n) content ≡ content
+  same_held : (n : ℕ) (content : NodeData) → slice_get after_it.content n ≡ Some content → held after_it (descendants_in_order after_it x) (0 + n) content ≡ content
   same_held n content is =
       let z : 0 + n ≡ n = omega arith in
-      subst (λ (k : ℕ). held after_it (walk_below after_it x) k content ≡ content) (sym z) (elim (cases_Bool (stands_in n (walk_below after_it x))) [
+      subst (λ (k : ℕ). held after_it (descendants_in_order after_it x) k content ≡ content) (sym z) (elim (cases_Bool (is_member n (descendants_in_order after_it x))) [
         | inr f ↦ ap (λ b. cond b (with_text_data (joined after_it n) content) content) f
         | inl s ↦ ap (λ b. cond b (with_text_data (joined after_it n) content) content) s ∙ (let place = below_then n s in
             elim (cases_Bool (is_text_at forest n)) [
@@ -531,7 +531,7 @@ module _ (forest : Forest) (x : ℕ) (good : IsForest forest) where
 
   pub joined_again : normalized x after_it ≡ after_it
   joined_again =
-      let ns = walk_below after_it x in
+      let ns = descendants_in_order after_it x in
       let none = none_out ns (λ n s. s) in
       let content = map_here 0 (held after_it ns) (λ n c. c) after_it.content same_held ∙ map_from_none 0 after_it.content in
       ap (λ ms. forest_with (map_from 0 (held after_it ns) after_it.content) (map (without ms) after_it.children) (map_from 0 (left_run ms) after_it.runs)) none
@@ -542,15 +542,15 @@ module _ (forest : Forest) (x : ℕ) (good : IsForest forest) where
   -- the children of x are read as before
   children_alike : (reading : Reading) → JoinsTexts reading forest → (place : Bool) → read_as reading after_it place (trees after_it (children_of after_it x)) ≡ read_as reading forest place (trees forest (children_of forest x))
   children_alike reading joins place =
-      let kids = readings_then reading joins (trees forest (children_of forest x)) x ((x == x) || stands_in x (ancestors forest x)) [] (children_of forest x) refl (λ _. refl) (λ m s. child_stands x m s) (λ m s. (good.once.in_children x m s).0) in
+      let kids = readings_then reading joins (trees forest (children_of forest x)) x ((x == x) || is_member x (ancestors forest x)) [] (children_of forest x) refl (λ _. refl) (λ m s. child_stands x m s) (λ m s. (good.once.in_children x m s).0) in
       ap (read_as reading after_it place) (ap (trees after_it) (children_then x) ∙ trees_then (children_of forest x)) ∙ kids.apart (λ _. refl) place
 
   pub read_alike_then : (reading : Reading) → JoinsTexts reading forest → x < length forest.content → ReadsAlike reading x after_it forest
   read_alike_then reading joins known =
-      let alone : stands_in x nodes ≡ false = not_itself in
+      let alone : is_member x nodes ≡ false = not_itself in
       let left : without out (x ∷ []) ≡ x ∷ [] = ap (λ b. cond b [] (x ∷ [])) (is_out x ∙ ap (λ b. b && (is_text_at forest x && not (starts_text_run forest x))) alone) in
-      let one : (m : ℕ) → stands_in m (x ∷ []) ≡ true → m ≡ x = λ m s. sym (eqb-true x m (sym (one-stands x m) ∙ s)) in
-      let top = readings_then reading joins (trees forest (x ∷ [])) x false [] (x ∷ []) refl (λ no. absurd (false≢true no)) (λ m s. ap (λ k. stands_in k nodes) (one m s) ∙ alone) (λ m s. subst (λ (k : ℕ). k < length forest.content) (sym (one m s)) known) in
+      let one : (m : ℕ) → is_member m (x ∷ []) ≡ true → m ≡ x = λ m s. sym (eqb-true x m (sym (one-stands x m) ∙ s)) in
+      let top = readings_then reading joins (trees forest (x ∷ [])) x false [] (x ∷ []) refl (λ no. absurd (false≢true no)) (λ m s. ap (λ k. is_member k nodes) (one m s) ∙ alone) (λ m s. subst (λ (k : ℕ). k < length forest.content) (sym (one m s)) known) in
       record {
         node = λ place. ap (read_as reading after_it place) (ap (trees after_it) (sym left) ∙ trees_then (x ∷ [])) ∙ top.apart (λ no. absurd (false≢true no)) place;
         children = children_alike reading joins;
@@ -568,7 +568,7 @@ module _ (forest : Forest) (x : ℕ) (good : IsForest forest) where
         where
           go : (o : Option NodeData) → option_map_or children_allowed (option_map (held forest nodes n) o) false ≡ false → option_map_or children_allowed o false ≡ false
           go None h = refl
-          go (Some c) h = elim (cases_Bool (stands_in n nodes)) [
+          go (Some c) h = elim (cases_Bool (is_member n nodes)) [
             | inl t ↦ sym (bearing_kept (joined forest n) c) ∙ (sym (ap (λ b. children_allowed (cond b (with_text_data (joined forest n) c) c)) t) ∙ h)
             | inr f ↦ sym (ap (λ b. children_allowed (cond b (with_text_data (joined forest n) c) c)) f) ∙ h
           ]
@@ -576,4 +576,4 @@ module _ (forest : Forest) (x : ℕ) (good : IsForest forest) where
   pub text_stays : text_of after_it x ≡ text_of forest x
   text_stays =
       ap (λ ts. text_at after_it x ++ ts) (text_walked after_it leaves_then false (children_of after_it x) ∙ children_alike text_reading (text_joins forest) false ∙ sym (text_walked forest (leaves forest good) false (children_of forest x)))
-      ∙ ap (λ ts. ts ++ flat_map (text_at forest) (walk_below forest x)) (text_same x not_itself)
+      ∙ ap (λ ts. ts ++ flat_map (text_at forest) (descendants_in_order forest x)) (text_same x not_itself)

@@ -8,23 +8,23 @@ use Rattle.dom_nodes.specs.declared.node_data.NodeData.{NodeData}
 use Rattle.dom_nodes.specs.declared.node_data.NodeData.TheVariants.{Text}
 use Rattle.dom_nodes.specs.declared.node_data.TreeNode.{TreeNode}
 use Rattle.dom_links.specs.Contents.{changed_at, with_content}
-use Rattle.dom_links.specs.Lists.{stands_in, after, map_from, without}
+use Rattle.dom_links.specs.Lists.{is_member, after, map_from, without}
 use Rattle.dom_links.specs.Forest.{Forest, forest_of, siblings}
-use Rattle.dom_links.specs.Moves.{cut}
+use Rattle.dom_links.specs.Moves.{detach}
 use Rattle.dom_links.specs.Normalized.{dropped, front_texts, joined, joined_among, starts_text_run, normalized}
 use Rattle.dom_links.specs.Rewrites.{is_rewritten, is_text_after, listed, rewrite, rewrite_at, rewrites, rewritten}
 use Rattle.dom_links.specs.SetTexts.{is_text_at, with_text_data}
 use Rattle.dom_links.specs.Sound.{IsForest, IsSoundArena}
 use Rattle.dom_links.specs.Texts.{text_at, text_in}
-use Rattle.dom_links.specs.Trees.{walk_below}
+use Rattle.dom_links.specs.Trees.{descendants_in_order}
 use Rattle.dom_links.specs.Walk.{later}
 use Rattle.dom_links.specs.declared.ops.normalize.Rewrite.{Rewrite}
 use Rattle.dom_links.proofs.moves.Cuts.{length-contents}
 use Rattle.dom_links.proofs.forest.Grown.{within}
 use Rattle.dom_links.proofs.walks.Later.{Follows, follows}
 use Rattle.dom_links.proofs.forest.Depth.{here_stands}
-use Rattle.dom_links.proofs.forest.Neighbours.{stands_in-append}
-use Rattle.dom_links.proofs.moves.Stripping.{stands_in-filter}
+use Rattle.dom_links.proofs.forest.Neighbours.{is_member-append}
+use Rattle.dom_links.proofs.moves.Stripping.{is_member-filter}
 use Rattle.dom_links.proofs.moves.TwoSteps.{without_nothing, map_without_nothing}
 
 -- ---- what is found
@@ -67,24 +67,24 @@ changed_map i (suc n) change F G (c ∷ cs) here others =
 
 -- what a node holds when these are joined
 abbrev pub held : Forest → List ℕ → ℕ → NodeData → NodeData
-held forest ns n content = if stands_in n ns then with_text_data (joined forest n) content else content
+held forest ns n content = if is_member n ns then with_text_data (joined forest n) content else content
 
 content_more : (forest : Forest) (n : ℕ) (done : List ℕ) → changed_at n (with_text_data (joined forest n)) (map_from 0 (held forest done) forest.content) ≡ map_from 0 (held forest (n ∷ done)) forest.content
 content_more forest n done =
     let z : n ≡ 0 + n = omega arith in
     changed_map 0 n (with_text_data (joined forest n)) (held forest done) (held forest (n ∷ done)) forest.content
     (λ c. subst (λ (k : ℕ). with_text_data (joined forest n) (held forest done k c) ≡ held forest (n ∷ done) k c) z (same c))
-    (λ m c ne. sym (ap (λ t. cond (t || stands_in m done) (with_text_data (joined forest m) c) c) (ne_eqb n m (λ e. ne (sym e ∙ z)))))
+    (λ m c ne. sym (ap (λ t. cond (t || is_member m done) (with_text_data (joined forest m) c) c) (ne_eqb n m (λ e. ne (sym e ∙ z)))))
   where
     same : (c : NodeData) → with_text_data (joined forest n) (held forest done n c) ≡ held forest (n ∷ done) n c
-    same c = elim (cases_Bool (stands_in n done)) [
+    same c = elim (cases_Bool (is_member n done)) [
       | inl t ↦ rw (eq-eqb n n refl, t) (retexted_twice (joined forest n) c)
       | inr f ↦ rw (eq-eqb n n refl, f) refl
     ]
 
 without_after : (n : ℕ) (moved ns : List ℕ) → without (n ∷ []) (without moved ns) ≡ without (n ∷ moved) ns
 without_after n moved [] = refl
-without_after n moved (m ∷ ns) = elim (cases_Bool (stands_in m moved)) [
+without_after n moved (m ∷ ns) = elim (cases_Bool (is_member m moved)) [
   | inl t ↦ elim (cases_Bool (n == m)) [ inl e ↦ rw (t, e) (without_after n moved ns) | inr f ↦ rw (t, f) (without_after n moved ns) ]
   | inr s ↦ elim (cases_Bool (n == m)) [ inl e ↦ rw (s, e) (without_after n moved ns) | inr f ↦ rw (s, f) (ap (λ ms. m ∷ ms) (without_after n moved ns)) ]
 ]
@@ -97,20 +97,20 @@ map_from_both : (i : ℕ) (f g h : ℕ → List ℕ → List ℕ) (lists : List 
 map_from_both i f g h [] same = refl
 map_from_both i f g h (ns ∷ lists) same = rw (same i ns, map_from_both (i + 1) f g h lists same) refl
 
--- the run of m, once these were cut out one by one
+-- the run of m, once these were detached one by one
 abbrev pub left_run : List ℕ → ℕ → List ℕ → List ℕ
-left_run out m run = if stands_in m out then m ∷ [] else without out run
+left_run out m run = if is_member m out then m ∷ [] else without out run
 
-runs_more : (n : ℕ) (out : List ℕ) (m : ℕ) (run : List ℕ) → cond (stands_in m (n ∷ [])) (n ∷ []) (without (n ∷ []) (left_run out m run)) ≡ left_run (n ∷ out) m run
+runs_more : (n : ℕ) (out : List ℕ) (m : ℕ) (run : List ℕ) → cond (is_member m (n ∷ [])) (n ∷ []) (without (n ∷ []) (left_run out m run)) ≡ left_run (n ∷ out) m run
 runs_more n out m run = elim (cases_Bool (n == m)) [
   | inl t ↦ rw t (ap (λ (k : ℕ). k ∷ []) (eqb-true n m t))
-  | inr f ↦ elim (cases_Bool (stands_in m out)) [
+  | inr f ↦ elim (cases_Bool (is_member m out)) [
     | inl s ↦ rw (s, f) refl
     | inr s ↦ rw (f, s) (without_after n out run)
   ]
 ]
 
--- the forest where these hold what they then hold, and those are cut out
+-- the forest where these hold what they then hold, and those are detached
 abbrev pub shape : Forest → List ℕ → List ℕ → Forest
 shape forest ns out = record {
   content = map_from 0 (held forest ns) forest.content;
@@ -139,12 +139,12 @@ settles forest n done text =
     let out = dropped forest done in
     let more = content_more forest n done in
     elim (cases_Bool (starts_text_run forest n)) [
-      | inl t ↦ ap (λ b. cond b texts (cut (n ∷ []) texts)) t ∙ ap (λ cs. forest_with cs now.children now.runs) more ∙ sym (ap (shape forest (n ∷ done)) (stays_in forest n done t))
+      | inl t ↦ ap (λ b. cond b texts (detach (n ∷ []) texts)) t ∙ ap (λ cs. forest_with cs now.children now.runs) more ∙ sym (ap (shape forest (n ∷ done)) (stays_in forest n done t))
       | inr f ↦ (let children = map_both (without (n ∷ [])) (without out) (without (n ∷ out)) forest.children (without_after n out) in
-          let runs = map_from_both 0 (λ m run. cond (stands_in m (n ∷ [])) (n ∷ []) (without (n ∷ []) run)) (left_run out) (left_run (n ∷ out)) forest.runs (runs_more n out) in
-          ap (λ b. cond b texts (cut (n ∷ []) texts)) f
-          ∙ ap (λ cs. forest_with cs (cut (n ∷ []) texts).children (cut (n ∷ []) texts).runs) more
-          ∙ ap (λ ls. forest_with (map_from 0 (held forest (n ∷ done)) forest.content) ls (cut (n ∷ []) texts).runs) children
+          let runs = map_from_both 0 (λ m run. cond (is_member m (n ∷ [])) (n ∷ []) (without (n ∷ []) run)) (left_run out) (left_run (n ∷ out)) forest.runs (runs_more n out) in
+          ap (λ b. cond b texts (detach (n ∷ []) texts)) f
+          ∙ ap (λ cs. forest_with cs (detach (n ∷ []) texts).children (detach (n ∷ []) texts).runs) more
+          ∙ ap (λ ls. forest_with (map_from 0 (held forest (n ∷ done)) forest.content) ls (detach (n ∷ []) texts).runs) children
           ∙ ap (λ ls. forest_with (map_from 0 (held forest (n ∷ done)) forest.content) (map (without (n ∷ out)) forest.children) ls) runs
           ∙ sym (ap (shape forest (n ∷ done)) (goes_out forest n done text f)))
     ]
@@ -221,12 +221,12 @@ all_joined forest ns good =
     is_among_them false follower after h = cc
 
     each : (m : ℕ) (c : NodeData) → slice_get forest.content m ≡ Some c → held forest (filter (is_rewritten forest) ns) m c ≡ held forest ns m c
-    each m c is = elim (cases_Bool (stands_in m ns)) [
-      | inr f ↦ (let out : stands_in m (filter (is_rewritten forest) ns) ≡ false = stands_in-filter (is_rewritten forest) ns m ∙ ap (λ b. b && is_rewritten forest m) f in rw (f, out) refl)
+    each m c is = elim (cases_Bool (is_member m ns)) [
+      | inr f ↦ (let out : is_member m (filter (is_rewritten forest) ns) ≡ false = is_member-filter (is_rewritten forest) ns m ∙ ap (λ b. b && is_rewritten forest m) f in rw (f, out) refl)
       | inl t ↦ elim (cases_Bool (is_rewritten forest m)) [
-        | inl h ↦ (let in_it : stands_in m (filter (is_rewritten forest) ns) ≡ true = stands_in-filter (is_rewritten forest) ns m ∙ ap (λ b. b && is_rewritten forest m) t ∙ h in
+        | inl h ↦ (let in_it : is_member m (filter (is_rewritten forest) ns) ≡ true = is_member-filter (is_rewritten forest) ns m ∙ ap (λ b. b && is_rewritten forest m) t ∙ h in
             ap (λ b. cond b (with_text_data (joined forest m) c) c) (in_it ∙ sym t))
-        | inr h ↦ (let out : stands_in m (filter (is_rewritten forest) ns) ≡ false = stands_in-filter (is_rewritten forest) ns m ∙ ap (λ b. b && is_rewritten forest m) t ∙ h in
+        | inr h ↦ (let out : is_member m (filter (is_rewritten forest) ns) ≡ false = is_member-filter (is_rewritten forest) ns m ∙ ap (λ b. b && is_rewritten forest m) t ∙ h in
             ap (λ b. cond b (with_text_data (joined forest m) c) c) out ∙ sym (not_needed forest m c good is h) ∙ sym (ap (λ b. cond b (with_text_data (joined forest m) c) c) t))
       ]
     ]
@@ -237,14 +237,14 @@ pub record Rewriting (old now : List TreeNode) (x : ℕ) (todo : List Rewrite) :
   pub sound : IsSoundArena now
   front : List ℕ
   done : List ℕ
-  whole : front ++ done ≡ filter (is_rewritten (forest_of old)) (walk_below (forest_of old) x)
+  whole : front ++ done ≡ filter (is_rewritten (forest_of old)) (descendants_in_order (forest_of old) x)
   todo_is : todo ≡ map (rewrite (forest_of old)) front
   is : forest_of now ≡ joined_among done (forest_of old)
 
-pub rewriting_starts : (old : List TreeNode) (x : ℕ) (todo : List Rewrite) → IsSoundArena old → todo ≡ rewrites (forest_of old) (walk_below (forest_of old) x) → Rewriting old old x todo
+pub rewriting_starts : (old : List TreeNode) (x : ℕ) (todo : List Rewrite) → IsSoundArena old → todo ≡ rewrites (forest_of old) (descendants_in_order (forest_of old) x) → Rewriting old old x todo
 rewriting_starts old x todo sound is = record {
   sound = sound;
-  front = filter (is_rewritten (forest_of old)) (walk_below (forest_of old) x);
+  front = filter (is_rewritten (forest_of old)) (descendants_in_order (forest_of old) x);
   done = [];
   whole = append-nil _;
   todo_is = is;
@@ -256,7 +256,7 @@ rewriting_ends old now x todo sound empty h =
     let none = nothing_left todo empty in
     let front_none : h.front ≡ [] = nothing_mapped (rewrite (forest_of old)) h.front (sym h.todo_is ∙ none) in
     let all = ap (λ ns. ns ++ h.done) (sym front_none) ∙ h.whole in
-    h.is ∙ ap (λ ns. joined_among ns (forest_of old)) all ∙ all_joined (forest_of old) (walk_below (forest_of old) x) sound.forest
+    h.is ∙ ap (λ ns. joined_among ns (forest_of old)) all ∙ all_joined (forest_of old) (descendants_in_order (forest_of old) x) sound.forest
   where
     nothing_left : (ws : List Rewrite) → length ws ≡ 0 → ws ≡ []
     nothing_left [] e = refl
@@ -292,9 +292,9 @@ record Next (old : List TreeNode) (w : Rewrite) : Type 0 where
 
 next_known : (old : List TreeNode) (front done ns : List ℕ) (n : ℕ) → (front ++ n ∷ []) ++ done ≡ filter (is_rewritten (forest_of old)) ns → is_text_at (forest_of old) n ≡ true
 next_known old front done ns n whole =
-    let stands : stands_in n ((front ++ n ∷ []) ++ done) ≡ true = ap (stands_in n) (append_assoc front (n ∷ []) done) ∙ stands_in-append front (n ∷ done) n ∙ or-true (stands_in n front) (stands_in n (n ∷ done)) (here_stands n done) in
-    let both = sym (stands_in-filter (is_rewritten (forest_of old)) ns n) ∙ sym (ap (stands_in n) whole) ∙ stands in
-    parts (stands_in n ns) (is_text_at (forest_of old) n) _ both
+    let stands : is_member n ((front ++ n ∷ []) ++ done) ≡ true = ap (is_member n) (append_assoc front (n ∷ []) done) ∙ is_member-append front (n ∷ done) n ∙ or-true (is_member n front) (is_member n (n ∷ done)) (here_stands n done) in
+    let both = sym (is_member-filter (is_rewritten (forest_of old)) ns n) ∙ sym (ap (is_member n) whole) ∙ stands in
+    parts (is_member n ns) (is_text_at (forest_of old) n) _ both
   where
     or-true : (a b : Bool) → b ≡ true → (a || b) ≡ true
     or-true true b h = refl
@@ -308,7 +308,7 @@ next_known old front done ns n whole =
 pub rewriting_known : (old now : List TreeNode) (x : ℕ) (todo rest : List Rewrite) (w : Rewrite) → rest ++ w ∷ [] ≡ todo → Rewriting old now x todo → w.id < length now
 rewriting_known old now x todo rest w split h =
     let last_one = last_mapped (rewrite (forest_of old)) h.front rest w (split ∙ h.todo_is) in
-    let text = next_known old last_one.front h.done (walk_below (forest_of old) x) last_one.one (ap (λ ns. ns ++ h.done) (sym last_one.parts) ∙ h.whole) in
+    let text = next_known old last_one.front h.done (descendants_in_order (forest_of old) x) last_one.one (ap (λ ns. ns ++ h.done) (sym last_one.parts) ∙ h.whole) in
     let inside = within is_text (forest_of old).content last_one.one text in
     let long = length-contents (forest_of now) now h.sound.arena.links in
     let same = ap (λ (forest : Forest). length forest.content) h.is ∙ length-held 0 (held (forest_of old) h.done) (forest_of old).content in
@@ -325,7 +325,7 @@ rewriting_on old now new x todo rest w split h made sound =
     let last_one = last_mapped (rewrite forest) h.front rest w (split ∙ h.todo_is) in
     let n = last_one.one in
     let whole = ap (λ ns. ns ++ h.done) (sym last_one.parts) ∙ h.whole in
-    let text = next_known old last_one.front h.done (walk_below forest x) n whole in
+    let text = next_known old last_one.front h.done (descendants_in_order forest x) n whole in
     record {
       sound = sound;
       front = last_one.front;

@@ -11,8 +11,8 @@ use Rattle.dom_links.specs.Contents.{KeepsKind, changed_at, with_content}
 use Rattle.dom_links.specs.Forest.{Forest, children_of, forest_of}
 use Rattle.dom_links.specs.Growth.{MayAppend, with_node}
 use Rattle.dom_links.specs.ListMoves.{ChildrenRemoved, Moves, element_at}
-use Rattle.dom_links.specs.Moves.{cut, end_of}
-use Rattle.dom_links.specs.declared.gap.Moving.TheVariants.{Node}
+use Rattle.dom_links.specs.Moves.{detach, end_of}
+use Rattle.dom_links.specs.declared.gap.MovedNodes.TheVariants.{Node}
 use Rattle.dom_links.specs.SetTexts.{is_text_at, with_text_data, with_text_content}
 use Rattle.dom_links.specs.Sound.{Allowed, IsForest, IsSoundArena}
 use Rattle.dom_links.proofs.forest.Appends.{may_place_new}
@@ -66,8 +66,8 @@ text_allowed forest x text good is =
       may = may_place_new (Text text) forest x good may;
     }
 
--- where the children of x are cut out, another node may still be put there
-still_allowed : (forest : Forest) (x child : ℕ) (cs : List ℕ) → Allowed forest (end_of x) child → Allowed (cut cs forest) (end_of x) child
+-- where the children of x are detached, another node may still be put there
+still_allowed : (forest : Forest) (x child : ℕ) (cs : List ℕ) → Allowed forest (end_of x) child → Allowed (detach cs forest) (end_of x) child
 still_allowed forest x child cs allowed = record {
   target_known = allowed.target_known;
   known = allowed.known;
@@ -75,7 +75,7 @@ still_allowed forest x child cs allowed = record {
   may = record {
     moves = allowed.may.moves;
     apart = allowed.may.apart;
-    free = λ way. allowed.may.free (ways_none forest (cut cs forest) cs None (cut_parents forest cs) refl child x way);
+    free = λ way. allowed.may.free (ways_none forest (detach cs forest) cs None (cut_parents forest cs) refl child x way);
   };
 }
 

@@ -2,11 +2,11 @@
 use Rattle.std.proofs.Common.{ℕ, zero, suc, ◌≡◌, ◌<◌, ◌≤◌, true, false, List, [], ◌∷◌, Option, Some, refl, sym, ap, ◌∙◌, subst, inl, inr, ◌⊎◌, length}
 use Rattle.std.specs.Prelude.{◌==◌}
 use Rattle.std.proofs.lemmas.Bool.{cases_Bool, eqb-true, true≢false}
-use Rattle.dom_links.specs.Lists.{stands_in, IsDistinct}
+use Rattle.dom_links.specs.Lists.{is_member, IsDistinct}
 use Rattle.dom_links.specs.Forest.{Forest, children_of, parent}
 use Rattle.dom_links.specs.Sound.{IsHostAncestor, one_step, then_step, AtOrBelow, IsForest}
-use Rattle.dom_links.specs.Trees.{trees_to, trees, walk, walk_below}
-use Rattle.dom_links.proofs.forest.Neighbours.{stands_in-append, distinct-append}
+use Rattle.dom_links.specs.Trees.{trees_to, trees, walk, descendants_in_order}
+use Rattle.dom_links.proofs.forest.Neighbours.{is_member-append, distinct-append}
 use Rattle.dom_links.proofs.forest.Chains.{length_below}
 use Rattle.dom_links.proofs.moves.Acyclicity.{further}
 use Rattle.dom_links.proofs.forest.Depth.{step_inside, here_stands, later_stands}
@@ -51,14 +51,14 @@ split_below forest n k x good ne same one other = elim (compared forest k n x on
 ]
 
 -- a walk gives nodes that are below its roots
-pub walk_under : (forest : Forest) (most : ℕ) (ns : List ℕ) (x : ℕ) → IsForest forest → stands_in x (walk (trees_to forest most ns)) ≡ true →
-    (n : ℕ) × (stands_in n ns ≡ true) × Under forest n x
+pub walk_under : (forest : Forest) (most : ℕ) (ns : List ℕ) (x : ℕ) → IsForest forest → is_member x (walk (trees_to forest most ns)) ≡ true →
+    (n : ℕ) × (is_member n ns ≡ true) × Under forest n x
 walk_under forest most [] x good s = cc
 walk_under forest zero (n ∷ ns) x good s = cc
 walk_under forest (suc most) (n ∷ ns) x good s = elim (cases_Bool (n == x)) [
   | inl t ↦ (n, here_stands n ns, subst (Under forest n) (eqb-true n x t) (itself n))
-  | inr f ↦ (let both = sym (stands_in-append (walk (trees_to forest most (children_of forest n))) (walk (trees_to forest (suc most) ns)) x) ∙ rw f at s in
-      elim (cases_Bool (stands_in x (walk (trees_to forest most (children_of forest n))))) [
+  | inr f ↦ (let both = sym (is_member-append (walk (trees_to forest most (children_of forest n))) (walk (trees_to forest (suc most) ns)) x) ∙ rw f at s in
+      elim (cases_Bool (is_member x (walk (trees_to forest most (children_of forest n))))) [
         | inl t ↦ (let child = walk_under forest most (children_of forest n) x good t in
             (n, here_stands n ns, under_child forest n child.0 x child.2 (good.once.in_children n child.0 child.1).1))
         | inr g ↦ (let other = walk_under forest (suc most) ns x good (rw g at both) in
@@ -66,7 +66,7 @@ walk_under forest (suc most) (n ∷ ns) x good s = elim (cases_Bool (n == x)) [
       ])
 ]
 
-pub walk_apart : (forest : Forest) (most : ℕ) (ns : List ℕ) (above : Option ℕ) → IsForest forest → IsDistinct ns → ((n : ℕ) → stands_in n ns ≡ true → parent forest n ≡ above) → IsDistinct (walk (trees_to forest most ns))
+pub walk_apart : (forest : Forest) (most : ℕ) (ns : List ℕ) (above : Option ℕ) → IsForest forest → IsDistinct ns → ((n : ℕ) → is_member n ns ≡ true → parent forest n ≡ above) → IsDistinct (walk (trees_to forest most ns))
 walk_apart forest most [] above good once same = tt
 walk_apart forest zero (n ∷ ns) above good once same = tt
 walk_apart forest (suc most) (n ∷ ns) above good once same =
@@ -74,15 +74,15 @@ walk_apart forest (suc most) (n ∷ ns) above good once same =
     let others = walk (trees_to forest (suc most) ns) in
     let inner_once : IsDistinct inner = walk_apart forest most (children_of forest n) (Some n) good (good.once.children_once n) (λ k s. (good.once.in_children n k s).1) in
     let others_once : IsDistinct others = walk_apart forest (suc most) ns above good once.1 (λ k s. same k (later_stands n k ns s)) in
-    let in_inner : (x : ℕ) → stands_in x inner ≡ true → Under forest n x = λ x s. (let child = walk_under forest most (children_of forest n) x good s in
+    let in_inner : (x : ℕ) → is_member x inner ≡ true → Under forest n x = λ x s. (let child = walk_under forest most (children_of forest n) x good s in
     under_child forest n child.0 x child.2 (good.once.in_children n child.0 child.1).1) in
-    let in_others : (x : ℕ) → Under forest n x → stands_in x others ≡ false = λ x way. elim (cases_Bool (stands_in x others)) [
+    let in_others : (x : ℕ) → Under forest n x → is_member x others ≡ false = λ x way. elim (cases_Bool (is_member x others)) [
       | inr f ↦ f
       | inl s ↦ (let other = walk_under forest (suc most) ns x good s in
-          let ne : n ≡ other.0 → ⊥ = λ e. true≢false (sym other.1 ∙ ap (λ m. stands_in m ns) (sym e) ∙ once.0) in
+          let ne : n ≡ other.0 → ⊥ = λ e. true≢false (sym other.1 ∙ ap (λ m. is_member m ns) (sym e) ∙ once.0) in
           absurd (split_below forest n other.0 x good ne (same n (here_stands n ns) ∙ sym (same other.0 (later_stands n other.0 ns other.1))) way other.2))
     ] in
-    let not_inner : stands_in n inner ≡ false = elim (cases_Bool (stands_in n inner)) [
+    let not_inner : is_member n inner ≡ false = elim (cases_Bool (is_member n inner)) [
       | inr f ↦ f
       | inl s ↦ (let child = walk_under forest most (children_of forest n) n good s in
           let up : parent forest child.0 ≡ Some n = (good.once.in_children n child.0 child.1).1 in
@@ -91,7 +91,7 @@ walk_apart forest (suc most) (n ∷ ns) above good once same =
             | inr way ↦ good.acyclic child.0 (then_step child.0 n child.0 way (inl up))
           ]))
     ] in
-    (stands_in-append inner others n ∙ rw (not_inner, in_others n (itself n)) refl, distinct-append inner others inner_once others_once (λ x s. in_others x (in_inner x s)))
+    (is_member-append inner others n ∙ rw (not_inner, in_others n (itself n)) refl, distinct-append inner others inner_once others_once (λ x s. in_others x (in_inner x s)))
 
 pub under_inside : (forest : Forest) (n x : ℕ) → IsForest forest → n < length forest.content → Under forest n x → x < length forest.content
 under_inside forest n x good known way = elim (parted forest n x way) [
@@ -100,17 +100,17 @@ under_inside forest n x good known way = elim (parted forest n x way) [
 ]
 
 -- no node stands twice in the walk below a node
-pub walk-once : (forest : Forest) (n : ℕ) → IsForest forest → IsDistinct (walk_below forest n)
+pub walk-once : (forest : Forest) (n : ℕ) → IsForest forest → IsDistinct (descendants_in_order forest n)
 unfolding trees
 walk-once forest n good = walk_apart forest (length forest.content) (children_of forest n) (Some n) good (good.once.children_once n) (λ k s. (good.once.in_children n k s).1)
 
 -- the nodes of a walk are the forest's
-pub walk-inside : (forest : Forest) (n x : ℕ) → IsForest forest → stands_in x (walk_below forest n) ≡ true → x < length forest.content
+pub walk-inside : (forest : Forest) (n x : ℕ) → IsForest forest → is_member x (descendants_in_order forest n) ≡ true → x < length forest.content
 unfolding trees
 walk-inside forest n x good s =
     let top = walk_under forest (length forest.content) (children_of forest n) x good s in
     under_inside forest top.0 x good (good.once.in_children n top.0 top.1).0 top.2
 
 -- there are no more of them than nodes
-pub walk-few : (forest : Forest) (n : ℕ) → IsForest forest → length (walk_below forest n) ≤ length forest.content
-walk-few forest n good = length_below (walk_below forest n) (length forest.content) (walk-once forest n good) (λ x s. walk-inside forest n x good s)
+pub walk-few : (forest : Forest) (n : ℕ) → IsForest forest → length (descendants_in_order forest n) ≤ length forest.content
+walk-few forest n good = length_below (descendants_in_order forest n) (length forest.content) (walk-once forest n good) (λ x s. walk-inside forest n x good s)

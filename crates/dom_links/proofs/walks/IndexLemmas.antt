@@ -13,7 +13,7 @@ use Rattle.dom_nodes.specs.declared.indexes.IndexKind.TheVariants.{Child, LastCh
 use Rattle.dom_nodes.specs.Kinds.{is_element}
 use Rattle.dom_links.specs.Forest.{Forest, siblings}
 use Rattle.dom_links.specs.Indexes.{counts, index_at, is_from_first, of_one_type, counts_sibling}
-use Rattle.dom_links.specs.Lists.{after, stands_in}
+use Rattle.dom_links.specs.Lists.{after, is_member}
 use Rattle.dom_links.specs.Sound.{IsForest}
 use Rattle.dom_links.specs.Trees.{in_order}
 use Rattle.dom_links.specs.Walk.{IsNodeOf, IsWithin, later, rest_after, row_on}
@@ -35,7 +35,7 @@ rest_few (m ∷ ns) n = elim (cases_Bool (m == n)) [
   | inr f ↦ rw f (let few = rest_few ns n in omega arith)
 ]
 
-rest_fewer : (ns : List ℕ) (n : ℕ) → stands_in n ns ≡ true → length (rest_after ns n) < length ns
+rest_fewer : (ns : List ℕ) (n : ℕ) → is_member n ns ≡ true → length (rest_after ns n) < length ns
 rest_fewer [] n s = cc
 rest_fewer (m ∷ ns) n s = elim (cases_Bool (m == n)) [
   | inl t ↦ rw t (omega arith)
@@ -45,7 +45,7 @@ rest_fewer (m ∷ ns) n s = elim (cases_Bool (m == n)) [
 later_few : (forest : Forest) (rev : Bool) (n : ℕ) → IsForest forest → n < length forest.content → length (later forest rev n) < length forest.content
 later_few forest rev n good known =
     let row = in_order rev (siblings forest n) in
-    let there : stands_in n row ≡ true = ordered_stands rev (siblings forest n) n ∙ good.once.placed n known in
+    let there : is_member n row ≡ true = ordered_stands rev (siblings forest n) n ∙ good.once.placed n known in
     let few : length row ≤ length forest.content = length_below row (length forest.content) (ordered_once rev (siblings forest n) (siblings_once forest n good.once))
     (λ m s. Beside.known (beside forest n m good.once (sym (ordered_stands rev (siblings forest n) m) ∙ s))) in
     let less = rest_fewer row n there in

@@ -2,28 +2,28 @@
 use Rattle.std.proofs.Common.{ℕ, zero, suc, ◌≡◌, ◌<◌, Bool, true, false, List, [], ◌∷◌, Option, Some, None, refl, sym, ap, ◌∙◌, subst, inl, inr, length}
 use Rattle.std.specs.Prelude.{◌==◌}
 use Rattle.std.proofs.lemmas.Bool.{cases_Bool, eqb-true, true≢false}
-use Rattle.dom_links.specs.Lists.{stands_in, IsDistinct, first, after}
+use Rattle.dom_links.specs.Lists.{is_member, IsDistinct, first, after}
 use Rattle.dom_links.specs.Forest.{Forest, children_of, parent, siblings, chain}
 use Rattle.dom_links.specs.Sound.{IsHostAncestor, one_step, then_step, IsForest}
 use Rattle.dom_links.specs.Trees.{Tree, contents_list, trees, in_order, upward, ancestors}
 use Rattle.dom_links.specs.Walk.{rest_after, later, row_on, IsWithin}
-use Rattle.dom_links.proofs.forest.Neighbours.{stands_in-reverse, distinct-reverse, first-stands, after-stands, first_rest, first_none}
+use Rattle.dom_links.proofs.forest.Neighbours.{is_member-reverse, distinct-reverse, first-stands, after-stands, first_rest, first_none}
 use Rattle.dom_links.proofs.forest.Places.{siblings_child, siblings_once, Beside, beside}
 use Rattle.dom_links.proofs.forest.Depth.{later_stands, trees-some, upward-some}
 
 -- the numbers after one of a list
 
-pub rest_stands : (ns : List ℕ) (n m : ℕ) → stands_in m (rest_after ns n) ≡ true → stands_in m ns ≡ true
+pub rest_stands : (ns : List ℕ) (n m : ℕ) → is_member m (rest_after ns n) ≡ true → is_member m ns ≡ true
 rest_stands [] n m s = s
 rest_stands (k ∷ ns) n m s = elim (cases_Bool (k == n)) [
   | inl t ↦ later_stands k m ns (rw t at s)
   | inr f ↦ later_stands k m ns (rest_stands ns n m (rw f at s))
 ]
 
-not_twice : (m k : ℕ) (ns : List ℕ) → IsDistinct (m ∷ ns) → stands_in k ns ≡ true → (m == k) ≡ false
+not_twice : (m k : ℕ) (ns : List ℕ) → IsDistinct (m ∷ ns) → is_member k ns ≡ true → (m == k) ≡ false
 not_twice m k ns once s = elim (cases_Bool (m == k)) [
   | inr f ↦ f
-  | inl t ↦ absurd (true≢false (sym s ∙ subst (λ (j : ℕ). stands_in j ns ≡ false) (eqb-true m k t) once.0))
+  | inl t ↦ absurd (true≢false (sym s ∙ subst (λ (j : ℕ). is_member j ns ≡ false) (eqb-true m k t) once.0))
 ]
 
 pub rest_next : (ns : List ℕ) (n k : ℕ) → IsDistinct ns → after ns n ≡ Some k → rest_after ns n ≡ k ∷ rest_after ns k
@@ -50,8 +50,8 @@ pub ordered_once : (rev : Bool) (ns : List ℕ) → IsDistinct ns → IsDistinct
 ordered_once true ns once = distinct-reverse ns once
 ordered_once false ns once = once
 
-pub ordered_stands : (rev : Bool) (ns : List ℕ) (n : ℕ) → stands_in n (in_order rev ns) ≡ stands_in n ns
-ordered_stands true ns n = stands_in-reverse ns n
+pub ordered_stands : (rev : Bool) (ns : List ℕ) (n : ℕ) → is_member n (in_order rev ns) ≡ is_member n ns
+ordered_stands true ns n = is_member-reverse ns n
 ordered_stands false ns n = refl
 
 -- the later siblings are none, or the next one and its later siblings
@@ -64,7 +64,7 @@ pub follows : (forest : Forest) (rev : Bool) (n : ℕ) (next : Option ℕ) → I
 follows forest rev n None good e = record { rest = rest_none (in_order rev (siblings forest n)) n (sym e); within = tt; same_parent = λ k no. cc }
 follows forest rev n (Some k) good e =
     let row = in_order rev (siblings forest n) in
-    let there : stands_in k (siblings forest n) ≡ true = sym (ordered_stands rev (siblings forest n) k) ∙ after-stands row n k (sym e) in
+    let there : is_member k (siblings forest n) ≡ true = sym (ordered_stands rev (siblings forest n) k) ∙ after-stands row n k (sym e) in
     let both = beside forest n k good.once there in
     record {
       rest = rest_next row n k (ordered_once rev (siblings forest n) (siblings_once forest n good.once)) (sym e) ∙ ap (λ ns. k ∷ rest_after (in_order rev ns) k) (sym (Beside.same_siblings both));
@@ -82,7 +82,7 @@ pub begins : (forest : Forest) (rev : Bool) (n : ℕ) (from : Option ℕ) → Is
 begins forest rev n None good e = record { all = first_none (in_order rev (children_of forest n)) (sym e); within = tt; above = λ k no. cc }
 begins forest rev n (Some k) good e =
     let row = in_order rev (children_of forest n) in
-    let there : stands_in k (children_of forest n) ≡ true = sym (ordered_stands rev (children_of forest n) k) ∙ first-stands row k (sym e) in
+    let there : is_member k (children_of forest n) ≡ true = sym (ordered_stands rev (children_of forest n) k) ∙ first-stands row k (sym e) in
     let facts = good.once.in_children n k there in
     record {
       all = first_rest row k (sym e) ∙ ap (λ ns. k ∷ rest_after (in_order rev ns) k) (sym (siblings_child forest k n facts.1));
@@ -90,10 +90,10 @@ begins forest rev n (Some k) good e =
       above = λ j is. (let same : k ≡ j = cc in subst (λ (i : ℕ). parent forest i ≡ Some n) same facts.1);
     }
 
-row_inside : (forest : Forest) (rev : Bool) (n m : ℕ) → IsForest forest → n < length forest.content → stands_in m (n ∷ later forest rev n) ≡ true → m < length forest.content
+row_inside : (forest : Forest) (rev : Bool) (n m : ℕ) → IsForest forest → n < length forest.content → is_member m (n ∷ later forest rev n) ≡ true → m < length forest.content
 row_inside forest rev n m good known s = elim (cases_Bool (n == m)) [
   | inl t ↦ subst (λ (k : ℕ). k < length forest.content) (eqb-true n m t) known
-  | inr f ↦ (let there : stands_in m (siblings forest n) ≡ true = sym (ordered_stands rev (siblings forest n) m) ∙ rest_stands (in_order rev (siblings forest n)) n m (rw f at s) in
+  | inr f ↦ (let there : is_member m (siblings forest n) ≡ true = sym (ordered_stands rev (siblings forest n) m) ∙ rest_stands (in_order rev (siblings forest n)) n m (rw f at s) in
       Beside.known (beside forest n m good.once there))
 ]
 
@@ -110,7 +110,7 @@ ancestors-parent forest n p good is within = ap (upward forest) is ∙ upward-so
 pub ancestors-same : (forest : Forest) (n k : ℕ) → parent forest k ≡ parent forest n → ancestors forest k ≡ ancestors forest n
 ancestors-same forest n k is = ap (upward forest) is
 
-chain_reaches : (forest : Forest) (most n s : ℕ) (from : Option ℕ) → parent forest n ≡ from → stands_in s (chain (parent forest) most from) ≡ true → IsHostAncestor forest s n
+chain_reaches : (forest : Forest) (most n s : ℕ) (from : Option ℕ) → parent forest n ≡ from → is_member s (chain (parent forest) most from) ≡ true → IsHostAncestor forest s n
 chain_reaches forest zero n s from up met = cc
 chain_reaches forest (suc most) n s None up met = cc
 chain_reaches forest (suc most) n s (Some p) up met = elim (cases_Bool (p == s)) [
@@ -119,7 +119,7 @@ chain_reaches forest (suc most) n s (Some p) up met = elim (cases_Bool (p == s))
 ]
 
 -- no node is among its ancestors
-pub not_above_itself : (forest : Forest) (n s : ℕ) → IsForest forest → stands_in s (ancestors forest n) ≡ true → n ≡ s → ⊥
+pub not_above_itself : (forest : Forest) (n s : ℕ) → IsForest forest → is_member s (ancestors forest n) ≡ true → n ≡ s → ⊥
 unfolding upward
 not_above_itself forest n s good met is =
     good.acyclic n (subst (λ (k : ℕ). IsHostAncestor forest k n) (sym is) (chain_reaches forest (length forest.content) n s (parent forest n) refl met))

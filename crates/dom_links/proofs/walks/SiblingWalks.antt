@@ -5,7 +5,7 @@ use Rattle.std.specs.Option.{option_map_or}
 use Rattle.std.proofs.lemmas.Bool.{cases_Bool, eqb-true, eq-eqb, ne_eqb, true≢false}
 use Rattle.dom_nodes.specs.declared.node_data.TreeNode.{TreeNode}
 use Rattle.dom_nodes.specs.Kinds.{is_top}
-use Rattle.dom_links.specs.Lists.{stands_in, first, last, after, names}
+use Rattle.dom_links.specs.Lists.{is_member, first, last, after, names}
 use Rattle.dom_links.specs.Forest.{Forest, StandsOnce, IsArenaOf, parent, siblings}
 use Rattle.dom_links.specs.Sound.{IsParentOrHost, IsHostAncestor, one_step, then_step, AtOrBelow, IsForest, MayPlace, contents_at, stays}
 use Rattle.dom_links.specs.Trees.{in_order}
@@ -35,7 +35,7 @@ pub along : (forest : Forest) (rev : Bool) (x at next : ℕ) (link : Option ℕ)
 along forest rev x at next link once here is some =
     let row = in_order rev (siblings forest at) in
     let found : after row at ≡ Some next = sym is ∙ some in
-    let stands : stands_in next (siblings forest at) ≡ true = sym (ordered_stands rev (siblings forest at) next) ∙ after-stands row at next found in
+    let stands : is_member next (siblings forest at) ≡ true = sym (ordered_stands rev (siblings forest at) next) ∙ after-stands row at next found in
     let both = beside forest at next once stands in
     let rest : later forest rev at ≡ next ∷ later forest rev next =
     rest_next row at next (ordered_once rev (siblings forest at) (siblings_once forest at once)) found ∙ ap (λ ns. next ∷ rest_after (in_order rev ns) next) (sym (Beside.same_siblings both)) in
@@ -49,7 +49,7 @@ along forest rev x at next link once here is some =
 at_end : (forest : Forest) (rev : Bool) (x at : ℕ) (link : Option ℕ) → StandsOnce forest → Beside forest x at → link ≡ after (in_order rev (siblings forest at)) at → link ≡ None → last (in_order rev (siblings forest x)) ≡ Some at
 at_end forest rev x at link once here is none =
     let row = in_order rev (siblings forest at) in
-    let stands : stands_in at row ≡ true = ordered_stands rev (siblings forest at) at ∙ once.placed at here.known in
+    let stands : is_member at row ≡ true = ordered_stands rev (siblings forest at) at ∙ once.placed at here.known in
     let named : names (last row) at ≡ true = last_names row at (ordered_once rev (siblings forest at) (siblings_once forest at once)) ∙ rw (stands, sym is ∙ none) refl in
     ap (λ ns. last (in_order rev ns)) (sym here.same_siblings) ∙ names-true (last row) at named
 
@@ -59,21 +59,21 @@ is_first forest x at link once here is none = sym (last-reverse (siblings forest
 -- n was not met yet on the way along the list from x
 pub record Seeking (forest : Forest) (x n at : ℕ) : Type 0 where
   pub here : Beside forest x at
-  pub same : stands_in n (with_later forest x) ≡ stands_in n (with_later forest at)
+  pub same : is_member n (with_later forest x) ≡ is_member n (with_later forest at)
 
 pub seeks_on : (forest : Forest) (x n at next : ℕ) (link : Option ℕ) → StandsOnce forest → Seeking forest x n at → (at ≡ n → ⊥) → link ≡ after (siblings forest at) at → link ≡ Some next → Seeking forest x n next
 seeks_on forest x n at next link once seeking other is some =
     let on = along forest false x at next link once seeking.here is some in
     record {
       here = on.there;
-      same = seeking.same ∙ rw (ne_eqb at n other) (ap (stands_in n) on.rest);
+      same = seeking.same ∙ rw (ne_eqb at n other) (ap (is_member n) on.rest);
     }
 
-pub sought_in_vain : (forest : Forest) (x n at : ℕ) (link : Option ℕ) → Seeking forest x n at → (at ≡ n → ⊥) → link ≡ after (siblings forest at) at → link ≡ None → stands_in n (with_later forest x) ≡ false
+pub sought_in_vain : (forest : Forest) (x n at : ℕ) (link : Option ℕ) → Seeking forest x n at → (at ≡ n → ⊥) → link ≡ after (siblings forest at) at → link ≡ None → is_member n (with_later forest x) ≡ false
 sought_in_vain forest x n at link seeking other is none =
-    seeking.same ∙ rw (ne_eqb at n other) (ap (stands_in n) (rest_none (siblings forest at) at (sym is ∙ none)))
+    seeking.same ∙ rw (ne_eqb at n other) (ap (is_member n) (rest_none (siblings forest at) at (sym is ∙ none)))
 
-pub sought_it : (forest : Forest) (x n at : ℕ) → Seeking forest x n at → at ≡ n → stands_in n (with_later forest x) ≡ true
+pub sought_it : (forest : Forest) (x n at : ℕ) → Seeking forest x n at → at ≡ n → is_member n (with_later forest x) ≡ true
 sought_it forest x n at seeking is = seeking.same ∙ rw (eq-eqb at n is) refl
 
 -- a climb from t has met none of x and its later siblings
@@ -83,19 +83,19 @@ pub record ClimbsPast (forest : Forest) (t x at steps : ℕ) : Type 0 where
 pub climb_known : (forest : Forest) (t x at steps : ℕ) → ClimbsPast forest t x at steps → at < length forest.content
 climb_known forest t x at steps climb = Climb.known (climb.each x (here_stands x (later forest false x)))
 
-later_beside : (forest : Forest) (x m : ℕ) → StandsOnce forest → x < length forest.content → stands_in m (with_later forest x) ≡ true → Beside forest x m
+later_beside : (forest : Forest) (x m : ℕ) → StandsOnce forest → x < length forest.content → is_member m (with_later forest x) ≡ true → Beside forest x m
 later_beside forest x m once h s =
     let it = tailed forest x once h in
     TailFacts.inside (tail_facts forest x it.front (with_later forest x) once it.tail) m s
 
 -- none of the list stays where it is, if x doesn't
-later_move : (forest : Forest) (x m : ℕ) → IsForest forest → x < length forest.content → stays forest x ≡ false → stands_in m (with_later forest x) ≡ true → stays forest m ≡ false
+later_move : (forest : Forest) (x m : ℕ) → IsForest forest → x < length forest.content → stays forest x ≡ false → is_member m (with_later forest x) ≡ true → stays forest m ≡ false
 later_move forest x m good h moves s = elim (cases_Bool (stays forest m)) [
   | inr f ↦ f
   | inl t ↦ (let there = later_beside forest x m good.once h s in
       let lone = good.alone m there.known t in
       let only : siblings forest x ≡ m ∷ [] = sym there.same_siblings ∙ siblings_run forest m lone.0 ∙ lone.1 in
-      let is : m ≡ x = eqb-true m x (sym (one-stands m x) ∙ ap (stands_in x) (sym only) ∙ good.once.placed x h) in
+      let is : m ≡ x = eqb-true m x (sym (one-stands m x) ∙ ap (is_member x) (sym only) ∙ good.once.placed x h) in
       absurd (true≢false (sym t ∙ ap (stays forest) is ∙ moves)))
 ]
 
@@ -139,16 +139,16 @@ not_beside_below forest _ _ good moves same (one_step m n step) = by_step forest
 not_beside_below forest _ _ good moves same (then_step m k n way step) = by_step forest m k n good (inr way) step same moves
 
 -- the climb came to a node beside them that is none of them
-pub past_beside : (forest : Forest) (t x at steps : ℕ) → IsForest forest → x < length forest.content → stays forest x ≡ false → ClimbsPast forest t x at steps → (stays forest at ≡ false) × (parent forest at ≡ parent forest x) → stands_in at (with_later forest x) ≡ false →
+pub past_beside : (forest : Forest) (t x at steps : ℕ) → IsForest forest → x < length forest.content → stays forest x ≡ false → ClimbsPast forest t x at steps → (stays forest at ≡ false) × (parent forest at ≡ parent forest x) → is_member at (with_later forest x) ≡ false →
     EachOf (with_later forest x) (MayPlace forest t)
 past_beside forest t x at steps good h moves climb same out =
     none_reach forest t x good h moves (λ m s below. elim (Climb.onto (climb.each m s) below) [
-      | inl e ↦ true≢false (sym s ∙ ap (λ (k : ℕ). stands_in k (with_later forest x)) e ∙ out)
+      | inl e ↦ true≢false (sym s ∙ ap (λ (k : ℕ). is_member k (with_later forest x)) e ∙ out)
       | inr way ↦ not_beside_below forest m at good same.0 (same.1 ∙ sym (Beside.same_parent (later_beside forest x m good.once h s))) way
     ])
 
 -- the climb came to one of them
-pub met_one : (forest : Forest) (t x at steps : ℕ) → ClimbsPast forest t x at steps → stands_in at (with_later forest x) ≡ true → BlockedRun forest t x
+pub met_one : (forest : Forest) (t x at steps : ℕ) → ClimbsPast forest t x at steps → is_member at (with_later forest x) ≡ true → BlockedRun forest t x
 met_one forest t x at steps climb s = inr (at, s, met_it forest t at at steps (climb.each at s) refl)
 
 -- what is read at a node along the list
@@ -175,7 +175,7 @@ pub seeks_forth : (forest : Forest) (nodes : List TreeNode) (x n at i next : ℕ
 seeks_forth forest nodes x n at i next d arena seeking other e some =
     seeks_on forest x n at next (get_or nodes i d).next_sibling arena.once seeking other (read_next forest nodes i at d arena (inside_nodes forest nodes x at arena seeking.here) e) some
 
-pub seeks_no_more : (forest : Forest) (nodes : List TreeNode) (x n at i : ℕ) (d : TreeNode) → IsArenaOf forest nodes → Seeking forest x n at → (at ≡ n → ⊥) → i ≡ at → (get_or nodes i d).next_sibling ≡ None → stands_in n (with_later forest x) ≡ false
+pub seeks_no_more : (forest : Forest) (nodes : List TreeNode) (x n at i : ℕ) (d : TreeNode) → IsArenaOf forest nodes → Seeking forest x n at → (at ≡ n → ⊥) → i ≡ at → (get_or nodes i d).next_sibling ≡ None → is_member n (with_later forest x) ≡ false
 seeks_no_more forest nodes x n at i d arena seeking other e none =
     sought_in_vain forest x n at (get_or nodes i d).next_sibling seeking other (read_next forest nodes i at d arena (inside_nodes forest nodes x at arena seeking.here) e) none
 
@@ -183,7 +183,7 @@ pub seeking_starts : (forest : Forest) (x n : ℕ) → x < length forest.content
 seeking_starts forest x n h = record { here = beside_itself forest x h; same = refl }
 
 -- the climb came to a node beside them: the test decides whether it is one of them
-pub beside_given : (forest : Forest) (t x at steps : ℕ) (r : Bool) → IsForest forest → x < length forest.content → stays forest x ≡ false → ClimbsPast forest t x at steps → (stays forest at ≡ false) × (parent forest at ≡ parent forest x) → r ≡ stands_in at (with_later forest x) →
+pub beside_given : (forest : Forest) (t x at steps : ℕ) (r : Bool) → IsForest forest → x < length forest.content → stays forest x ≡ false → ClimbsPast forest t x at steps → (stays forest at ≡ false) × (parent forest at ≡ parent forest x) → r ≡ is_member at (with_later forest x) →
     MatchBool (not r) (EachOf (with_later forest x) (MayPlace forest t)) (BlockedRun forest t x)
 beside_given forest t x at steps r good h moves climb same is = elim (cases_Bool r) [
   | inl u ↦ rw u (met_one forest t x at steps climb (sym is ∙ u))

@@ -6,10 +6,10 @@ use Rattle.std.specs.Iterator.{MakesProgress, item_count}
 use Rattle.std.proofs.lemmas.Bool.{eqb-true, eq-eqb, ne_eqb}
 use Rattle.std.proofs.lemmas.List.{take_all}
 use Rattle.std.proofs.lemmas.List.Sums.{sum_by-cons}
-use Rattle.dom_links.specs.Lists.{stands_in, first, after}
+use Rattle.dom_links.specs.Lists.{is_member, first, after}
 use Rattle.dom_links.specs.Forest.{Forest, children_of, parent, siblings, chain}
 use Rattle.dom_links.specs.Sound.{IsForest}
-use Rattle.dom_links.specs.Trees.{trees, walk, walk_below, in_order, limited, upward, ancestors}
+use Rattle.dom_links.specs.Trees.{trees, walk, descendants_in_order, in_order, limited, upward, ancestors}
 use Rattle.dom_links.specs.Walk.{up_to, later, row_on, ancestors_below, walk_on, leaves_among, reads_ahead, IsCounted, IsWithin, IsBelow}
 use Rattle.dom_links.proofs.forest.Depth.{trees-none, upward-none, upward-some, parent_inside, here_stands, later_stands}
 use Rattle.dom_links.proofs.walks.Later.{Follows, follows, Begins, begins, tree_at, ancestors-parent, ancestors-same, not_above_itself}
@@ -24,7 +24,7 @@ walk_none : (forest : Forest) (ns : List ℕ) → ns ≡ [] → walk (trees fore
 walk_none forest ns e = ap (λ ks. walk (trees forest ks)) e ∙ ap walk (trees-none forest)
 
 -- the node and its later siblings are walked: the node, what is below it, and the later siblings
-walk_here : (forest : Forest) (n : ℕ) → IsForest forest → n < length forest.content → walk (trees forest (n ∷ later forest false n)) ≡ n ∷ walk_below forest n ++ walk (trees forest (later forest false n))
+walk_here : (forest : Forest) (n : ℕ) → IsForest forest → n < length forest.content → walk (trees forest (n ∷ later forest false n)) ≡ n ∷ descendants_in_order forest n ++ walk (trees forest (later forest false n))
 walk_here forest n good known = ap walk (tree_at forest n good known)
 
 -- one leaf more, or none more
@@ -52,14 +52,14 @@ enters forest start n (Some k) good place is some =
     let up : ancestors forest k ≡ n ∷ ancestors forest n = ancestors-parent forest k n good (child.above k refl) place.0 in
     let between : ancestors_below forest start k ≡ n ∷ ancestors_below forest start n = ap (up_to start) up ∙ up_to-other start n (ancestors forest n) (not_above_itself forest n start good place.1) in
     let rest = flat_map (λ p. walk (trees forest (later forest false p))) (ancestors_below forest start n) in
-    let inner : walk_below forest n ≡ walk (trees forest (k ∷ later forest false k)) = ap (λ ns. walk (trees forest ns)) child.all in
+    let inner : descendants_in_order forest n ≡ walk (trees forest (k ∷ later forest false k)) = ap (λ ns. walk (trees forest ns)) child.all in
     let gives : walk_on forest start (Some n) ≡ n ∷ walk_on forest start (Some k) =
     ap (λ ns. ns ++ rest) (walk_here forest n good place.0 ∙ ap (λ ns. n ∷ ns ++ walk (trees forest (later forest false n))) inner)
     ∙ ap (λ ns. n ∷ ns) (append_assoc (walk (trees forest (k ∷ later forest false k))) (walk (trees forest (later forest false n))) rest)
     ∙ ap (λ ps. n ∷ walk (trees forest (k ∷ later forest false k)) ++ flat_map (λ p. walk (trees forest (later forest false p))) ps) (sym between) in
     record {
       steps = gives;
-      below = (child.within, ap (stands_in start) up ∙ later_stands n start (ancestors forest n) place.1);
+      below = (child.within, ap (is_member start) up ∙ later_stands n start (ancestors forest n) place.1);
       cost = omega (arith, ap length gives, ap length between, ap (leaves_among forest) gives, leaves-inner forest n k (walk_on forest start (Some k)) is);
     }
 
@@ -89,7 +89,7 @@ passes forest start n first_child (Some k) good place is leaf next some =
     ∙ ap (λ ps. n ∷ walk (trees forest (k ∷ later forest false k)) ++ onward ps) (sym between) in
     record {
       steps = gives;
-      below = (on.within, ap (stands_in start) up ∙ place.1);
+      below = (on.within, ap (is_member start) up ∙ place.1);
       cost = omega (arith, ap length gives, ap length between, ap (leaves_among forest) gives, leaves-leaf forest n (walk_on forest start (Some k)) (no_children first_child _ is leaf));
     }
 
@@ -100,7 +100,7 @@ climb forest start at = flat_map (λ p. walk (trees forest (later forest false p
 -- A climb from node n is at this node, and has used so many looks
 pub record IsClimb (forest : Forest) (start n spent : ℕ) (at : Option ℕ) : Type 0 where
   pub gives : walk_on forest start (Some n) ≡ n ∷ climb forest start at
-  pub met : stands_in start (upward forest at) ≡ true
+  pub met : is_member start (upward forest at) ≡ true
   pub within : IsWithin forest at
   pub leaf : None ≡ first (children_of forest n)
   pub cost : spent + length (up_to start (upward forest at)) ≡ 1 + length (ancestors_below forest start n)
@@ -116,7 +116,7 @@ climb_begins forest start n first_child None at good place is leaf on last up = 
   gives = leaf_walk forest start n first_child good place is leaf
       ∙ ap (λ ns. n ∷ ns ++ flat_map (λ p. walk (trees forest (later forest false p))) (ancestors_below forest start n)) (walk_none forest (later forest false n) (Follows.rest (follows forest false n None good on)))
       ∙ ap (λ p. n ∷ climb forest start p) (sym up);
-  met = ap (λ p. stands_in start (upward forest p)) up ∙ place.1;
+  met = ap (λ p. is_member start (upward forest p)) up ∙ place.1;
   within = parent_within forest n at good up;
   leaf = no_children first_child _ is leaf;
   cost = omega (arith, ap (λ p. length (up_to start (upward forest p))) up);
@@ -137,19 +137,19 @@ climb_ends forest start n spent p (Some q) good climbing here is =
 -- a climb meets its start before it has no parent left
 pub climb_inside : (forest : Forest) (start n spent : ℕ) (at : Option ℕ) → IsClimb forest start n spent at → at ≡ None → ⊥
 climb_inside forest start n spent at climbing none =
-    let met : stands_in start [] ≡ true = ap (stands_in start) (sym (ap (upward forest) none ∙ upward-none forest)) ∙ climbing.met in
+    let met : is_member start [] ≡ true = ap (is_member start) (sym (ap (upward forest) none ∙ upward-none forest)) ∙ climbing.met in
     cc
 
 -- a climb at another node than its start
 record Over (forest : Forest) (start p : ℕ) : Type 0 where
   path : upward forest (Some p) ≡ p ∷ ancestors forest p
   some_more : up_to start (upward forest (Some p)) ≡ p ∷ ancestors_below forest start p
-  met : stands_in start (ancestors forest p) ≡ true
+  met : is_member start (ancestors forest p) ≡ true
 
-over : (forest : Forest) (start p : ℕ) → IsForest forest → p < length forest.content → false ≡ (p == start) → stands_in start (upward forest (Some p)) ≡ true → Over forest start p
+over : (forest : Forest) (start p : ℕ) → IsForest forest → p < length forest.content → false ≡ (p == start) → is_member start (upward forest (Some p)) ≡ true → Over forest start p
 over forest start p good within other met =
     let path = upward-some forest p good within in
-    let there : stands_in start (p ∷ ancestors forest p) ≡ true = ap (stands_in start) (sym path) ∙ met in
+    let there : is_member start (p ∷ ancestors forest p) ≡ true = ap (is_member start) (sym path) ∙ met in
     record {
       path = path;
       some_more = ap (up_to start) path ∙ up_to-other start p (ancestors forest p) (λ e. (let yes = eq-eqb p start e in cc));
@@ -173,7 +173,7 @@ finds forest start n spent p at (Some k) good climbing' here other next some =
     ∙ ap (λ ps. n ∷ walk (trees forest (k ∷ later forest false k)) ++ onward ps) (sym between) in
     record {
       steps = gives;
-      below = (on.within, ap (stands_in start) same ∙ up.met);
+      below = (on.within, ap (is_member start) same ∙ up.met);
       cost = omega (arith, climbing.cost, ap length gives, ap length up.some_more, ap length between, ap (leaves_among forest) gives, leaves-leaf forest n (walk_on forest start (Some k)) climbing.leaf);
     }
 
@@ -188,7 +188,7 @@ goes_up forest start n spent p at None to good climbing' here other on last up =
         gives = climbing.gives ∙ ap (λ ps. n ∷ onward ps) above.some_more
             ∙ ap (λ ns. n ∷ ns ++ onward (ancestors_below forest start p)) (walk_none forest (later forest false p) (Follows.rest (follows forest false p None good on)))
             ∙ ap (λ q. n ∷ climb forest start q) (sym up);
-        met = ap (λ q. stands_in start (upward forest q)) up ∙ above.met;
+        met = ap (λ q. is_member start (upward forest q)) up ∙ above.met;
         within = parent_within forest p to good up;
         leaf = climbing.leaf;
         cost = omega (arith, climbing.cost, ap length above.some_more, ap (λ q. length (up_to start (upward forest q))) up);
@@ -198,14 +198,14 @@ goes_up forest start n spent p at None to good climbing' here other on last up =
 
 -- A walk that begins has all before it
 pub record Starts (forest : Forest) (start : ℕ) (at : Option ℕ) : Type 0 where
-  pub all : walk_on forest start at ≡ walk_below forest start
+  pub all : walk_on forest start at ≡ descendants_in_order forest start
   pub below : IsBelow forest start at
   pub count : IsCounted forest start at 1
 
 -- a walk begins at the first child
 pub walk_starts : (forest : Forest) (start : ℕ) (at : Option ℕ) → IsForest forest → at ≡ first (children_of forest start) → Starts forest start at
 walk_starts forest start None good is =
-    let none : walk_below forest start ≡ [] = walk_none forest (children_of forest start) (Begins.all (begins forest false start None good is)) in
+    let none : descendants_in_order forest start ≡ [] = walk_none forest (children_of forest start) (Begins.all (begins forest false start None good is)) in
     record {
       all = sym none;
       below = tt;
@@ -215,12 +215,12 @@ walk_starts forest start (Some k) good is =
     let child = begins forest false start (Some k) good is in
     let up : ancestors forest k ≡ start ∷ ancestors forest start = ancestors-parent forest k start good (child.above k refl) (parent_inside forest k start good (child.above k refl)) in
     let between : ancestors_below forest start k ≡ [] = ap (up_to start) up ∙ up_to-stop start start (ancestors forest start) refl in
-    let all : walk_on forest start (Some k) ≡ walk_below forest start =
+    let all : walk_on forest start (Some k) ≡ descendants_in_order forest start =
     ap (λ ps. walk (trees forest (k ∷ later forest false k)) ++ flat_map (λ p. walk (trees forest (later forest false p))) ps) between
     ∙ append-nil (walk (trees forest (k ∷ later forest false k))) ∙ ap (λ ns. walk (trees forest ns)) (sym child.all) in
     record {
       all = all;
-      below = (child.within, ap (stands_in start) up ∙ here_stands start (ancestors forest start));
+      below = (child.within, ap (is_member start) up ∙ here_stands start (ancestors forest start));
       count = record {
         counted = omega (arith, ap length all, ap length between, ap (leaves_among forest) all);
         fewer = omega (arith, ap (leaves_among forest) all);
@@ -229,7 +229,7 @@ walk_starts forest start (Some k) good is =
 
 -- a walk that has a next node gives it
 pub walk_given : (forest : Forest) (start n : ℕ) → IsForest forest → IsBelow forest start (Some n) →
-    walk_on forest start (Some n) ≡ n ∷ (walk_below forest n ++ walk (trees forest (later forest false n))) ++ flat_map (λ p. walk (trees forest (later forest false p))) (ancestors_below forest start n)
+    walk_on forest start (Some n) ≡ n ∷ (descendants_in_order forest n ++ walk (trees forest (later forest false n))) ++ flat_map (λ p. walk (trees forest (later forest false p))) (ancestors_below forest start n)
 walk_given forest start n good place = ap (λ ns. ns ++ flat_map (λ p. walk (trees forest (later forest false p))) (ancestors_below forest start n)) (walk_here forest n good place.0)
 
 walk_over : (forest : Forest) (start : ℕ) (at : Option ℕ) → IsForest forest → IsBelow forest start at → walk_on forest start at ≡ [] → reads_ahead forest start at ≡ 0
@@ -238,11 +238,11 @@ walk_over forest start (Some n) good place none = (let given = walk_given forest
 
 -- what a walk with nothing left has looked at
 pub walk_cost : (forest : Forest) (start : ℕ) (at : Option ℕ) (reads : ℕ) → IsForest forest → IsBelow forest start at → IsCounted forest start at reads → walk_on forest start at ≡ [] →
-    reads + leaves_among forest (walk_below forest start) ≡ 2 * length (walk_below forest start) + 1
+    reads + leaves_among forest (descendants_in_order forest start) ≡ 2 * length (descendants_in_order forest start) + 1
 walk_cost forest start at reads good place count none = omega (arith, count.counted, walk_over forest start at good place none, ap (leaves_among forest) none)
 
 -- the looks of a walk can be counted
-pub looks_fit : (forest : Forest) (start n : ℕ) (at : Option ℕ) (reads : ℕ) → IsCounted forest start at reads → at ≡ Some n → length (walk_below forest start) ≤ 4294967295 → reads + reads_ahead forest start (Some n) < 2 ^ 64
+pub looks_fit : (forest : Forest) (start n : ℕ) (at : Option ℕ) (reads : ℕ) → IsCounted forest start at reads → at ≡ Some n → length (descendants_in_order forest start) ≤ 4294967295 → reads + reads_ahead forest start (Some n) < 2 ^ 64
 looks_fit forest start n at reads count is few =
     let here = subst (λ o. IsCounted forest start o reads) is count in
     omega (arith, here.counted, here.fewer)

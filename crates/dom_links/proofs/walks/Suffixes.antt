@@ -4,10 +4,10 @@ use Rattle.std.specs.Prelude.{◌==◌}
 use Rattle.std.specs.List.{flat_map}
 use Rattle.std.proofs.lemmas.Bool.{cases_Bool, eqb-true}
 use Rattle.std.proofs.lemmas.List.{length-append}
-use Rattle.dom_links.specs.Lists.{stands_in}
+use Rattle.dom_links.specs.Lists.{is_member}
 use Rattle.dom_links.specs.Forest.{Forest, children_of, parent}
 use Rattle.dom_links.specs.Sound.{IsForest}
-use Rattle.dom_links.specs.Trees.{trees_to, trees, walk, walk_below, ancestors, upward}
+use Rattle.dom_links.specs.Trees.{trees_to, trees, walk, descendants_in_order, ancestors, upward}
 use Rattle.dom_links.specs.Walk.{up_to, later, ancestors_below, walk_on, reads_ahead, IsBelow}
 use Rattle.dom_links.proofs.walks.Apart.{walk-few}
 use Rattle.dom_links.proofs.moves.BlockMoves.{tailed}
@@ -32,7 +32,7 @@ walk-append forest xs ys = walks_join forest (length forest.content) xs ys
 -- the walk from n on is the end of the walk below start
 pub record IsEnd (forest : Forest) (start n : ℕ) : Type 0 where
   pub front : List ℕ
-  pub is : walk_below forest start ≡ front ++ walk_on forest start (Some n)
+  pub is : descendants_in_order forest start ≡ front ++ walk_on forest start (Some n)
 
 -- what is walked after n and its later siblings
 abbrev pub behind : Forest → ℕ → ℕ → List ℕ
@@ -40,13 +40,13 @@ behind forest start n = flat_map (λ p. walk (trees forest (later forest false p
 
 -- the walk below the parent of n, from n on
 below_parent : (forest : Forest) (n p : ℕ) → IsForest forest → n < length forest.content → parent forest n ≡ Some p →
-    (front : List ℕ) × (walk_below forest p ≡ front ++ walk (trees forest (n ∷ later forest false n)))
+    (front : List ℕ) × (descendants_in_order forest p ≡ front ++ walk (trees forest (n ∷ later forest false n)))
 below_parent forest n p good known up =
     let it = tailed forest n good.once known in
     let row : children_of forest p ≡ it.front ++ (n ∷ later forest false n) = sym (siblings_child forest n p up) ∙ it.tail.row in
     (walk (trees forest it.front), ap (λ ns. walk (trees forest ns)) row ∙ walk-append forest it.front (n ∷ later forest false n))
 
-pub ends_at : (forest : Forest) (start n : ℕ) (above : List ℕ) → IsForest forest → n < length forest.content → ancestors forest n ≡ above → stands_in start above ≡ true → IsEnd forest start n
+pub ends_at : (forest : Forest) (start n : ℕ) (above : List ℕ) → IsForest forest → n < length forest.content → ancestors forest n ≡ above → is_member start above ≡ true → IsEnd forest start n
 ends_at forest start n [] good known are s = cc
 ends_at forest start n (q ∷ above) good known are s = elim (cases_Option (parent forest n)) [
   | inl none ↦ (let no : ancestors forest n ≡ [] = ap (upward forest) none ∙ upward-none forest in cc)
@@ -62,18 +62,18 @@ ends_at forest start n (q ∷ above) good known are s = elim (cases_Option (pare
             let none : behind forest start n ≡ [] = ap (flat_map (λ k. walk (trees forest (later forest false k)))) between in
             record {
               front = here.0;
-              is = ap (walk_below forest) (sym is ∙ same) ∙ here.1 ∙ ap (λ ns. here.0 ++ ns) (sym (append-nil tail) ∙ ap (λ ns. tail ++ ns) (sym none));
+              is = ap (descendants_in_order forest) (sym is ∙ same) ∙ here.1 ∙ ap (λ ns. here.0 ++ ns) (sym (append-nil tail) ∙ ap (λ ns. tail ++ ns) (sym none));
             })
-        | inr f ↦ (let up_here : stands_in start above ≡ true = rw f at s in
+        | inr f ↦ (let up_here : is_member start above ≡ true = rw f at s in
             let over = ends_at forest start p above good inside rest up_here in
-            let above_n = subst (λ ns. stands_in start ns ≡ true) (sym are) s in
-            let above_p = subst (λ ns. stands_in start ns ≡ true) (sym rest) up_here in
+            let above_n = subst (λ ns. is_member start ns ≡ true) (sym are) s in
+            let above_p = subst (λ ns. is_member start ns ≡ true) (sym rest) up_here in
             let between : ancestors_below forest start n ≡ p ∷ ancestors_below forest start p = ap (up_to start) are ∙ rw f (ap (λ k. k ∷ up_to start above) same ∙ ap (λ ns. p ∷ up_to start ns) (sym rest)) in
             let next = walk (trees forest (later forest false p)) in
             let after : behind forest start n ≡ next ++ behind forest start p = ap (flat_map (λ k. walk (trees forest (later forest false k)))) between in
             let given = walk_given forest start p good (inside, above_p) in
             let left = p ∷ here.0 in
-            let inner : p ∷ (walk_below forest p ++ next) ++ behind forest start p ≡ left ++ (tail ++ behind forest start n) =
+            let inner : p ∷ (descendants_in_order forest p ++ next) ++ behind forest start p ≡ left ++ (tail ++ behind forest start n) =
             ap (λ ns. p ∷ (ns ++ next) ++ behind forest start p) here.1
             ∙ ap (λ ns. p ∷ ns) (append_assoc (here.0 ++ tail) next (behind forest start p) ∙ append_assoc here.0 tail (next ++ behind forest start p))
             ∙ ap (λ ns. left ++ (tail ++ ns)) (sym after) in

@@ -1,4 +1,5 @@
-//! A text comes to a gap: the text that stands right before it grows, or a new one is put there.
+//! Adding text at an insertion point: the text node before it grows, or a new text node is
+//! inserted.
 
 ghost use Rattle.std.specs.Prelude.{◌≡◌, ◌<◌, IfErr, OnErr, OnOk, None, Some, length};
 ghost use Rattle.dom_nodes.specs.declared.fault.EditFault.TheVariants.{Memory};
@@ -9,19 +10,20 @@ ghost use Rattle.dom_links.specs.Forest.{forest_of};
 ghost use Rattle.dom_links.specs.Moves.{before_gap, end_of};
 ghost use Rattle.dom_links.specs.Sound.{IsOpenGap, IsSoundArena, target};
 
-use crate::gap::Gap;
+use crate::gap::InsertionPoint;
 use crate::ops::TreeNodeOps;
 use crate::ops::create::add_child;
-use crate::ops::moves::{insertion_point_at, put_alone};
+use crate::ops::moves::{put_alone, resolved_point_at};
 use crate::ops::set_text::{is_text_at, owned_text};
 use dom_nodes::fault::{EditFault, OutOfMemory};
 use dom_nodes::node_data::{NodeData, TreeNode};
 use dom_nodes::node_id::NodeId;
 use dom_nodes::text::Text;
 
-/// Lengthens the text that stands right before the gap, or puts a new text there. Refused as
-/// `Memory`, and as `TooManyNodes` where a new one is to be put; then nothing changes.
-pub fn add_text(nodes: &mut Vec<TreeNode>, gap: Gap, text: &str) -> Result<(), EditFault>
+/// Appends `text` to the text node immediately before the insertion point, or inserts a new text
+/// node there. It fails with `Memory` when memory is refused, and with `TooManyNodes` when a new
+/// node is needed and no id is left. The arena is unchanged after an error.
+pub fn add_text(nodes: &mut Vec<TreeNode>, gap: InsertionPoint, text: &str) -> Result<(), EditFault>
     requires sound { IsSoundArena nodes.old.items }
     requires open { IsOpenGap gap (forest_of nodes.old.items) }
     ensures { Becomes result nodes.old nodes.new (with_text_at gap text.now) (TextCause gap) }
@@ -32,8 +34,9 @@ pub fn add_text(nodes: &mut Vec<TreeNode>, gap: Gap, text: &str) -> Result<(), E
     lengthen(nodes, before, text)
 }
 
-/// The text that stands right before the gap.
-fn text_before(nodes: &[TreeNode], gap: &Gap) -> Option<NodeId>
+/// Returns the text node immediately before the insertion point, or `None` when no text node is
+/// there.
+fn text_before(nodes: &[TreeNode], gap: &InsertionPoint) -> Option<NodeId>
     requires sound { IsSoundArena nodes.now }
     requires target_known { target gap.now < length (forest_of nodes.now).content }
     ensures { result ≡ text_before gap.now (forest_of nodes.now) }
@@ -48,20 +51,20 @@ fn text_before(nodes: &[TreeNode], gap: &Gap) -> Option<NodeId>
     }
 }
 
-/// The node that stands right before the gap.
+/// Returns the node immediately before the insertion point, or `None`.
 #[inline(always)]
-fn node_before(nodes: &[TreeNode], gap: &Gap) -> Option<NodeId>
+fn node_before(nodes: &[TreeNode], gap: &InsertionPoint) -> Option<NodeId>
     requires sound { IsSoundArena nodes.now }
     requires target_known { target gap.now < length (forest_of nodes.now).content }
     ensures { result ≡ before_gap gap.now (forest_of nodes.now) }
 {
     match gap {
-        Gap::EndOf(t) => nodes[t.value()].last_child.get(),
-        _ => insertion_point_at(nodes, *gap).left,
+        InsertionPoint::EndOf(t) => nodes[t.value()].last_child.get(),
+        _ => resolved_point_at(nodes, *gap).left,
     }
 }
 
-/// Adds more at the end of a text. Refused as `Memory`.
+/// Appends `more` to a text node. It fails with `Memory`.
 fn lengthen(nodes: &mut [TreeNode], x: NodeId, more: &str) -> Result<(), EditFault>
     requires { IsSoundArena nodes.old }
     ensures ok { OnOk result (Changed nodes.old nodes.new x (lengthened more.now)) }
@@ -89,8 +92,8 @@ fn lengthen_node(node: &mut TreeNode, more: &str) -> Result<(), OutOfMemory>
     }
 }
 
-/// Makes a text and puts it at the gap.
-fn put_new_text(nodes: &mut Vec<TreeNode>, gap: Gap, text: &str) -> Result<(), EditFault>
+/// Inserts a new text node at the insertion point.
+fn put_new_text(nodes: &mut Vec<TreeNode>, gap: InsertionPoint, text: &str) -> Result<(), EditFault>
     requires sound { IsSoundArena nodes.old.items }
     requires open { IsOpenGap gap (forest_of nodes.old.items) }
     requires alone { text_before gap (forest_of nodes.old.items) ≡ None }
@@ -98,12 +101,12 @@ fn put_new_text(nodes: &mut Vec<TreeNode>, gap: Gap, text: &str) -> Result<(), E
 {
     let contents = owned_text(*nodes.allocator(), text)?;
     match gap {
-        Gap::EndOf(t) => append_text(nodes, t, contents),
+        InsertionPoint::EndOf(t) => append_text(nodes, t, contents),
         _ => place_text(nodes, gap, contents),
     }
 }
 
-/// Makes a text as the last child of a node.
+/// Appends a new text node to the children of a node.
 #[inline(always)]
 fn append_text(nodes: &mut Vec<TreeNode>, t: NodeId, contents: Text) -> Result<(), EditFault>
     requires sound { IsSoundArena nodes.old.items }
@@ -116,8 +119,12 @@ fn append_text(nodes: &mut Vec<TreeNode>, t: NodeId, contents: Text) -> Result<(
     Ok(())
 }
 
-/// Makes a text that stands alone, and moves it to the gap.
-fn place_text(nodes: &mut Vec<TreeNode>, gap: Gap, contents: Text) -> Result<(), EditFault>
+/// Makes a detached text node and moves it to the insertion point.
+fn place_text(
+    nodes: &mut Vec<TreeNode>,
+    gap: InsertionPoint,
+    contents: Text,
+) -> Result<(), EditFault>
     requires sound { IsSoundArena nodes.old.items }
     requires open { IsOpenGap gap (forest_of nodes.old.items) }
     requires alone { text_before gap (forest_of nodes.old.items) ≡ None }

@@ -1,5 +1,5 @@
-//! Changes of what one node is. Its number, its links, its kind and its template contents stay. An
-//! unknown number changes nothing.
+//! Changes of one node's own data. Its id, its links, its kind and its template contents stay. For
+//! an unknown id the calls do nothing and return `Ok`.
 
 ghost use Rattle.std.specs.Prelude.{◌≡◌, IsOk, OnErr, OnOk, false};
 ghost use Rattle.std.specs.Fn.{FnOnceReturnsAtMut};
@@ -15,7 +15,7 @@ use dom_nodes::node_data::{Attrs, Change, NodeEdit, TreeNode};
 use dom_nodes::node_id::NodeId;
 use std::alloc::Global;
 
-/// Lets the closure change a node's own data, as `TreeNode::update`.
+/// Calls the closure with the parts of a node that it may change, as `TreeNode::update` does.
 pub fn update<F: FnOnce(&mut NodeEdit)>(nodes: &mut [TreeNode], alloc: Global, x: NodeId, change: F)
     requires sound { IsSoundArena nodes.old }
     requires callable { F.IsAlwaysCallable change }
@@ -29,7 +29,8 @@ pub fn update<F: FnOnce(&mut NodeEdit)>(nodes: &mut [TreeNode], alloc: Global, x
     }
 }
 
-/// Adds attributes to an element, as `TreeNode::add_attrs_if_missing`.
+/// Adds missing attributes to an element, as `TreeNode::add_attrs_if_missing` does. It fails with
+/// `OutOfMemory` when memory is refused, and the nodes are then unchanged.
 pub fn add_attrs(nodes: &mut [TreeNode], x: NodeId, attrs: Attrs) -> Result<(), OutOfMemory>
     requires { IsSoundArena nodes.old }
     ensures ok { OnOk result (Changed nodes.old nodes.new x (with_attrs (with_missing attrs))) }
@@ -44,7 +45,8 @@ pub fn add_attrs(nodes: &mut [TreeNode], x: NodeId, attrs: Attrs) -> Result<(), 
     }
 }
 
-/// Makes a change of one node, as `TreeNode::change`.
+/// Applies a change to a node, as `TreeNode::change` does. It fails with `OutOfMemory` when memory
+/// is refused, and the nodes are then unchanged.
 pub fn apply(nodes: &mut [TreeNode], x: NodeId, change: Change) -> Result<(), OutOfMemory>
     requires { IsSoundArena nodes.old }
     ensures ok { OnOk result (Changed nodes.old nodes.new x (changed change.entry)) }

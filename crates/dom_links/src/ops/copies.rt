@@ -1,5 +1,5 @@
-//! Copies of nodes, with all that is below them. They are numbered in walk order, the contents of a
-//! node before its children.
+//! Copies of nodes with their whole subtrees. The copies get new consecutive ids in document order;
+//! template contents come immediately after the element that holds them, before its children.
 
 ghost use Rattle.std.specs.Prelude.{◌≡◌, ◌<◌, ◌≤◌, ◌+◌, ◌∷◌, ◌++◌, [], None, Some, length, vec_len};
 ghost use Rattle.std.specs.Prelude.{IfErr, IfOk, IfSome, MatchResult, OnErr, OnOk};
@@ -30,15 +30,18 @@ use dom_nodes::node_id::NodeId;
 use rows::Rows;
 use std::alloc::Global;
 
-/// A node with its later siblings, of which copies are still to be made, below a node.
+/// Work that is left: a node and its later siblings in the source, whose copies become children of
+/// the node `parent`.
 #[derive(Clone, Copy)]
 struct Row {
     first: NodeId,
     parent: NodeId,
 }
 
-/// Makes copies of nodes of another arena, each a run of its own, and returns their numbers: all or
-/// none.
+/// Copies nodes of another arena with their subtrees, and returns the ids of the copies, in order.
+/// Each copy is detached. It fails with `UnknownNode` for an id that isn't in `other`, with
+/// `RootOrFragment` for a document or a fragment, and with `TooManyNodes` or `Memory`. After an
+/// error no copy is left.
 pub fn merge(
     nodes: &mut Vec<TreeNode>,
     other: &[TreeNode],
@@ -52,8 +55,8 @@ pub fn merge(
     copy_all(nodes, Some(other), ids)
 }
 
-/// Makes a copy of a node of another arena, a run of its own, and returns its number: as `merge`
-/// does of the one node of a list.
+/// Copies one node of another arena with its subtree, and returns the id of the copy. It does what
+/// `merge` does for a list of one id, without allocating a list.
 pub(crate) fn merge_one(
     nodes: &mut Vec<TreeNode>,
     other: &[TreeNode],
@@ -69,8 +72,9 @@ pub(crate) fn merge_one(
     copy_one(nodes, Some(other), id)
 }
 
-/// Makes copies of nodes of the same arena, each a run of its own, and returns their numbers: all
-/// or none.
+/// Copies nodes of this arena with their subtrees, and returns the ids of the copies, in order.
+/// Each copy is detached. It fails with `UnknownNode` for an unknown id, with `RootOrFragment` for
+/// a document or a fragment, and with `TooManyNodes` or `Memory`. After an error no copy is left.
 pub fn copy_nodes(nodes: &mut Vec<TreeNode>, ids: &[NodeId]) -> Result<Vec<NodeId>, EditFault>
     requires { IsSoundArena nodes.old.items }
     ensures { Copied result (forest_of nodes.old.items) nodes.old.items nodes.new.items ids.now }
@@ -79,8 +83,8 @@ pub fn copy_nodes(nodes: &mut Vec<TreeNode>, ids: &[NodeId]) -> Result<Vec<NodeI
     copy_all(nodes, None, ids)
 }
 
-/// The arena of a fragment: its root, an element that names no contents, and copies of nodes of
-/// another arena as the children of that.
+/// Returns a new arena: a fragment as the root, the element `html` as its child, and copies of
+/// nodes of another arena as the children of that. It fails as `merge` does.
 pub fn fragment_of(
     alloc: Global,
     html: NodeData,
@@ -101,7 +105,7 @@ pub fn fragment_of(
     Ok(nodes)
 }
 
-/// Whether nodes may be copied.
+/// Tests that each of the nodes may be copied. It fails with `UnknownNode` or `RootOrFragment`.
 fn check_copies(nodes: &[TreeNode], ids: &[NodeId]) -> Result<(), EditFault>
     requires { IsSoundArena nodes.now }
     ensures { MatchResult result (λ _. MayCopy (forest_of nodes.now) ids.now)
@@ -113,7 +117,7 @@ fn check_copies(nodes: &[TreeNode], ids: &[NodeId]) -> Result<(), EditFault>
     Ok(())
 }
 
-/// Whether a node may be copied.
+/// Tests that a node may be copied. It fails with `UnknownNode` or `RootOrFragment`.
 fn check_copy(nodes: &[TreeNode], id: NodeId) -> Result<(), EditFault>
     requires { IsSoundArena nodes.now }
     ensures { MatchResult result (λ _. MayCopyOne (forest_of nodes.now) id)
@@ -128,7 +132,7 @@ fn check_copy(nodes: &[TreeNode], id: NodeId) -> Result<(), EditFault>
     Ok(())
 }
 
-/// Makes the copies, or takes those away that were made.
+/// Makes the copies. On an error it removes those that were made.
 fn copy_all(
     nodes: &mut Vec<TreeNode>,
     other: Option<&[TreeNode]>,
@@ -148,7 +152,7 @@ fn copy_all(
     }
 }
 
-/// Makes a copy of one node, or takes away what was made of it.
+/// Makes the copy of one node. On an error it removes what was made.
 fn copy_one(
     nodes: &mut Vec<TreeNode>,
     other: Option<&[TreeNode]>,
@@ -168,7 +172,7 @@ fn copy_one(
     }
 }
 
-/// Makes the copies.
+/// Makes the copies as children of `parent`, or detached ones.
 fn copy_each(
     nodes: &mut Vec<TreeNode>,
     other: Option<&[TreeNode]>,
@@ -202,7 +206,7 @@ fn push_number(numbers: &mut Vec<NodeId>, number: NodeId) -> Result<(), EditFaul
     }
 }
 
-/// Makes a copy of a node with all that is below it.
+/// Copies a node with its subtree.
 fn copy_tree(
     nodes: &mut Vec<TreeNode>,
     other: Option<&[TreeNode]>,
@@ -222,7 +226,7 @@ fn copy_tree(
     Ok(made)
 }
 
-/// Copies all that is left.
+/// Copies everything that is left on the stack.
 fn copy_rows(
     nodes: &mut Vec<TreeNode>,
     other: Option<&[TreeNode]>,
@@ -239,7 +243,7 @@ fn copy_rows(
     Ok(())
 }
 
-/// Copies the first node of a row, and notes the rest of it.
+/// Copies the first node of a row, and pushes the rest of the row.
 fn copy_row(
     nodes: &mut Vec<TreeNode>,
     other: Option<&[TreeNode]>,
@@ -259,7 +263,7 @@ fn copy_row(
     Ok(())
 }
 
-/// Copies a node and the fragment that it names as its contents, and notes what stands below them.
+/// Copies a node and its template contents, and pushes their children.
 fn copy_node(
     nodes: &mut Vec<TreeNode>,
     other: Option<&[TreeNode]>,
@@ -283,7 +287,7 @@ fn copy_node(
     Ok(made)
 }
 
-/// Copies a node, and notes its children.
+/// Copies one node without its subtree, and pushes its children.
 fn copy_alone(
     nodes: &mut Vec<TreeNode>,
     other: Option<&[TreeNode]>,
@@ -304,8 +308,8 @@ fn copy_alone(
     Ok(made)
 }
 
-/// Copies a node alone. Short texts and bare elements, which most nodes are, are made where they
-/// go.
+/// Copies one node without its subtree. Short texts and bare elements, which most nodes are, have
+/// quick ways of their own.
 #[inline(always)]
 fn add_copy(
     nodes: &mut Vec<TreeNode>,
@@ -333,7 +337,7 @@ fn add_copy(
     Ok(made)
 }
 
-/// A node of the source.
+/// Returns a node of the source.
 #[inline(always)]
 fn source_node<'a>(other: Option<&'a [TreeNode]>, nodes: &'a [TreeNode], id: NodeId) -> &'a TreeNode
     requires { id < length (read_nodes other nodes.now) }
@@ -346,7 +350,7 @@ fn source_node<'a>(other: Option<&'a [TreeNode]>, nodes: &'a [TreeNode], id: Nod
     }
 }
 
-/// The data of a node's copy, where it is a short text.
+/// Returns the data of the copy if the node is a short text.
 #[inline(always)]
 fn copy_text(node: &TreeNode, number: usize) -> Option<NodeData>
     ensures { IfSome result (λ made. made ≡ copied_data number node.now.content) }
@@ -354,7 +358,7 @@ fn copy_text(node: &TreeNode, number: usize) -> Option<NodeData>
     node.content.short_text()
 }
 
-/// The data of a node's copy, where it is a bare element.
+/// Returns the data of the copy if the node is a bare element.
 #[inline(always)]
 fn copy_element(node: &TreeNode, number: usize) -> Option<NodeData>
     ensures { IfSome result (λ made. made ≡ copied_data number node.now.content) }
@@ -362,7 +366,8 @@ fn copy_element(node: &TreeNode, number: usize) -> Option<NodeData>
     node.content.bare_element()
 }
 
-/// The data of a node's copy with that number.
+/// Returns the data of the copy that gets the id `number`. Its template contents will get the id
+/// after that.
 fn copy_data(node: &TreeNode, number: usize) -> Result<NodeData, EditFault>
     requires { number ≤ 4294967295 }
     ensures { MatchResult result (λ made. made ≡ copied_data number node.now.content)
@@ -378,7 +383,7 @@ fn copy_data(node: &TreeNode, number: usize) -> Result<NodeData, EditFault>
     Ok(with_contents(made, contents))
 }
 
-/// The same data.
+/// Returns a copy of the data, or `Memory`.
 fn cloned(content: &NodeData) -> Result<NodeData, EditFault>
     ensures { MatchResult result (λ made. made ≡ content.now) (λ fault. fault ≡ Memory) }
 {
@@ -388,7 +393,7 @@ fn cloned(content: &NodeData) -> Result<NodeData, EditFault>
     }
 }
 
-/// The same data, where an element has other contents.
+/// Returns the data with the template contents of an element replaced.
 fn with_contents(content: NodeData, contents: NodeId) -> NodeData
     ensures { result ≡ with_contents (Some contents) content }
 {
@@ -400,7 +405,7 @@ fn with_contents(content: NodeData, contents: NodeId) -> NodeData
     }
 }
 
-/// Makes a node as the last child of another, or standing alone.
+/// Makes a node as the last child of `parent`, or a detached one.
 #[inline(always)]
 fn add_below(
     nodes: &mut Vec<TreeNode>,
@@ -420,7 +425,7 @@ fn add_below(
     }
 }
 
-/// Notes the row that begins at a node, if any.
+/// Pushes the row that begins at `first`, if there is one.
 #[inline(always)]
 fn push_row(rows: &mut Rows, first: Option<NodeId>, parent: NodeId) -> Result<(), EditFault>
     ensures ok { OnOk result (rows.new ≡ rows.old ++ row_from first parent) }

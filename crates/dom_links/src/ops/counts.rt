@@ -1,4 +1,4 @@
-//! How many characters the texts of nodes have.
+//! Counting the characters of a node's text.
 
 ghost use Rattle.std.specs.Prelude.{◌≡◌, ◌++◌, ℕ, List, length};
 ghost use Rattle.dom_links.specs.Forest.{forest_of};
@@ -12,8 +12,10 @@ use dom_nodes::node_data::TreeNode;
 use dom_nodes::node_id::NodeId;
 
 impl TreeNodeOps {
-    /// How many characters the text of a node has, where each run of whitespace counts as one space
-    /// and none counts at its ends. Takes no memory. The count saturates at `usize::MAX`.
+    /// Returns the number of characters in the text of a node, where each sequence of white space
+    /// counts as one character and white space at the ends counts as none. It allocates no memory.
+    /// A count larger than `usize::MAX` is returned as `usize::MAX`. For an unknown id the result
+    /// is 0.
     pub fn normalized_char_count(nodes: &[TreeNode], id: &NodeId) -> usize
         requires { IsSoundArena nodes.now }
         ensures { result ≡ saturated (length (collapsed (text_of (forest_of nodes.now) id.now))) }
@@ -30,14 +32,15 @@ impl TreeNodeOps {
     }
 }
 
-/// How many characters of a collapsed text were read, and whether whitespace was read since.
+/// The state of the count: the number of characters so far, and whether white space has been read
+/// since the last one.
 #[derive(Drop)]
 struct Collapsing {
     count: usize,
     gap: bool,
 }
 
-/// Reads a text.
+/// Counts the characters of one more text.
 fn add_text(read: &mut Collapsing, text: &str)
     ensures { (rest : List ℕ) (total : ℕ)
         → IsCounting read.old.count read.old.gap (text.now ++ rest) total

@@ -1,4 +1,4 @@
-//! New nodes.
+//! Making new nodes.
 
 ghost use Rattle.std.specs.Prelude.{◌≡◌, ◌<◌, ◌+◌, ◌∷◌, ◌++◌, [], IfErr, IfOk, MatchResult, None};
 ghost use Rattle.std.specs.Prelude.{OnErr, OnOk, length, vec_len};
@@ -21,7 +21,9 @@ use dom_nodes::node_id::NodeId;
 use std::alloc::Global;
 
 impl TreeNodeOps {
-    /// Makes a node that stands alone. Refused as `BadContents`, `TooManyNodes` or `Memory`.
+    /// Makes a detached node and returns its id. It fails with `BadContents` when the data has
+    /// template contents that aren't free (see `is_free`), and with `TooManyNodes` or `Memory`.
+    /// After an error the arena is unchanged.
     pub fn create_node(nodes: &mut Vec<TreeNode>, content: NodeData) -> Result<NodeId, EditFault>
         requires { IsSoundArena nodes.old.items }
         ensures makes { MakesNode result nodes.old nodes.new (making content) }
@@ -32,8 +34,11 @@ impl TreeNodeOps {
         Ok(id)
     }
 
-    /// Makes a node as the last child of another. With the contents that it names it counts as
-    /// moved there.
+    /// Makes a node as the last child of `t` and returns its id. It fails with `UnknownNode` when
+    /// `t` is unknown, with `NoChildrenHere` when `t` can't have children, with `RootOrFragment`
+    /// when the data is a document or a fragment, with `BadContents` when its template contents
+    /// aren't free, with `Cycle` when `t` is inside these contents, and with `TooManyNodes` or
+    /// `Memory`. After an error the arena is unchanged.
     #[inline(always)]
     pub fn append_child_data_of(
         nodes: &mut Vec<TreeNode>,
@@ -48,8 +53,8 @@ impl TreeNodeOps {
     }
 }
 
-/// Makes a node that stands alone, behind the others. Whether its contents are free is the caller's
-/// condition for a forest.
+/// Appends a detached node to the arena. It doesn't check that template contents are free; the
+/// result is a forest only if they are.
 #[inline(always)]
 pub(crate) fn push_alone(nodes: &mut Vec<TreeNode>, content: NodeData) -> Result<NodeId, EditFault>
     requires linked { IsArenaOf (forest_of nodes.old.items) nodes.old.items }
@@ -61,8 +66,8 @@ pub(crate) fn push_alone(nodes: &mut Vec<TreeNode>, content: NodeData) -> Result
     push_new(nodes, None, None, content)
 }
 
-/// Makes a node as the last child of another. Whether that is allowed is the caller's condition for
-/// a forest.
+/// Makes a node as the last child of `t`. It doesn't check that this is allowed; the result is a
+/// forest only if it is.
 #[inline(always)]
 pub(crate) fn add_child(
     nodes: &mut Vec<TreeNode>,
@@ -81,7 +86,8 @@ pub(crate) fn add_child(
     Ok(id)
 }
 
-/// Makes a node behind the others, with a parent and a sibling before it, which don't name it yet.
+/// Appends a node with this parent and previous sibling to the arena. The links of those two to the
+/// new node aren't set.
 #[inline(always)]
 fn push_new(
     nodes: &mut Vec<TreeNode>,
@@ -109,7 +115,7 @@ fn push_new(
     Ok(id)
 }
 
-/// Whether a node of this data may be made, which stands alone.
+/// Tests that a detached node with this data may be made. It fails with `BadContents`.
 fn check_contents(nodes: &[TreeNode], content: &NodeData) -> Result<(), EditFault>
     requires { IsSoundArena nodes.now }
     ensures { MatchResult result (λ _. HasFreeContents (forest_of nodes.now) content.now)
@@ -125,7 +131,8 @@ fn check_contents(nodes: &[TreeNode], content: &NodeData) -> Result<(), EditFaul
     }
 }
 
-/// Whether a node of this data may be made as a child of t.
+/// Tests that a node with this data may be made as a child of `t`. The errors are those of
+/// `append_child_data_of` without `TooManyNodes` and `Memory`.
 #[inline(always)]
 fn check_data(nodes: &[TreeNode], t: NodeId, content: &NodeData) -> Result<(), EditFault>
     requires { IsSoundArena nodes.now }
@@ -153,7 +160,7 @@ fn check_data(nodes: &[TreeNode], t: NodeId, content: &NodeData) -> Result<(), E
     Ok(())
 }
 
-/// Makes an arena of one node, which names no contents.
+/// Returns an arena of one node, the root. It fails with `Memory`.
 pub fn create_root(alloc: Global, content: NodeData) -> Result<Vec<TreeNode>, EditFault>
     requires { contents_named content ≡ None }
     ensures sound { IfOk result (λ nodes. IsSoundArena nodes.items) }
@@ -165,7 +172,7 @@ pub fn create_root(alloc: Global, content: NodeData) -> Result<Vec<TreeNode>, Ed
     Ok(nodes)
 }
 
-/// Adds a node at the end.
+/// Appends a node to the vector. It fails with `Memory`.
 #[inline(always)]
 fn push_node(nodes: &mut Vec<TreeNode>, node: TreeNode) -> Result<(), EditFault>
     ensures ok { OnOk result (nodes.new.items ≡ nodes.old.items ++ node ∷ []) }

@@ -1,15 +1,15 @@
-//! Copies of nodes that go to a place in an arena: all that allocates memory comes before a link of
-//! an old node changes.
+//! Inserting copies of nodes at a place in an arena. All memory is allocated before a link of an
+//! old node changes, so an error leaves the tree as it was.
 
 ghost use Rattle.std.specs.Prelude.{◌≡◌, ◌<◌, ◌∷◌, [], false, length, true};
 ghost use Rattle.dom_links.specs.Forest.{IsArenaOf, forest_of};
 ghost use Rattle.dom_links.specs.Insertions.{Inserted, Placed, around_it, gap_at, placed};
 ghost use Rattle.dom_links.specs.ListMoves.{AllowedList, AreNodes, MovedList, element_at};
-ghost use Rattle.dom_links.specs.Lists.{first, stands_in};
-ghost use Rattle.dom_links.specs.Moves.{cut};
+ghost use Rattle.dom_links.specs.Lists.{first, is_member};
+ghost use Rattle.dom_links.specs.Moves.{detach};
 ghost use Rattle.dom_links.specs.Sound.{IsSoundArena, is_open, target};
 
-use crate::gap::{Gap, Place};
+use crate::gap::{InsertionPoint, Place};
 use crate::ops::TreeNodeOps;
 use crate::ops::copies::{copy_nodes, merge, merge_one};
 use crate::ops::lists::{remove_children, wrap_node};
@@ -18,8 +18,8 @@ use dom_nodes::fault::EditFault;
 use dom_nodes::node_data::TreeNode;
 use dom_nodes::node_id::NodeId;
 
-/// Makes copies of nodes of another arena, which go to a place: all or none. Of one node no list is
-/// made of its copy's number.
+/// Copies nodes of another arena and inserts the copies at a place relative to the node `x`. It
+/// fails as `merge` does, and then nothing changes. For a single node no list of ids is allocated.
 pub fn merge_at(
     nodes: &mut Vec<TreeNode>,
     x: NodeId,
@@ -44,7 +44,8 @@ pub fn merge_at(
     Ok(())
 }
 
-/// Makes copies of nodes of the same arena, which go to a place: all or none.
+/// Copies nodes of this arena and inserts the copies at a place relative to the node `x`. It fails
+/// as `copy_nodes` does, and then nothing changes.
 pub fn copy_at(
     nodes: &mut Vec<TreeNode>,
     x: NodeId,
@@ -62,7 +63,7 @@ pub fn copy_at(
     Ok(())
 }
 
-/// Puts nodes that may go there at a place.
+/// Inserts nodes at a place relative to `x`; they must be allowed there.
 fn put_copies(nodes: &mut [TreeNode], x: NodeId, place: Place, new: &[NodeId])
     requires sound { IsSoundArena nodes.old }
     requires new { AreNodes (forest_of nodes.old) new.now }
@@ -73,37 +74,38 @@ fn put_copies(nodes: &mut [TreeNode], x: NodeId, place: Place, new: &[NodeId])
     put_new(nodes, x, place, new);
 }
 
-/// Puts nodes at a place.
+/// Inserts nodes at a place relative to `x`.
 fn put_new(nodes: &mut [TreeNode], x: NodeId, place: Place, new: &[NodeId])
     requires linked { IsArenaOf (forest_of nodes.old) nodes.old }
     requires known { x < length nodes.old }
     requires new { AreNodes (forest_of nodes.old) new.now }
-    requires apart { stands_in x new.now ≡ false }
+    requires apart { is_member x new.now ≡ false }
     ensures { Placed nodes.old nodes.new place x new.now }
 {
     match place {
         Place::InsteadOfChildren => {
             remove_children(nodes, x);
-            move_list(nodes, Gap::EndOf(x), new);
+            move_list(nodes, InsertionPoint::EndOf(x), new);
         }
         Place::InsteadOfNode => {
-            move_list(nodes, Gap::Before(x), new);
+            move_list(nodes, InsertionPoint::Before(x), new);
             TreeNodeOps::remove_from_parent(nodes, x);
         }
         Place::Around => put_around(nodes, x, new),
-        Place::AtEnd => move_list(nodes, Gap::EndOf(x), new),
-        Place::AtFront => move_list(nodes, Gap::FrontOf(x), new),
-        Place::Before => move_list(nodes, Gap::Before(x), new),
-        Place::After => move_list(nodes, Gap::After(x), new),
+        Place::AtEnd => move_list(nodes, InsertionPoint::EndOf(x), new),
+        Place::AtFront => move_list(nodes, InsertionPoint::FrontOf(x), new),
+        Place::Before => move_list(nodes, InsertionPoint::Before(x), new),
+        Place::After => move_list(nodes, InsertionPoint::After(x), new),
     }
 }
 
-/// Makes nodes a run, and wraps x in the first of them, if that is an element.
+/// Detaches the nodes as one list of siblings, and wraps `x` in the first of them if that is an
+/// element.
 fn put_around(nodes: &mut [TreeNode], x: NodeId, new: &[NodeId])
     requires linked { IsArenaOf (forest_of nodes.old) nodes.old }
     requires known { x < length nodes.old }
     requires new { AreNodes (forest_of nodes.old) new.now }
-    requires apart { stands_in x new.now ≡ false }
+    requires apart { is_member x new.now ≡ false }
     ensures { Placed nodes.old nodes.new around_it x new.now }
 {
     let Some(start) = gather(nodes, new) else {
@@ -122,12 +124,12 @@ fn is_element(nodes: &[TreeNode], x: NodeId) -> bool
     nodes[x.value()].content.is_element()
 }
 
-/// Moves nodes, in their order, to a gap.
-fn move_list(nodes: &mut [TreeNode], gap: Gap, moved: &[NodeId])
+/// Moves nodes, in this order, to an insertion point.
+fn move_list(nodes: &mut [TreeNode], gap: InsertionPoint, moved: &[NodeId])
     requires linked { IsArenaOf (forest_of nodes.old) nodes.old }
     requires target_known { target gap < length nodes.old }
     requires moved { AreNodes (forest_of nodes.old) moved.now }
-    requires apart { stands_in (target gap) moved.now ≡ false }
+    requires apart { is_member (target gap) moved.now ≡ false }
     ensures { MovedList nodes.old nodes.new gap moved.now }
 {
     let Some(start) = gather(nodes, moved) else {
@@ -136,12 +138,11 @@ fn move_list(nodes: &mut [TreeNode], gap: Gap, moved: &[NodeId])
     put_at(nodes, gap, start);
 }
 
-/// Cuts nodes out of their lists, and returns the first of them. They are then a run of their own,
-/// in their order.
+/// Detaches the nodes, makes them siblings in this order, and returns the first of them.
 fn gather(nodes: &mut [TreeNode], moved: &[NodeId]) -> Option<NodeId>
     requires linked { IsArenaOf (forest_of nodes.old) nodes.old }
     requires moved { AreNodes (forest_of nodes.old) moved.now }
-    ensures arena { IsArenaOf (cut moved.now (forest_of nodes.old)) nodes.new }
+    ensures arena { IsArenaOf (detach moved.now (forest_of nodes.old)) nodes.new }
     ensures start { result ≡ first moved.now }
 {
     let Some((start, others)) = moved.split_first() else {

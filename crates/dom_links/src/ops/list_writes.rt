@@ -1,17 +1,17 @@
-//! The writing steps that the moves of lists are made of.
+//! Writing the links for moves of several siblings.
 
 ghost use Rattle.std.specs.Prelude.{◌≡◌, ◌<◌, length, Some};
 ghost use Rattle.dom_links.specs.Lists.{last};
 ghost use Rattle.dom_links.specs.ListWrites.{IsPointIn, NextsKnown, ParentsSet, RunAttached};
 ghost use Rattle.dom_links.specs.ListWrites.{next_chain};
 
-use crate::ops::moves::InsertionPoint;
+use crate::ops::moves::ResolvedPoint;
 use crate::ops::writes::join;
 use dom_nodes::link::Link;
 use dom_nodes::node_data::TreeNode;
 use dom_nodes::node_id::NodeId;
 
-/// Gives a parent to a node and to all that follow it by next links, and returns the last of them.
+/// Sets the parent of a node and of all siblings after it, and returns the last of them.
 pub(crate) fn set_parents(nodes: &mut [TreeNode], x: NodeId, owner: Option<NodeId>) -> NodeId
     requires known { x < length nodes.old }
     requires nexts_known { NextsKnown nodes.old }
@@ -34,8 +34,8 @@ pub(crate) fn set_parents(nodes: &mut [TreeNode], x: NodeId, owner: Option<NodeI
     end
 }
 
-/// Puts a node and all that follow it between two neighbours below an owner.
-pub(crate) fn attach_run(nodes: &mut [TreeNode], x: NodeId, point: &InsertionPoint)
+/// Links a node and all siblings after it between two neighbours below a parent.
+pub(crate) fn attach_run(nodes: &mut [TreeNode], x: NodeId, point: &ResolvedPoint)
     requires known { x < length nodes.old }
     requires nexts_known { NextsKnown nodes.old }
     requires point_known { IsPointIn (length nodes.old) point.now }

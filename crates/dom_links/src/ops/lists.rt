@@ -1,15 +1,16 @@
-//! The moves of the children of a node, and moves in two steps. They take no memory.
+//! Moves of all children of a node, and edits that consist of two moves: replace, wrap, unwrap.
+//! They allocate no memory and can't fail.
 
 ghost use Rattle.std.specs.Prelude.{◌≡◌, ◌≢◌, ◌<◌, [], ◌∷◌, ℕ, false, length, IfSome};
 ghost use Rattle.dom_links.specs.Forest.{IsArenaOf, forest_of, children_of};
 ghost use Rattle.dom_links.specs.ListMoves.{ChildrenRemoved, Reparents, Replaced, Unwrapped};
 ghost use Rattle.dom_links.specs.ListMoves.{Wrapped, with_later};
-ghost use Rattle.dom_links.specs.Lists.{stands_in};
-ghost use Rattle.dom_links.specs.Moves.{cut, end_of};
+ghost use Rattle.dom_links.specs.Lists.{is_member};
+ghost use Rattle.dom_links.specs.Moves.{detach, end_of};
 ghost use Rattle.dom_links.specs.SetTexts.{with_only_child};
 ghost use Rattle.dom_links.specs.Sound.{Allowed, IsForest, IsSoundArena};
 
-use crate::gap::{Gap, Moving};
+use crate::gap::{InsertionPoint, MovedNodes};
 use crate::ops::TreeNodeOps;
 use crate::ops::list_writes::set_parents;
 use crate::ops::siblings::{first_child_of, wrapper_of};
@@ -18,14 +19,14 @@ use dom_nodes::node_data::TreeNode;
 use dom_nodes::node_id::NodeId;
 
 impl TreeNodeOps {
-    /// Moves the children of a node to the end of those of another; without one they are then a run
-    /// of their own.
+    /// Moves the children of `x` to the end of the children of `parent`. Without a parent they are
+    /// detached, and are siblings of each other.
     pub fn reparent_children_of(nodes: &mut [TreeNode], x: NodeId, parent: Option<NodeId>)
         requires linked { IsArenaOf (forest_of nodes.old) nodes.old }
         requires known { x < length nodes.old }
         requires target_known { IfSome parent (λ t. t < length nodes.old) }
         requires apart { IfSome parent
-            (λ t. stands_in t (children_of (forest_of nodes.old) x) ≡ false) }
+            (λ t. is_member t (children_of (forest_of nodes.old) x) ≡ false) }
         ensures { Reparents nodes.old nodes.new x parent }
     {
         let Some(t) = parent else {
@@ -39,11 +40,11 @@ impl TreeNodeOps {
     }
 }
 
-/// Cuts a node and its later siblings out of their list. They are then a run of their own.
+/// Detaches a node and its later siblings. They stay siblings of each other.
 pub(crate) fn cut_with_later(nodes: &mut [TreeNode], x: NodeId)
     requires linked { IsArenaOf (forest_of nodes.old) nodes.old }
     requires known { x < length nodes.old }
-    ensures { IsArenaOf (cut (with_later (forest_of nodes.old) x) (forest_of nodes.old)) nodes.new }
+    ensures { IsArenaOf (detach (with_later (forest_of nodes.old) x) (forest_of nodes.old)) nodes.new }
 {
     let node = &nodes[x.value()];
     let parent = node.parent.get();
@@ -53,7 +54,7 @@ pub(crate) fn cut_with_later(nodes: &mut [TreeNode], x: NodeId)
     set_parents(nodes, x, None);
 }
 
-/// Cuts the children of a node out. They are then a run of their own.
+/// Detaches the children of a node. They stay siblings of each other.
 pub fn remove_children(nodes: &mut [TreeNode], x: NodeId)
     requires linked { IsArenaOf (forest_of nodes.old) nodes.old }
     requires known { x < length nodes.old }
@@ -65,7 +66,7 @@ pub fn remove_children(nodes: &mut [TreeNode], x: NodeId)
     cut_with_later(nodes, first);
 }
 
-/// Cuts the children of a node out, and makes another node its only child.
+/// Detaches the children of `x`, and makes the node `child` its only child.
 #[tactic(auto, using(crate::proofs::moves::Cuts::no_other))]
 pub(crate) fn set_only_child(nodes: &mut [TreeNode], x: NodeId, child: NodeId)
     requires sound { IsSoundArena nodes.old }
@@ -77,7 +78,7 @@ pub(crate) fn set_only_child(nodes: &mut [TreeNode], x: NodeId, child: NodeId)
     TreeNodeOps::append_child_of(nodes, x, child);
 }
 
-/// Puts a node right before another, and cuts that one out.
+/// Moves `x` to the place immediately before `t`, and then detaches `t`.
 #[tactic(auto, using(crate::proofs::moves::Cuts::no_other))]
 pub fn replace_with(nodes: &mut [TreeNode], t: NodeId, x: NodeId)
     requires linked { IsArenaOf (forest_of nodes.old) nodes.old }
@@ -90,7 +91,7 @@ pub fn replace_with(nodes: &mut [TreeNode], t: NodeId, x: NodeId)
     TreeNodeOps::remove_from_parent(nodes, t);
 }
 
-/// Puts w right before x, and then x to the end of the children of w.
+/// Moves `w` to the place immediately before `x`, and then `x` to the end of the children of `w`.
 #[tactic(auto, using(crate::proofs::moves::Cuts::no_other))]
 pub fn wrap_node(nodes: &mut [TreeNode], x: NodeId, w: NodeId)
     requires linked { IsArenaOf (forest_of nodes.old) nodes.old }
@@ -103,8 +104,8 @@ pub fn wrap_node(nodes: &mut [TreeNode], x: NodeId, w: NodeId)
     TreeNodeOps::append_child_of(nodes, w, x);
 }
 
-/// Where the parent of a node and its parent are elements, puts the parent's children right before
-/// the parent and cuts the parent out. Else nothing changes.
+/// Removes the parent of a node and keeps the parent's children in its place. If the parent or the
+/// grandparent is no element, nothing changes.
 pub fn unwrap_node(nodes: &mut [TreeNode], x: NodeId)
     requires linked { IsArenaOf (forest_of nodes.old) nodes.old }
     requires forest { IsForest (forest_of nodes.old) }
@@ -114,6 +115,10 @@ pub fn unwrap_node(nodes: &mut [TreeNode], x: NodeId)
     let Some(parent) = wrapper_of(nodes, x) else {
         return;
     };
-    TreeNodeOps::move_to(nodes, Gap::Before(parent), Moving::WholeList(x));
+    TreeNodeOps::move_to(
+        nodes,
+        InsertionPoint::Before(parent),
+        MovedNodes::WholeList(x),
+    );
     TreeNodeOps::remove_from_parent(nodes, parent);
 }

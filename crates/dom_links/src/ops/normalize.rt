@@ -1,4 +1,4 @@
-//! Texts that stand side by side are joined.
+//! Joining adjacent text nodes, as the method `normalize()` of the DOM Standard does.
 
 ghost use Rattle.std.specs.Prelude.{◌≡◌, ◌<◌, ◌++◌, ◌∷◌, [], IfOk, OnErr, OnOk, false, length};
 ghost use Rattle.std.specs.Prelude.{IfErr, MatchResult, string_bytes};
@@ -9,7 +9,7 @@ ghost use Rattle.dom_links.specs.Normalized.{normalized, starts_text_run};
 ghost use Rattle.dom_links.specs.Rewrites.{is_text_after, listed, rewrite_at, rewrites, rewritten};
 ghost use Rattle.dom_links.specs.Sound.{IsSoundArena};
 ghost use Rattle.dom_links.specs.Texts.{text_at};
-ghost use Rattle.dom_links.specs.Trees.{walk_below};
+ghost use Rattle.dom_links.specs.Trees.{descendants_in_order};
 ghost use Rattle.dom_links.specs.Walk.{later};
 
 use crate::iters::{DescendantNodes, next_sibling_id, node_at, prev_sibling_id};
@@ -23,9 +23,10 @@ use dom_nodes::text::Text;
 use std::alloc::Global;
 
 impl TreeNodeOps {
-    /// Joins each row of texts below the node: the first that is not empty holds them all, and the
-    /// others are cut out and hold nothing. Linear in what is below. Refused as `Memory`; then
-    /// nothing changes.
+    /// Joins adjacent text nodes among the descendants of a node. In each sequence of adjacent
+    /// texts the first one that isn't empty gets the text of all; the others are detached and
+    /// emptied. The time is linear in the size of the subtree. It fails with `Memory`, and then
+    /// nothing changes. For an unknown id nothing happens.
     pub fn normalize(alloc: Global, nodes: &mut [TreeNode], id: NodeId) -> Result<(), EditFault>
         requires { IsSoundArena nodes.old }
         ensures made { OnOk result (forest_of nodes.new ≡ normalized id (forest_of nodes.old)) }
@@ -41,7 +42,7 @@ impl TreeNodeOps {
     }
 }
 
-/// What a text is to hold, and whether it stays in its list.
+/// A change of one text node: its new text, and whether it stays where it is or is detached.
 #[derive(Drop)]
 struct Rewrite {
     id: NodeId,
@@ -49,7 +50,7 @@ struct Rewrite {
     stays: bool,
 }
 
-/// Does what is to be done with a text.
+/// Applies a change of a text node.
 fn apply(nodes: &mut [TreeNode], rewrite: Rewrite)
     requires sound { IsSoundArena nodes.old }
     requires known { rewrite.id < length nodes.old }
@@ -63,7 +64,7 @@ fn apply(nodes: &mut [TreeNode], rewrite: Rewrite)
     }
 }
 
-/// The same as `rewrites_below`, refused as `Memory`.
+/// Returns the changes that `rewrites_below` returns. It fails with `Memory`.
 fn rewrites_or_fault(
     alloc: Global,
     nodes: &[TreeNode],
@@ -72,7 +73,7 @@ fn rewrites_or_fault(
     requires { IsSoundArena nodes.now }
     ensures { MatchResult result
         (λ found. found.items
-        ≡ rewrites (forest_of nodes.now) (walk_below (forest_of nodes.now) id.now))
+        ≡ rewrites (forest_of nodes.now) (descendants_in_order (forest_of nodes.now) id.now))
         (λ fault. fault ≡ Memory) }
 {
     match rewrites_below(alloc, nodes, id) {
@@ -81,7 +82,7 @@ fn rewrites_or_fault(
     }
 }
 
-/// What is to be done with the texts below a node, in the order of the walk.
+/// Returns the changes of the text nodes among the descendants of a node, in document order.
 fn rewrites_below(
     alloc: Global,
     nodes: &[TreeNode],
@@ -89,7 +90,7 @@ fn rewrites_below(
 ) -> Result<Vec<Rewrite>, OutOfMemory>
     requires { IsSoundArena nodes.now }
     ensures { IfOk result (λ found. found.items
-        ≡ rewrites (forest_of nodes.now) (walk_below (forest_of nodes.now) id.now)) }
+        ≡ rewrites (forest_of nodes.now) (descendants_in_order (forest_of nodes.now) id.now)) }
 {
     let mut found = Vec::new(alloc);
     for below in DescendantNodes::new(nodes, id) {
@@ -108,7 +109,7 @@ fn add_found(found: &mut Vec<Rewrite>, rewrite: Option<Rewrite>) -> Result<(), O
     Ok(())
 }
 
-/// What is to be done with a node, if anything.
+/// Returns the change of a node, or `None` if it stays as it is.
 fn rewrite_of(alloc: Global, nodes: &[TreeNode], id: NodeId) -> Result<Option<Rewrite>, OutOfMemory>
     requires { IsSoundArena nodes.now }
     ensures { IfOk result (λ found. found ≡ rewrite_at (forest_of nodes.now) id) }
@@ -135,7 +136,7 @@ fn rewrite_of(alloc: Global, nodes: &[TreeNode], id: NodeId) -> Result<Option<Re
     }))
 }
 
-/// What a text and those right after it hold, joined.
+/// Returns the text of a text node and of the text nodes immediately after it, joined.
 fn joined_text(alloc: Global, nodes: &[TreeNode], id: NodeId) -> Result<Text, OutOfMemory>
     requires { IsSoundArena nodes.now }
     ensures { IfOk result (λ text. text ≡ text_at (forest_of nodes.now) id
@@ -147,7 +148,7 @@ fn joined_text(alloc: Global, nodes: &[TreeNode], id: NodeId) -> Result<Text, Ou
     Ok(Text::from(joined))
 }
 
-/// Adds what the texts right after a node hold.
+/// Appends the text of the text nodes immediately after a node.
 fn join_after(joined: &mut String, nodes: &[TreeNode], id: NodeId) -> Result<(), OutOfMemory>
     requires { IsSoundArena nodes.now }
     ensures { OnOk result (string_bytes joined.new ≡ string_bytes joined.old
@@ -174,7 +175,7 @@ fn is_text_after(nodes: &[TreeNode], id: NodeId) -> bool
     }
 }
 
-/// Whether the node is the first of its row of texts that holds something.
+/// Returns whether the node is the first text of its sequence that isn't empty.
 fn starts_text_run(nodes: &[TreeNode], id: NodeId) -> bool
     requires { IsSoundArena nodes.now }
     ensures { result ≡ starts_text_run (forest_of nodes.now) id }
@@ -191,7 +192,7 @@ fn starts_text_run(nodes: &[TreeNode], id: NodeId) -> bool
     }
 }
 
-/// The nearest node before that is no empty text.
+/// Returns the nearest earlier sibling that isn't an empty text.
 fn nearest_before(nodes: &[TreeNode], id: NodeId) -> Option<NodeId>
     requires { IsSoundArena nodes.now }
     ensures { result ≡ nearest_before (forest_of nodes.now) id }

@@ -1,4 +1,4 @@
-//! The text of a node is set.
+//! Setting the text of a node, as the property `textContent` of the DOM does.
 
 ghost use Rattle.std.specs.Prelude.{◌≡◌, MatchResult, true};
 ghost use Rattle.dom_nodes.specs.declared.fault.EditFault.TheVariants.{Memory};
@@ -20,9 +20,9 @@ use dom_nodes::text::Text;
 use std::alloc::Global;
 
 impl TreeNodeOps {
-    /// Puts one text in the place of an element's children, or of a text's contents. Any other node
-    /// stays, and so does all for an unknown number. Refused as `TooManyNodes` of an element, and
-    /// as `Memory` of an element or a text; then nothing changes.
+    /// Replaces the children of an element by one text node, or the contents of a text node. Other
+    /// nodes and unknown ids are left alone. It fails with `Memory` for an element or a text, and
+    /// with `TooManyNodes` for an element when no id is left; then nothing changes.
     pub fn set_text(nodes: &mut Vec<TreeNode>, id: NodeId, text: &str) -> Result<(), EditFault>
         requires { IsSoundArena nodes.old.items }
         ensures { Becomes result nodes.old nodes.new (with_text_content id text.now)
@@ -53,7 +53,7 @@ pub(crate) fn is_text_at(nodes: &[TreeNode], id: NodeId) -> bool
     find_node(nodes, id).is_some_and(|node| node.content.is_text())
 }
 
-/// The text. Refused as `Memory`.
+/// Returns a copy of the text. It fails with `Memory`.
 pub(crate) fn owned_text(alloc: Global, text: &str) -> Result<Text, EditFault>
     ensures { MatchResult result (λ made. made ≡ text.now) (λ fault. fault ≡ Memory) }
 {
@@ -63,7 +63,7 @@ pub(crate) fn owned_text(alloc: Global, text: &str) -> Result<Text, EditFault>
     }
 }
 
-/// Puts a new text in the place of an element's children.
+/// Replaces the children of an element by one new text node.
 fn replace_children(nodes: &mut Vec<TreeNode>, x: NodeId, text: &str) -> Result<(), EditFault>
     requires sound { IsSoundArena nodes.old.items }
     requires element { element_at (forest_of nodes.old.items) x ≡ true }
@@ -75,7 +75,7 @@ fn replace_children(nodes: &mut Vec<TreeNode>, x: NodeId, text: &str) -> Result<
     Ok(())
 }
 
-/// Gives a text other contents. Any other node stays, and so does all for an unknown number.
+/// Replaces the contents of a text node. Other nodes and unknown ids are left alone.
 pub(crate) fn put_text(nodes: &mut [TreeNode], x: NodeId, text: Text)
     requires { IsSoundArena nodes.old }
     ensures { Changed nodes.old nodes.new x (with_text_data text) }

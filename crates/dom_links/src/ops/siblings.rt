@@ -1,4 +1,4 @@
-//! What stands beside, above and below a node. An unknown number has nothing beside and below it.
+//! Looking up the siblings, the parent and the children of a node. An unknown id has none of them.
 
 ghost use Rattle.std.specs.Prelude.{◌≡◌, ◌<◌, IfSome, MatchOption, Some, [], false, find, length};
 ghost use Rattle.std.specs.Prelude.{not, true, if◌then◌else◌};
@@ -15,7 +15,8 @@ use dom_nodes::node_data::TreeNode;
 use dom_nodes::node_id::NodeId;
 
 impl TreeNodeOps {
-    /// Whether nodes may be put beside a node: it is no root, document or fragment.
+    /// Returns whether nodes may be put beside a node: whether it isn't the root, a document or a
+    /// fragment.
     pub fn may_have_siblings(nodes: &[TreeNode], t: NodeId) -> bool
         requires linked { IsArenaOf (forest_of nodes.now) nodes.now }
         requires known { t < length nodes.now }
@@ -24,7 +25,7 @@ impl TreeNodeOps {
         !stays_put(nodes, t)
     }
 
-    /// The last of the siblings after a node.
+    /// Returns the last one of the siblings after a node, or `None` when there is none after it.
     pub fn last_sibling_of(nodes: &[TreeNode], id: &NodeId) -> Option<NodeId>
         requires { IsSoundArena nodes.now }
         ensures { result ≡ last (later (forest_of nodes.now) false id.now) }
@@ -38,7 +39,7 @@ impl TreeNodeOps {
         found
     }
 
-    /// The nearest element among the siblings after a node.
+    /// Returns the nearest element among the siblings after a node.
     pub fn next_element_sibling_of(nodes: &[TreeNode], id: &NodeId) -> Option<NodeId>
         requires { IsSoundArena nodes.now }
         ensures { result ≡ find (element_at (forest_of nodes.now))
@@ -47,7 +48,7 @@ impl TreeNodeOps {
         first_element_on(nodes, next_sibling_id(nodes, id), false)
     }
 
-    /// The nearest element among the siblings before a node.
+    /// Returns the nearest element among the siblings before a node.
     pub fn prev_element_sibling_of(nodes: &[TreeNode], id: &NodeId) -> Option<NodeId>
         requires { IsSoundArena nodes.now }
         ensures { result ≡ find (element_at (forest_of nodes.now))
@@ -56,7 +57,7 @@ impl TreeNodeOps {
         first_element_on(nodes, prev_sibling_id(nodes, id), true)
     }
 
-    /// The first element among the children of a node.
+    /// Returns the first element among the children of a node.
     pub fn first_element_child_of(nodes: &[TreeNode], id: &NodeId) -> Option<NodeId>
         requires { IsSoundArena nodes.now }
         ensures { result ≡ find (element_at (forest_of nodes.now))
@@ -66,7 +67,8 @@ impl TreeNodeOps {
     }
 }
 
-/// The first node of the list that a node stands in.
+/// Returns the first one in the list of siblings that the node belongs to, which may be the node
+/// itself.
 pub fn first_sibling_of(nodes: &[TreeNode], x: NodeId) -> NodeId
     requires linked { IsArenaOf (forest_of nodes.now) nodes.now }
     requires known { x < length nodes.now }
@@ -81,7 +83,7 @@ pub fn first_sibling_of(nodes: &[TreeNode], x: NodeId) -> NodeId
     at
 }
 
-/// The first child of a node.
+/// Returns the first child of a node.
 pub fn first_child_of(nodes: &[TreeNode], x: NodeId) -> Option<NodeId>
     requires linked { IsArenaOf (forest_of nodes.now) nodes.now }
     requires known { x < length nodes.now }
@@ -93,7 +95,7 @@ pub fn first_child_of(nodes: &[TreeNode], x: NodeId) -> Option<NodeId>
     nodes[x.value()].first_child.get()
 }
 
-/// The parent of a node, if it is an element.
+/// Returns the parent of a node if that is an element.
 fn element_above_of(nodes: &[TreeNode], n: NodeId) -> Option<NodeId>
     requires linked { IsArenaOf (forest_of nodes.now) nodes.now }
     requires known { n < length nodes.now }
@@ -107,7 +109,7 @@ fn element_above_of(nodes: &[TreeNode], n: NodeId) -> Option<NodeId>
     }
 }
 
-/// The parent of a node, if it and its parent are elements.
+/// Returns the parent of a node if both the parent and the grandparent are elements.
 pub fn wrapper_of(nodes: &[TreeNode], x: NodeId) -> Option<NodeId>
     requires linked { IsArenaOf (forest_of nodes.now) nodes.now }
     requires known { x < length nodes.now }
@@ -118,7 +120,7 @@ pub fn wrapper_of(nodes: &[TreeNode], x: NodeId) -> Option<NodeId>
     Some(parent)
 }
 
-/// The first element from a node on, forwards or backwards.
+/// Returns the first element from a node on, in this direction along its siblings.
 fn first_element_on(nodes: &[TreeNode], from: Option<NodeId>, rev: bool) -> Option<NodeId>
     requires sound { IsSoundArena nodes.now }
     requires within { IsWithin (forest_of nodes.now) from }
@@ -136,7 +138,7 @@ fn first_element_on(nodes: &[TreeNode], from: Option<NodeId>, rev: bool) -> Opti
     None
 }
 
-/// The sibling after a node, or the one before it.
+/// Returns the next sibling of a node, or the previous one if `rev` is true.
 pub(crate) fn neighbour(node: &TreeNode, rev: bool) -> Option<NodeId>
     ensures { result ≡ (if rev then node.now.prev_sibling else node.now.next_sibling) }
 {

@@ -1,4 +1,4 @@
-//! Elements that are replaced by their children. Takes no memory.
+//! Replacing elements by their children. No memory is allocated.
 
 ghost use Rattle.std.specs.Prelude.{◌≡◌, ◌<◌, map, length, Some, ℕ};
 ghost use Rattle.dom_links.specs.Forest.{children_of, forest_of, parent};
@@ -7,7 +7,7 @@ ghost use Rattle.dom_links.specs.Moves.{before_node};
 ghost use Rattle.dom_links.specs.Sound.{IsSoundArena};
 ghost use Rattle.dom_links.specs.Stripped.{dissolved, is_named, stripped};
 
-use crate::gap::{Gap, Moving};
+use crate::gap::{InsertionPoint, MovedNodes};
 use crate::iters::{find_node, first_child_id, next_after};
 use crate::ops::TreeNodeOps;
 use crate::ops::siblings::first_child_of;
@@ -17,7 +17,8 @@ use dom_nodes::words::is_one_of;
 
 impl TreeNodeOps {
     /// Replaces each element below the node whose local name is one of the names by its children.
-    /// The node itself stays. Takes no memory; linear in what is below the node.
+    /// The node itself stays. It allocates no memory and can't fail, and its time is linear in the
+    /// size of the subtree. For an unknown id nothing happens.
     pub fn strip_elements(nodes: &mut [TreeNode], id: NodeId, names: &[&str])
         requires { IsSoundArena nodes.old }
         ensures made { forest_of nodes.new
@@ -34,7 +35,7 @@ impl TreeNodeOps {
     }
 }
 
-/// Whether the node is an element whose local name is one of the names.
+/// Returns whether the node is an element whose local name is one of the names.
 fn is_named(nodes: &[TreeNode], id: NodeId, names: &[&str]) -> bool
     requires { IsSoundArena nodes.now }
     ensures { result ≡ is_named (map (λ name. name.now) names.now) (forest_of nodes.now) id }
@@ -48,7 +49,7 @@ fn is_named(nodes: &[TreeNode], id: NodeId, names: &[&str]) -> bool
     is_one_of(element.node_name(), names)
 }
 
-/// Puts the children of a node that has a parent right before it.
+/// Moves the children of a node, which must have a parent, to the place immediately before it.
 fn put_children_before(nodes: &mut [TreeNode], p: NodeId)
     requires sound { IsSoundArena nodes.old }
     requires placed { (q : ℕ) × (parent (forest_of nodes.old) p ≡ Some q) }
@@ -57,10 +58,14 @@ fn put_children_before(nodes: &mut [TreeNode], p: NodeId)
     let Some(first) = first_child_of(nodes, p) else {
         return;
     };
-    TreeNodeOps::move_to(nodes, Gap::Before(p), Moving::WithLater(first));
+    TreeNodeOps::move_to(
+        nodes,
+        InsertionPoint::Before(p),
+        MovedNodes::WithLater(first),
+    );
 }
 
-/// Replaces a node that has a parent by its children.
+/// Replaces a node, which must have a parent, by its children.
 fn dissolve(nodes: &mut [TreeNode], p: NodeId)
     requires sound { IsSoundArena nodes.old }
     requires placed { (q : ℕ) × (parent (forest_of nodes.old) p ≡ Some q) }

@@ -1,4 +1,4 @@
-//! New elements with contents.
+//! Making elements with template contents: the element and its contents fragment together.
 
 ghost use Rattle.std.specs.Prelude.{◌≡◌, ◌<◌, ◌+◌, ◌∷◌, ◌++◌, [], List, IfErr, OnErr, OnOk};
 ghost use Rattle.std.specs.Prelude.{vec_len};
@@ -14,7 +14,7 @@ use dom_nodes::fault::EditFault;
 use dom_nodes::node_data::{NodeData, TreeNode};
 use dom_nodes::node_id::NodeId;
 
-/// Takes the last node away.
+/// Removes the last node of the arena.
 fn drop_last(nodes: &mut Vec<TreeNode>)
     ensures { (front : List TreeNode) (node : TreeNode) → nodes.old.items ≡ front ++ node ∷ []
         → nodes.new.items ≡ front }
@@ -22,7 +22,8 @@ fn drop_last(nodes: &mut Vec<TreeNode>)
     nodes.pop();
 }
 
-/// Makes a fragment that stands alone. Where it is refused, the last node is taken away.
+/// Makes a detached fragment. On an error, the last node of the arena is removed, which is the
+/// element made before.
 fn create_fragment(nodes: &mut Vec<TreeNode>) -> Result<(), EditFault>
     requires linked { IsArenaOf (forest_of nodes.old.items) nodes.old.items }
     ensures ok { OnOk result (Created nodes.old.items nodes.new.items NodeData.Fragment) }
@@ -41,8 +42,9 @@ fn create_fragment(nodes: &mut Vec<TreeNode>) -> Result<(), EditFault>
     }
 }
 
-/// Makes a node, and right after it a fragment, for its contents: both or none. Whether that is
-/// allowed is the caller's condition for a forest.
+/// Makes a detached element and, with the next id, the fragment for its template contents. It
+/// returns the id of the element. It fails with `TooManyNodes` or `Memory`, and then neither is
+/// made. It doesn't check that the data is an element that names the fragment as its contents.
 pub fn create_template(nodes: &mut Vec<TreeNode>, content: NodeData) -> Result<NodeId, EditFault>
     requires linked { IsArenaOf (forest_of nodes.old.items) nodes.old.items }
     ensures ok { OnOk result (CreatedTemplate nodes.old.items nodes.new.items content) }
@@ -53,8 +55,9 @@ pub fn create_template(nodes: &mut Vec<TreeNode>, content: NodeData) -> Result<N
     Ok(id)
 }
 
-/// Makes a node as the last child of another, and right after it a fragment, for its contents: both
-/// or none. Whether that is allowed is the caller's condition for a forest.
+/// Makes an element as the last child of `t` and, with the next id, the fragment for its template
+/// contents. It returns the id of the element. It fails with `TooManyNodes` or `Memory`, and then
+/// neither is made. It doesn't check that this is allowed.
 #[tactic(auto, using(crate::proofs::moves::Cuts::no_other))]
 pub fn append_template_of(
     nodes: &mut Vec<TreeNode>,

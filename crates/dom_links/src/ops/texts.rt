@@ -1,4 +1,4 @@
-//! The texts of nodes.
+//! Reading the text of nodes.
 
 ghost use Rattle.std.specs.Prelude.{◌≡◌, ◌++◌, ◌∷◌, IfOk, OnOk, string_bytes};
 ghost use Rattle.dom_links.specs.Forest.{forest_of};
@@ -13,8 +13,9 @@ use dom_nodes::node_id::NodeId;
 use std::alloc::Global;
 
 impl TreeNodeOps {
-    /// The contents of the texts at the node and below, in walk order, joined; nothing for an
-    /// unknown number. Template contents are not entered.
+    /// Returns the text of a node: the contents of all text nodes in its subtree, in document
+    /// order, joined. Template contents aren't visited. For an unknown id the result is empty. It
+    /// fails with `OutOfMemory` when memory is refused.
     pub fn text_of(alloc: Global, nodes: &[TreeNode], id: &NodeId) -> Result<String, OutOfMemory>
         requires { IsSoundArena nodes.now }
         ensures { IfOk result (λ text. string_bytes text ≡ text_of (forest_of nodes.now) id.now) }
@@ -27,8 +28,8 @@ impl TreeNodeOps {
         Ok(text)
     }
 
-    /// The contents of the texts among the node and its children, joined; nothing for an unknown
-    /// number.
+    /// Returns the contents of the text nodes among the node and its children, joined. For an
+    /// unknown id the result is empty. It fails with `OutOfMemory` when memory is refused.
     pub fn immediate_text_of(
         alloc: Global,
         nodes: &[TreeNode],
@@ -47,7 +48,7 @@ impl TreeNodeOps {
     }
 }
 
-/// What the node itself holds as a text.
+/// Returns the contents of a text node; the empty text for any other node.
 pub(crate) fn text_at(nodes: &[TreeNode], id: NodeId) -> &str
     requires { IsSoundArena nodes.now }
     ensures { result.now ≡ text_at (forest_of nodes.now) id }

@@ -1,4 +1,4 @@
-//! The checks of what each node is.
+//! The checks of the nodes' kinds and template contents.
 
 ghost use Rattle.std.specs.Prelude.{◌<◌, EachIndex, IfErr, IfOk, MatchBool, MatchResult, Some};
 ghost use Rattle.std.specs.Prelude.{length};
@@ -14,7 +14,8 @@ use dom_nodes::node_data::TreeNode;
 use dom_nodes::node_id::NodeId;
 use std::alloc::{AllocError, Global};
 
-/// The checks of what the nodes are.
+/// Checks the kinds of the nodes: that parents may have children, that documents and fragments are
+/// detached, that template contents are fragments of one host each, and that there are enough ids.
 pub(crate) fn check_contents(
     nodes: &[TreeNode],
     hosts: &[Option<NodeId>],
@@ -41,7 +42,7 @@ pub(crate) fn check_contents(
     Ok(())
 }
 
-/// For each node, one that names it as its contents.
+/// Returns, for each node, an element that has it as its template contents.
 pub(crate) fn hosts_of(alloc: Global, nodes: &[TreeNode]) -> Result<Vec<Option<NodeId>>, AllocError>
     requires { EachIndex nodes.now (HasOwnId nodes.now) }
     ensures { IfOk result (λ hosts. AreHosts nodes.now hosts.items) }
@@ -57,7 +58,7 @@ pub(crate) fn hosts_of(alloc: Global, nodes: &[TreeNode]) -> Result<Vec<Option<N
     Ok(hosts)
 }
 
-/// Whether the parent of a node may have children.
+/// Returns whether the parent of the node with this index may have children.
 pub(crate) fn parent_allows_children(nodes: &[TreeNode], n: usize) -> bool
     requires known { AreLinksKnown nodes.now }
     requires here { n < length nodes.now }
@@ -70,7 +71,8 @@ pub(crate) fn parent_allows_children(nodes: &[TreeNode], n: usize) -> bool
     nodes[parent.value()].content.may_have_children()
 }
 
-/// Whether a root, document or fragment has no parent and no neighbours.
+/// Returns whether the node, if it is the root, a document or a fragment, has no parent and no
+/// siblings.
 pub(crate) fn stays_alone(nodes: &[TreeNode], n: usize) -> bool
     requires { n < length nodes.now }
     ensures { MatchBool result (IsAlone nodes.now n) (IsAlone nodes.now n → ⊥) }
@@ -88,7 +90,8 @@ pub(crate) fn stays_alone(nodes: &[TreeNode], n: usize) -> bool
     node.next_sibling.get().is_none()
 }
 
-/// Whether the contents that a node names are a fragment that it alone holds.
+/// Returns whether the template contents of the node, if it has any, are a fragment that has this
+/// node as its host in `hosts`.
 fn hosts_contents(nodes: &[TreeNode], hosts: &[Option<NodeId>], n: usize) -> bool
     requires hosts { AreHosts nodes.now hosts.now }
     requires here { n < length nodes.now }
@@ -108,7 +111,7 @@ fn hosts_contents(nodes: &[TreeNode], hosts: &[Option<NodeId>], n: usize) -> boo
     links_to(hosts[place], n)
 }
 
-/// Whether all contents are fragments with one host.
+/// Returns whether all template contents are fragments with one host.
 pub(crate) fn host_contents(nodes: &[TreeNode], hosts: &[Option<NodeId>]) -> bool
     requires { AreHosts nodes.now hosts.now }
     ensures { TestsEach result nodes.now (HostsContents nodes.now hosts.now) }

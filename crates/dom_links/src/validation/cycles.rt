@@ -1,4 +1,4 @@
-//! Cycles of links.
+//! The search for cycles of links.
 
 ghost use Rattle.std.specs.Prelude.{◌≡◌, ◌<◌, ◌+◌, IfOk, IfSome, MatchBool, length, ℕ};
 ghost use Rattle.dom_links.specs.Forest.{prev_link};
@@ -9,8 +9,9 @@ use dom_nodes::node_data::TreeNode;
 use dom_nodes::node_id::NodeId;
 use std::alloc::{AllocError, Global};
 
-/// Follows the links from `start`, and marks what it reaches, up to an end or to what is marked.
-/// Whether that was marked on the same way.
+/// Follows the links from `start` and marks every node on the way, up to the end or to a node that
+/// is marked already. Returns whether that node was marked on this way, which means that there is a
+/// cycle.
 fn closes_cycle(links: &[Option<NodeId>], marks: &mut [usize], start: usize) -> bool
     requires known { (n : ℕ) → IfSome (link_at links.now n) (λ m. m < length links.now) }
     requires here { start < length links.now }
@@ -29,7 +30,7 @@ fn closes_cycle(links: &[Option<NodeId>], marks: &mut [usize], start: usize) -> 
     marks[at] == start + 1
 }
 
-/// Whether some number leads back to itself. Each number is reached once.
+/// Returns whether some node leads back to itself. Each node is marked once, so the time is linear.
 fn has_cycle(alloc: Global, links: &[Option<NodeId>]) -> Result<bool, AllocError>
     requires { (n : ℕ) → IfSome (link_at links.now n) (λ m. m < length links.now) }
     ensures { IfOk result (λ ring. FindsCycle ring (link_at links.now)) }
@@ -43,7 +44,7 @@ fn has_cycle(alloc: Global, links: &[Option<NodeId>]) -> Result<bool, AllocError
     Ok(false)
 }
 
-/// The parent of each node, or its host where it has no parent.
+/// Returns the parent of each node, or its host when it has no parent.
 fn parents_or_hosts(
     alloc: Global,
     nodes: &[TreeNode],
@@ -60,7 +61,8 @@ fn parents_or_hosts(
     Ok(ups)
 }
 
-/// Whether a node is reached again by steps to the parent, or to the host where there is no parent.
+/// Returns whether the steps from a node to its parent, or to its host when it has no parent, lead
+/// back to a node.
 pub(crate) fn has_ancestor_cycle(
     alloc: Global,
     nodes: &[TreeNode],
@@ -74,7 +76,7 @@ pub(crate) fn has_ancestor_cycle(
     has_cycle(alloc, &ups)
 }
 
-/// The sibling before each node.
+/// Returns the previous sibling of each node.
 fn siblings_before(alloc: Global, nodes: &[TreeNode]) -> Result<Vec<Option<NodeId>>, AllocError>
     ensures { IfOk result
         (λ prevs. AreLinksBy prevs.items (length nodes.now) (prev_link nodes.now)) }
@@ -86,7 +88,7 @@ fn siblings_before(alloc: Global, nodes: &[TreeNode]) -> Result<Vec<Option<NodeI
     Ok(prevs)
 }
 
-/// Whether a node is reached again by steps to the sibling before.
+/// Returns whether the steps from a node to its previous sibling lead back to a node.
 pub(crate) fn has_sibling_cycle(alloc: Global, nodes: &[TreeNode]) -> Result<bool, AllocError>
     requires { AreLinksKnown nodes.now }
     ensures { IfOk result (λ ring. FindsCycle ring (prev_link nodes.now)) }

@@ -10,17 +10,17 @@ use dom_nodes::node_data::TreeNode;
 /// What is checked of each node.
 #[derive(Clone, Copy)]
 pub(crate) enum NodeCheck {
-    /// Its neighbours name it as theirs.
+    /// Its siblings link back to it.
     Neighbours,
-    /// It and its parent name each other.
+    /// It and its parent link to each other.
     Linked,
     /// Its parent may have children.
     OpenParent,
-    /// If it is the root, a document or a fragment, it has no parent and no neighbours.
+    /// If it is the root, a document or a fragment, it has no parent and no siblings.
     Alone,
 }
 
-/// Whether each node passes a check.
+/// Returns whether every node passes a check.
 pub(crate) fn all_pass(nodes: &[TreeNode], check: NodeCheck) -> bool
     requires { AreLinksKnown nodes.now }
     ensures { TestsEach result nodes.now (Passes check nodes.now) }
@@ -33,7 +33,7 @@ pub(crate) fn all_pass(nodes: &[TreeNode], check: NodeCheck) -> bool
     true
 }
 
-/// Whether a node passes a check.
+/// Returns whether the node with this index passes a check.
 fn passes(nodes: &[TreeNode], n: usize, check: NodeCheck) -> bool
     requires known { AreLinksKnown nodes.now }
     requires here { n < length nodes.now }

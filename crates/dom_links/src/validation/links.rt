@@ -1,4 +1,4 @@
-//! The checks of each node's number and links.
+//! The checks of the nodes' ids and links.
 
 ghost use Rattle.std.specs.Prelude.{◌≡◌, ◌<◌, ◌≤◌, [], Err, IfErr, IfSome, IsSomeAnd, MatchBool};
 ghost use Rattle.std.specs.Prelude.{MatchResult, None, Some, SomeIndex, length};
@@ -15,7 +15,7 @@ use crate::validation::each::{NodeCheck, all_pass};
 use dom_nodes::node_data::TreeNode;
 use dom_nodes::node_id::NodeId;
 
-/// The checks that come before that for cycles.
+/// Makes the checks that come before the search for cycles.
 pub(crate) fn check_links(nodes: &[TreeNode]) -> Result<(), ValidateFault>
     ensures sound { MatchResult result (λ _. LinksHold nodes.now)
         (λ fault. IsRefused nodes.now fault) }
@@ -40,7 +40,7 @@ pub(crate) fn check_links(nodes: &[TreeNode]) -> Result<(), ValidateFault>
     Ok(())
 }
 
-/// Whether each node's number is its place.
+/// Returns whether the id of each node is its index.
 pub(crate) fn ids_are_indexes(nodes: &[TreeNode]) -> bool
     ensures { TestsEach result nodes.now (HasOwnId nodes.now) }
 {
@@ -52,7 +52,7 @@ pub(crate) fn ids_are_indexes(nodes: &[TreeNode]) -> bool
     true
 }
 
-/// Whether the link, if there is one, names a node.
+/// Returns whether the link, if there is one, leads to a node.
 fn is_link_known(nodes: &[TreeNode], link: Option<NodeId>) -> bool
     ensures { MatchBool result (IsLinkKnown nodes.now link)
         (IsSomeAnd link (λ k. length nodes.now ≤ k)) }
@@ -65,7 +65,7 @@ fn is_link_known(nodes: &[TreeNode], link: Option<NodeId>) -> bool
     true
 }
 
-/// Whether the links of a node name nodes.
+/// Returns whether the links of the node with this index lead to nodes.
 fn knows(nodes: &[TreeNode], n: usize) -> bool
     requires { n < length nodes.now }
     ensures { MatchBool result (LinksKnown nodes.now n) (LinksAstray nodes.now n) }
@@ -86,7 +86,7 @@ fn knows(nodes: &[TreeNode], n: usize) -> bool
     is_link_known(nodes, node.last_child.get())
 }
 
-/// Whether each link names a node.
+/// Returns whether all links lead to nodes.
 pub(crate) fn are_known(nodes: &[TreeNode]) -> bool
     ensures { MatchBool result (AreLinksKnown nodes.now)
         (SomeIndex nodes.now (LinksAstray nodes.now)) }
@@ -99,7 +99,7 @@ pub(crate) fn are_known(nodes: &[TreeNode]) -> bool
     true
 }
 
-/// Whether the link leads to n.
+/// Returns whether the link leads to `n`.
 pub(crate) fn links_to(link: Option<NodeId>, n: usize) -> bool
     ensures { result ≡ names link n }
 {
@@ -109,7 +109,7 @@ pub(crate) fn links_to(link: Option<NodeId>, n: usize) -> bool
     }
 }
 
-/// Whether the neighbours of a node name it as theirs.
+/// Returns whether the siblings of a node link back to it.
 pub(crate) fn agrees(nodes: &[TreeNode], n: usize) -> bool
     requires known { AreLinksKnown nodes.now }
     requires here { n < length nodes.now }
@@ -129,7 +129,7 @@ pub(crate) fn agrees(nodes: &[TreeNode], n: usize) -> bool
     true
 }
 
-/// Whether who stands before a node has the same parent.
+/// Returns whether the previous sibling of a node has the same parent.
 fn shares_parent(nodes: &[TreeNode], n: usize) -> bool
     requires known { AreLinksKnown nodes.now }
     requires here { n < length nodes.now }
@@ -141,7 +141,7 @@ fn shares_parent(nodes: &[TreeNode], n: usize) -> bool
     nodes[prev.value()].parent.get() == nodes[n].parent.get()
 }
 
-/// Whether a link, if there is one, names a node whose parent is n.
+/// Returns whether the link, if there is one, leads to a node whose parent is `n`.
 fn is_child(nodes: &[TreeNode], link: Option<NodeId>, n: usize) -> bool
     requires { IsLinkKnown nodes.now link }
     ensures { MatchBool result (IfSome link (λ c. parent_link nodes.now c ≡ Some n))
@@ -153,7 +153,8 @@ fn is_child(nodes: &[TreeNode], link: Option<NodeId>, n: usize) -> bool
     links_to(nodes[child.value()].parent.get(), n)
 }
 
-/// Whether a node that is first or last in its list is so named by its parent.
+/// Returns whether a node without a previous or next sibling is the first or last child of its
+/// parent.
 fn is_named(nodes: &[TreeNode], n: usize) -> bool
     requires known { AreLinksKnown nodes.now }
     requires here { n < length nodes.now }
@@ -173,7 +174,7 @@ fn is_named(nodes: &[TreeNode], n: usize) -> bool
     true
 }
 
-/// Whether a node and its parent name each other.
+/// Returns whether a node and its parent link to each other.
 pub(crate) fn is_linked(nodes: &[TreeNode], n: usize) -> bool
     requires known { AreLinksKnown nodes.now }
     requires here { n < length nodes.now }

@@ -7,7 +7,7 @@ use Rattle.dom_nodes.specs.Words.{is_among}
 use Rattle.dom_markup.specs.Names.{Mode, markup, text_of, raw_text_of, mode_in, void_names}
 use Rattle.dom_nodes.specs.declared.fault.MarkupFaultKind.{MarkupFaultKind}
 use Rattle.dom_nodes.specs.declared.fault.MarkupFaultKind.TheVariants as fault_kinds
-use Rattle.dom_markup.specs.Front.{OpensTag}
+use Rattle.dom_markup.specs.Lexeme.{OpensTag}
 use Rattle.dom_markup.specs.Refusals.{BeginsTag, Cause, EndsInSlash, StartCause}
 use Rattle.dom_markup.specs.Token.{BeginsKind, IsTextIn, contents_in, kind_of, kind_of_text}
 use Rattle.dom_markup.specs.declared.document.tokens.TokenKind.{TokenKind}

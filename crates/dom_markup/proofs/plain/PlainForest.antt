@@ -10,7 +10,7 @@ use Rattle.std.specs.Prelude.{codes}
 use Rattle.dom_nodes.specs.Kinds.{is_fragment}
 use Rattle.dom_nodes.specs.declared.node_data.NodeData.{NodeData}
 use Rattle.dom_nodes.specs.declared.node_data.NodeData.TheVariants.{Document, Fragment, Doctype, Text, Comment, Element as AnElement, ProcessingInstruction}
-use Rattle.dom_links.specs.Lists.{stands_in}
+use Rattle.dom_links.specs.Lists.{is_member}
 use Rattle.dom_links.specs.Forest.{Forest, children_of}
 use Rattle.dom_links.specs.Sound.{IsForest}
 use Rattle.dom_links.specs.Trees.{contents_list, trees}
@@ -31,28 +31,28 @@ use Rattle.dom_markup.specs.Plain.{IsPlain, start_text, text_of_trees, html_elem
 
 -- a node of the forest, and others after it
 pub known_more : (forest : Forest) (ns others : List ℕ) (n : ℕ) → ns ≡ n ∷ others → n < length forest.content →
-    ((m : ℕ) → stands_in m others ≡ true → m < length forest.content) → (m : ℕ) → stands_in m ns ≡ true → m < length forest.content
+    ((m : ℕ) → is_member m others ≡ true → m < length forest.content) → (m : ℕ) → is_member m ns ≡ true → m < length forest.content
 known_more forest ns others n is here later m stands = go (rw is at stands)
   where
-    go : stands_in m (n ∷ others) ≡ true → m < length forest.content
+    go : is_member m (n ∷ others) ≡ true → m < length forest.content
     go s = elim (cases_Bool (n == m)) [
       | inl t ↦ subst (λ (k : ℕ). k < length forest.content) (eqb-true n m t) here
       | inr f ↦ later m (rw f at s)
     ]
 
 -- nodes that stand for trees are the forest's
-pub known_all : (forest : Forest) (ns : List ℕ) (trees : ValueTrees) → Represents forest ns trees → (m : ℕ) → stands_in m ns ≡ true → m < length forest.content
-known_all forest ns no_trees r m s = absurd (true≢false (sym s ∙ ap (stands_in m) r))
+pub known_all : (forest : Forest) (ns : List ℕ) (trees : ValueTrees) → Represents forest ns trees → (m : ℕ) → is_member m ns ≡ true → m < length forest.content
+known_all forest ns no_trees r m s = absurd (true≢false (sym s ∙ ap (is_member m) r))
 known_all forest ns (text_node contents later) r m s = known_more forest ns r.1 r.0 r.2 (slice_get_within _ r.0 _ r.3) (known_all forest r.1 later r.4) m s
 known_all forest ns (comment_node contents later) r m s = known_more forest ns r.1 r.0 r.2 (slice_get_within _ r.0 _ r.3) (known_all forest r.1 later r.4) m s
 known_all forest ns (doctype_node name public system later) r m s = known_more forest ns r.1 r.0 r.2 (slice_get_within _ r.0 _ r.3) (known_all forest r.1 later r.4) m s
 known_all forest ns (element_node name attributes children later) r m s = known_more forest ns r.1 r.0 r.3 (slice_get_within _ r.0 _ r.4.read) (known_all forest r.1 later r.6) m s
 
 -- the text of a node and of those after it
-node-text : (forest : Forest) → AreTrees forest → (raw : Bool) (ns others : List ℕ) (n : ℕ) (content : NodeData) → ns ≡ n ∷ others → ((m : ℕ) → stands_in m ns ≡ true → m < length forest.content) → slice_get forest.content n ≡ Some content →
+node-text : (forest : Forest) → AreTrees forest → (raw : Bool) (ns others : List ℕ) (n : ℕ) (content : NodeData) → ns ≡ n ∷ others → ((m : ℕ) → is_member m ns ≡ true → m < length forest.content) → slice_get forest.content n ≡ Some content →
     trees_text forest raw (trees forest ns) ≡ node_text content raw (trees_text forest false (trees forest (contents_list forest n))) (trees_text forest (keeps_texts content) (trees forest (children_of forest n))) ++ trees_text forest raw (trees forest others)
 node-text forest are raw ns others n content is known read =
-    let unfolded = are.a_tree n others (subst (λ (l : List ℕ). (m : ℕ) → stands_in m l ≡ true → m < length forest.content) is known) in
+    let unfolded = are.a_tree n others (subst (λ (l : List ℕ). (m : ℕ) → is_member m l ≡ true → m < length forest.content) is known) in
     ap (λ l. trees_text forest raw (trees forest l)) is ∙ (ap (trees_text forest raw) unfolded
     ∙ ap (λ o. option_map_or (λ content. node_text content raw (trees_text forest false (trees forest (contents_list forest n))) (trees_text forest (keeps_texts content) (trees forest (children_of forest n)))) o [] ++ trees_text forest raw (trees forest others)) read)
 
@@ -60,7 +60,7 @@ node-text forest are raw ns others n content is known read =
 fragment-text : (forest : Forest) → AreTrees forest → (c : ℕ) → option_map_or is_fragment (slice_get forest.content c) false ≡ true → trees_text forest false (trees forest (c ∷ [])) ≡ trees_text forest false (trees forest (children_of forest c))
 fragment-text forest are c is = by_content (slice_get forest.content c) refl
   where
-    known : (content : NodeData) → slice_get forest.content c ≡ Some content → (m : ℕ) → stands_in m (c ∷ []) ≡ true → m < length forest.content
+    known : (content : NodeData) → slice_get forest.content c ≡ Some content → (m : ℕ) → is_member m (c ∷ []) ≡ true → m < length forest.content
     known content read = known_more forest (c ∷ []) [] c refl (slice_get_within _ c content read) (λ m s. absurd (true≢false (sym s)))
 
     by_content : (o : Option NodeData) → slice_get forest.content c ≡ o → trees_text forest false (trees forest (c ∷ [])) ≡ trees_text forest false (trees forest (children_of forest c))
@@ -153,7 +153,7 @@ represented-text forest good are raw ns (element_node name attributes children l
 pub document-text : (forest : Forest) → IsForest forest → AreTrees forest → slice_get forest.content 0 ≡ Some Document → (values : ValueTrees) → Represents forest (children_of forest 0) values → html_of forest 0 ≡ text_of_trees false values
 unfolding html_of
 document-text forest good are root values r =
-    let known : (m : ℕ) → stands_in m (0 ∷ []) ≡ true → m < length forest.content = known_more forest (0 ∷ []) [] 0 refl good.rooted (λ m s. absurd (true≢false (sym s))) in
+    let known : (m : ℕ) → is_member m (0 ∷ []) ≡ true → m < length forest.content = known_more forest (0 ∷ []) [] 0 refl good.rooted (λ m s. absurd (true≢false (sym s))) in
     node-text forest are (is_kept forest 0) (0 ∷ []) [] 0 Document refl known root
     ∙ (ap (λ t. trees_text forest false (trees forest (children_of forest 0)) ++ trees_text forest (is_kept forest 0) t) are.no_trees
     ∙ (append-nil _ ∙ represented-text forest good are false (children_of forest 0) values r))

@@ -8,7 +8,7 @@ use Rattle.dom_nodes.specs.Kinds.{is_fragment}
 use Rattle.dom_nodes.specs.declared.name.Attr.{Attr}
 use Rattle.dom_nodes.specs.declared.node_data.NodeData.{NodeData}
 use Rattle.dom_nodes.specs.declared.node_data.NodeData.TheVariants.{Document, Fragment, Doctype, Text, Comment, Element as AnElement, ProcessingInstruction}
-use Rattle.dom_links.specs.Lists.{stands_in}
+use Rattle.dom_links.specs.Lists.{is_member}
 use Rattle.dom_links.specs.Forest.{Forest, children_of}
 use Rattle.dom_links.specs.Sound.{IsForest, children_allowed_at}
 use Rattle.dom_links.specs.Trees.{contents_list, trees}
@@ -40,14 +40,14 @@ no_children forest good n bare = go (children_of forest n) refl
     go : (ns : List ℕ) → children_of forest n ≡ ns → children_of forest n ≡ []
     go [] is = is
     go (k ∷ ks) is =
-        let stands : stands_in k (children_of forest n) ≡ true = ap (stands_in k) is ∙ (rw (eq-eqb k k refl) refl) in
+        let stands : is_member k (children_of forest n) ≡ true = ap (is_member k) is ∙ (rw (eq-eqb k k refl) refl) in
         absurd (true≢false (sym (good.parents_allow n k (good.once.in_children n k stands).1) ∙ bare))
 
 -- what a node shows, and those after it
-tree_shape-node : (forest : Forest) → AreTrees forest → (ns others : List ℕ) (n : ℕ) (content : NodeData) → ns ≡ n ∷ others → ((m : ℕ) → stands_in m ns ≡ true → m < length forest.content) → slice_get forest.content n ≡ Some content →
+tree_shape-node : (forest : Forest) → AreTrees forest → (ns others : List ℕ) (n : ℕ) (content : NodeData) → ns ≡ n ∷ others → ((m : ℕ) → is_member m ns ≡ true → m < length forest.content) → slice_get forest.content n ≡ Some content →
     tree_shape forest (trees forest ns) ≡ shape_of_tree (Some (compared content)) (tree_shape forest (trees forest (contents_list forest n))) (tree_shape forest (trees forest (children_of forest n))) (tree_shape forest (trees forest others))
 tree_shape-node forest are ns others n content is known read =
-    let unfolded = are.a_tree n others (subst (λ (l : List ℕ). (m : ℕ) → stands_in m l ≡ true → m < length forest.content) is known) in
+    let unfolded = are.a_tree n others (subst (λ (l : List ℕ). (m : ℕ) → is_member m l ≡ true → m < length forest.content) is known) in
     ap (λ l. tree_shape forest (trees forest l)) is ∙ (ap (tree_shape forest) unfolded
     ∙ ap (λ o. shape_of_tree (option_map compared o) (tree_shape forest (trees forest (contents_list forest n))) (tree_shape forest (trees forest (children_of forest n))) (tree_shape forest (trees forest others))) read)
 
@@ -55,7 +55,7 @@ tree_shape-none : (forest : Forest) → AreTrees forest → (ns : List ℕ) → 
 tree_shape-none forest are ns none = ap (λ l. tree_shape forest (trees forest l)) none ∙ ap (tree_shape forest) are.no_trees
 
 -- a node that holds nothing
-tree_shape-leaf : (forest : Forest) → IsForest forest → AreTrees forest → (ns others : List ℕ) (n : ℕ) (content : NodeData) → ns ≡ n ∷ others → ((m : ℕ) → stands_in m ns ≡ true → m < length forest.content) → slice_get forest.content n ≡ Some content →
+tree_shape-leaf : (forest : Forest) → IsForest forest → AreTrees forest → (ns others : List ℕ) (n : ℕ) (content : NodeData) → ns ≡ n ∷ others → ((m : ℕ) → is_member m ns ≡ true → m < length forest.content) → slice_get forest.content n ≡ Some content →
     children_allowed_at forest n ≡ false → contents_list forest n ≡ [] → tree_shape forest (trees forest ns) ≡ shape_of_tree (Some (compared content)) nothing nothing (tree_shape forest (trees forest others))
 tree_shape-leaf forest good are ns others n content is known read bare empty =
     tree_shape-node forest are ns others n content is known read

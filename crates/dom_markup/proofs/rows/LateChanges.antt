@@ -13,7 +13,7 @@ use Rattle.dom_links.specs.Forest.{Forest}
 use Rattle.dom_links.specs.Growth.{with_child, with_node, with_template}
 use Rattle.dom_links.specs.Moves.{put}
 use Rattle.dom_links.specs.Sound.{children_allowed_at}
-use Rattle.dom_links.specs.declared.gap.Gap.TheVariants.{EndOf}
+use Rattle.dom_links.specs.declared.gap.InsertionPoint.TheVariants.{EndOf}
 use Rattle.dom_links.proofs.forest.Changing.{length-changed}
 
 -- ---- one change of a list

@@ -17,7 +17,7 @@ use Rattle.dom_links.specs.Contents.{changed_at, with_content, IsUpdatedAt}
 use Rattle.dom_links.specs.Forest.{Forest}
 use Rattle.dom_links.proofs.forest.Changing.{changed-past, keeps_edit}
 use Rattle.dom_trees.specs.Refusals.{KnownCause}
-use Rattle.dom_markup.specs.LateTexts.{AreAmong, joined, with_contents, with_texts}
+use Rattle.dom_markup.specs.DeferredTexts.{AreAmong, joined, with_contents, with_texts}
 use Rattle.dom_markup.specs.declared.document.late_texts.Late.{Late}
 use Rattle.dom_markup.proofs.rows.LateChanges.{changes_commute, CommutesWithGrowth}
 

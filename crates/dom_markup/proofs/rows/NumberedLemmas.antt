@@ -9,7 +9,7 @@ use Rattle.dom_links.specs.Forest.{Forest}
 use Rattle.dom_links.specs.Growth.{with_node, with_child}
 use Rattle.dom_links.specs.Lists.{map_from, names}
 use Rattle.dom_links.specs.Moves.{children_with, run_with}
-use Rattle.dom_links.specs.declared.gap.Gap.TheVariants.{EndOf as end_of}
+use Rattle.dom_links.specs.declared.gap.InsertionPoint.TheVariants.{EndOf as end_of}
 use Rattle.dom_markup.specs.Numbered.{Row, children_among, run_among, forest_of_rows}
 
 -- ---- lists made by place

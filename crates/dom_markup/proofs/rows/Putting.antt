@@ -8,7 +8,7 @@ use Rattle.dom_nodes.specs.declared.fault.EditFault.{EditFault}
 use Rattle.dom_nodes.specs.declared.fault.EditFault.TheVariants.{UnknownNode, NoChildrenHere, RootOrFragment, Cycle, TooManyNodes, Memory, BadContents, Markup}
 use Rattle.dom_links.specs.Copies.{MayCopyOne}
 use Rattle.dom_links.specs.Forest.{Forest, children_of}
-use Rattle.dom_links.specs.Lists.{stands_in}
+use Rattle.dom_links.specs.Lists.{is_member}
 use Rattle.dom_links.specs.Sound.{IsForest, stays}
 use Rattle.dom_links.specs.declared.gap.Place.{Place}
 use Rattle.dom_trees.specs.Edits.{Edits, inserting}
@@ -19,15 +19,15 @@ use Rattle.dom_markup.specs.Setters.{PutCause, putting}
 
 -- the nodes at the top may be copied
 
-filtered_in : (keep : ℕ → Bool) (ns : List ℕ) (n : ℕ) → stands_in n (filter keep ns) ≡ true → stands_in n ns ≡ true
+filtered_in : (keep : ℕ → Bool) (ns : List ℕ) (n : ℕ) → is_member n (filter keep ns) ≡ true → is_member n ns ≡ true
 filtered_in keep [] n s = s
 filtered_in keep (m ∷ ns) n s = elim (cases_Bool (keep m)) [
-  | inl t ↦ (let s' : stands_in n (m ∷ filter keep ns) ≡ true = (rw t at s) in
+  | inl t ↦ (let s' : is_member n (m ∷ filter keep ns) ≡ true = (rw t at s) in
       elim (cases_Bool (m == n)) [
         | inl u ↦ rw u refl
-        | inr f ↦ (let deep : stands_in n (filter keep ns) ≡ true = (rw f at s') in rw f (filtered_in keep ns n deep))
+        | inr f ↦ (let deep : is_member n (filter keep ns) ≡ true = (rw f at s') in rw f (filtered_in keep ns n deep))
       ])
-  | inr f ↦ (let deep : stands_in n (filter keep ns) ≡ true = (rw f at s) in
+  | inr f ↦ (let deep : is_member n (filter keep ns) ≡ true = (rw f at s) in
       elim (cases_Bool (m == n)) [
         | inl u ↦ rw u refl
         | inr g ↦ rw g (filtered_in keep ns n deep)
@@ -35,7 +35,7 @@ filtered_in keep (m ∷ ns) n s = elim (cases_Bool (keep m)) [
 ]
 
 -- a child is no document or fragment
-child_may : (forest : Forest) (p n : ℕ) → IsForest forest → stands_in n (children_of forest p) ≡ true → MayCopyOne forest n
+child_may : (forest : Forest) (p n : ℕ) → IsForest forest → is_member n (children_of forest p) ≡ true → MayCopyOne forest n
 child_may forest p n good s =
     let facts = good.once.in_children p n s in
     record {
@@ -49,7 +49,7 @@ child_may forest p n good s =
       ];
     }
 
-top_may : (read : Forest) (n : ℕ) → IsForest read → stands_in n (top_nodes read) ≡ true → MayCopyOne read n
+top_may : (read : Forest) (n : ℕ) → IsForest read → is_member n (top_nodes read) ≡ true → MayCopyOne read n
 top_may read n good s = child_may read 0 n good (filtered_in (λ m. not (node_is is_doctype read m)) (children_of read 0) n s)
 
 -- so what was read is refused by the place, or by a limit

@@ -5,7 +5,7 @@ use Rattle.std.specs.Option.{option_map_or}
 use Rattle.std.proofs.lemmas.Bool.{eq-eqb, eqb-true, ne_eqb, true≢false}
 use Rattle.dom_nodes.specs.declared.node_data.NodeData.{NodeData}
 use Rattle.dom_nodes.specs.Kinds.{contents_named, is_fragment, is_top, children_allowed}
-use Rattle.dom_links.specs.Lists.{IsDistinct, map_from, names, stands_in}
+use Rattle.dom_links.specs.Lists.{IsDistinct, map_from, names, is_member}
 use Rattle.dom_links.specs.Forest.{owner_from}
 use Rattle.dom_markup.specs.Numbered.{Row, children_among, run_among}
 
@@ -20,19 +20,19 @@ parent_before i (row ∷ rows) n low = let other : (i == n) ≡ false = ne_eqb i
 
 -- ---- who stands among children
 
-children_before : (i : ℕ) (rows : List Row) (q n : ℕ) → n < i → stands_in n (children_among i rows q) ≡ false
+children_before : (i : ℕ) (rows : List Row) (q n : ℕ) → n < i → is_member n (children_among i rows q) ≡ false
 children_before i [] q n low = refl
 children_before i (row ∷ rows) q n low = by_test (names row.parent q) refl (children_before (i + 1) rows q n (omega arith))
   where
-    by_test : (t : Bool) → names row.parent q ≡ t → stands_in n (children_among (i + 1) rows q) ≡ false → stands_in n (children_among i (row ∷ rows) q) ≡ false
+    by_test : (t : Bool) → names row.parent q ≡ t → is_member n (children_among (i + 1) rows q) ≡ false → is_member n (children_among i (row ∷ rows) q) ≡ false
     by_test true t more = let other : (i == n) ≡ false = ne_eqb i n (λ e. omega (arith, e)) in rw (t, other) more
     by_test false t more = rw t more
 
-pub stands-children : (i : ℕ) (rows : List Row) (q n : ℕ) → stands_in n (children_among i rows q) ≡ names (parent_from i rows n) q
+pub stands-children : (i : ℕ) (rows : List Row) (q n : ℕ) → is_member n (children_among i rows q) ≡ names (parent_from i rows n) q
 stands-children i [] q n = refl
 stands-children i (row ∷ rows) q n = by_tests (names row.parent q) (i == n) refl refl (stands-children (i + 1) rows q n)
   where
-    by_tests : (t s : Bool) → names row.parent q ≡ t → (i == n) ≡ s → stands_in n (children_among (i + 1) rows q) ≡ names (parent_from (i + 1) rows n) q → stands_in n (children_among i (row ∷ rows) q) ≡ names (parent_from i (row ∷ rows) n) q
+    by_tests : (t s : Bool) → names row.parent q ≡ t → (i == n) ≡ s → is_member n (children_among (i + 1) rows q) ≡ names (parent_from (i + 1) rows n) q → is_member n (children_among i (row ∷ rows) q) ≡ names (parent_from i (row ∷ rows) n) q
     by_tests true true t s more = rw (t, s) (sym t)
     by_tests true false t s more = rw (t, s) more
     by_tests false true t s more = rw (t, s) (children_before (i + 1) rows q n (let is : i ≡ n = eqb-true i n s in omega (arith, is)) ∙ sym t)
@@ -48,11 +48,11 @@ children_distinct i (row ∷ rows) q = by_test (names row.parent q) refl (childr
 
 -- ---- the first list in which a number stands
 
-pub owner_none : (n i : ℕ) (lists : ℕ → List ℕ) (rows : List Row) → ((p : ℕ) → stands_in n (lists p) ≡ false) → owner_from i (map_from i (λ p row. lists p) rows) n ≡ None
+pub owner_none : (n i : ℕ) (lists : ℕ → List ℕ) (rows : List Row) → ((p : ℕ) → is_member n (lists p) ≡ false) → owner_from i (map_from i (λ p row. lists p) rows) n ≡ None
 owner_none n i lists [] none = refl
 owner_none n i lists (row ∷ rows) none = rw (none i) (owner_none n (i + 1) lists rows none)
 
-pub owner_some : (n i q : ℕ) (lists : ℕ → List ℕ) (rows : List Row) → ((p : ℕ) → stands_in n (lists p) ≡ (q == p)) → i ≤ q → q < i + length rows → owner_from i (map_from i (λ p row. lists p) rows) n ≡ Some q
+pub owner_some : (n i q : ℕ) (lists : ℕ → List ℕ) (rows : List Row) → ((p : ℕ) → is_member n (lists p) ≡ (q == p)) → i ≤ q → q < i + length rows → owner_from i (map_from i (λ p row. lists p) rows) n ≡ Some q
 owner_some n i q lists [] stands low high = absurd (omega arith)
 owner_some n i q lists (row ∷ rows) stands low high = by_test (q == i) refl (owner_some n (i + 1) q lists rows stands)
   where

@@ -6,7 +6,7 @@ use Rattle.std.proofs.lemmas.Bool.{cases_Bool, eq-eqb, cases_lt, eqb-true, true�
 use Rattle.std.proofs.lemmas.List.{get_or_past}
 use Rattle.dom_nodes.specs.declared.node_data.NodeData.{NodeData}
 use Rattle.dom_nodes.specs.Kinds.{contents_named, is_fragment, is_top}
-use Rattle.dom_links.specs.Lists.{IsDistinct, names, stands_in}
+use Rattle.dom_links.specs.Lists.{IsDistinct, names, is_member}
 use Rattle.dom_links.specs.Forest.{Forest, StandsOnce, children_of, parent, run_of, siblings}
 use Rattle.dom_links.specs.Sound.{IsForest, IsHostAncestor, one_step, then_step, IsParentOrHost, contents_at, stays}
 use Rattle.dom_markup.specs.Numbered.{Row, forest_of_rows, children_among, run_among}
@@ -75,7 +75,7 @@ same_name : (o : Option ℕ) (q : ℕ) → names o q ≡ true → o ≡ Some q
 same_name None q e = absurd (true≢false (sym e))
 same_name (Some p) q e = ap Some (eqb-true p q e)
 
-run_stands : (m n : ℕ) (o : Option ℕ) → stands_in n (run_among m o) ≡ true → (o ≡ None) × (m ≡ n)
+run_stands : (m n : ℕ) (o : Option ℕ) → is_member n (run_among m o) ≡ true → (o ≡ None) × (m ≡ n)
 run_stands m n None e = (
   refl,
   elim (cases_Bool (m == n)) [
@@ -106,25 +106,25 @@ rows_once rows order =
     forest : Forest
     forest = forest_of_rows rows
 
-    placed : (n : ℕ) → n < length rows → (parent_from 0 rows n ≡ None) ⊎ ((p : ℕ) × (parent_from 0 rows n ≡ Some p)) → stands_in n (siblings (forest_of_rows rows) n) ≡ true
-    placed n h (inl none) = rw (parent_is rows order n, none) (ap (stands_in n) (run_is rows n h ∙ ap (run_among n) none) ∙ rw (eq-eqb n n refl) refl)
+    placed : (n : ℕ) → n < length rows → (parent_from 0 rows n ≡ None) ⊎ ((p : ℕ) × (parent_from 0 rows n ≡ Some p)) → is_member n (siblings (forest_of_rows rows) n) ≡ true
+    placed n h (inl none) = rw (parent_is rows order n, none) (ap (is_member n) (run_is rows n h ∙ ap (run_among n) none) ∙ rw (eq-eqb n n refl) refl)
     placed n h (inr some) =
         let has = has_parent rows n some.0 some.1 in
         let low = parent_below rows order n some.0 some.1 in
-        rw (parent_is rows order n, some.1) (ap (stands_in n) (children_is rows some.0 (omega (arith, low, h))) ∙ stands-children 0 rows some.0 n ∙ ap (λ o. names o some.0) some.1 ∙ eq-eqb some.0 some.0 refl)
+        rw (parent_is rows order n, some.1) (ap (is_member n) (children_is rows some.0 (omega (arith, low, h))) ∙ stands-children 0 rows some.0 n ∙ ap (λ o. names o some.0) some.1 ∙ eq-eqb some.0 some.0 refl)
 
-    in_children : (p n : ℕ) → stands_in n (children_of (forest_of_rows rows) p) ≡ true → (p < length rows) ⊎ (length rows ≤ p) → (n < length (contents_of_rows rows)) × (parent (forest_of_rows rows) n ≡ Some p)
+    in_children : (p n : ℕ) → is_member n (children_of (forest_of_rows rows) p) ≡ true → (p < length rows) ⊎ (length rows ≤ p) → (n < length (contents_of_rows rows)) × (parent (forest_of_rows rows) n ≡ Some p)
     in_children p n s (inl low) =
-        let named = same_name (parent_from 0 rows n) p (sym (stands-children 0 rows p n) ∙ ap (stands_in n) (sym (children_is rows p low)) ∙ s) in
+        let named = same_name (parent_from 0 rows n) p (sym (stands-children 0 rows p n) ∙ ap (is_member n) (sym (children_is rows p low)) ∙ s) in
         (rw (length-contents rows) (has_parent rows n p named).within, parent_is rows order n ∙ named)
-    in_children p n s (inr high) = absurd (true≢false (sym s ∙ ap (stands_in n) (children_past rows p high)))
+    in_children p n s (inr high) = absurd (true≢false (sym s ∙ ap (is_member n) (children_past rows p high)))
 
-    in_run : (m n : ℕ) → stands_in n (run_of (forest_of_rows rows) m) ≡ true → (m < length rows) ⊎ (length rows ≤ m) →
+    in_run : (m n : ℕ) → is_member n (run_of (forest_of_rows rows) m) ≡ true → (m < length rows) ⊎ (length rows ≤ m) →
         (n < length (contents_of_rows rows)) × (parent (forest_of_rows rows) n ≡ None) × (run_of (forest_of_rows rows) n ≡ run_of (forest_of_rows rows) m)
     in_run m n s (inl low) =
-        let alone = run_stands m n (parent_from 0 rows m) (ap (stands_in n) (sym (run_is rows m low)) ∙ s) in
+        let alone = run_stands m n (parent_from 0 rows m) (ap (is_member n) (sym (run_is rows m low)) ∙ s) in
         (rw (length-contents rows) (subst (λ (k : ℕ). k < length rows) alone.1 low), parent_is rows order n ∙ (ap (parent_from 0 rows) (sym alone.1) ∙ alone.0), ap (run_of (forest_of_rows rows)) (sym alone.1))
-    in_run m n s (inr high) = absurd (true≢false (sym s ∙ ap (stands_in n) (run_past rows m high)))
+    in_run m n s (inr high) = absurd (true≢false (sym s ∙ ap (is_member n) (run_past rows m high)))
 
     children_once : (p : ℕ) → (p < length rows) ⊎ (length rows ≤ p) → IsDistinct (children_of (forest_of_rows rows) p)
     children_once p (inl low) = subst IsDistinct (sym (children_is rows p low)) (children_distinct 0 rows p)

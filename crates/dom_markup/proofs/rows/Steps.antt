@@ -24,9 +24,9 @@ use Rattle.dom_markup.specs.Markup.Item.{start_tag}
 use Rattle.dom_trees.specs.NewNodes.{html_name}
 use Rattle.dom_markup.specs.Numbered.{read_element, document_of}
 use Rattle.dom_markup.specs.Refusals.{nodes_begun, Refused, Declines, StopsBefore, BeginsNothingAt, Cause, IsFaultAt, LeavesSomeOpen, StartCause}
-use Rattle.dom_markup.specs.Front.{BeginsLetter}
+use Rattle.dom_markup.specs.Lexeme.{BeginsLetter}
 use Rattle.dom_markup.specs.Frames.{HasRead, Opened, opened, is_top, opened_size, with_element, children_place}
-use Rattle.dom_markup.specs.Growing.{MayGrowAt, plain_element}
+use Rattle.dom_markup.specs.TreeUnderConstruction.{MayGrowAt, plain_element}
 use Rattle.dom_markup.specs.Limits.{IsLimit, IsPlainData, LacksNumbers}
 use Rattle.dom_markup.specs.Reader.{AfterItems, Grows, IsReading, IsStarted, IsWhole, StopsAt, opened_by, parent_number, with_started}
 use Rattle.dom_markup.specs.declared.document.reader.Open.{Open}

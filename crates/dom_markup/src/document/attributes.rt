@@ -1,4 +1,4 @@
-//! The attributes of a start tag: of equal names the first is kept.
+//! The attributes of a start tag. If a name occurs more than once, the first attribute is kept.
 
 ghost use Rattle.std.specs.Prelude.{◌≡◌, [], IfOk, OnOk, string_bytes};
 ghost use Rattle.std.specs.List.{list_any};
@@ -16,10 +16,11 @@ use dom_nodes::text::{RareText, Text};
 use std::alloc::Global;
 use std::collections::BTreeSet;
 
-/// A name is compared with so many before it; older ones are looked up in a set.
+/// How many of the latest attributes a new name is compared with one by one; the names before them
+/// are looked up in a set.
 const RECENT: usize = 16;
 
-/// The name with A to Z in lower case.
+/// Returns the name with A to Z in lower case. Fails only when memory runs out.
 pub fn folded_name(alloc: Global, name: &str) -> Result<RareText, OutOfMemory>
     ensures { IfOk result (λ text. text ≡ folded name.now) }
 {
@@ -28,7 +29,7 @@ pub fn folded_name(alloc: Global, name: &str) -> Result<RareText, OutOfMemory>
     RareText::new(alloc, letters.as_str())
 }
 
-/// What the value that is written stands for.
+/// Returns the attribute value with its character references resolved.
 #[inline(always)]
 fn value_of(alloc: Global, written: Written) -> Result<Text, OutOfMemory>
     requires { MarksPlain written }
@@ -40,7 +41,7 @@ fn value_of(alloc: Global, written: Written) -> Result<Text, OutOfMemory>
     decode(alloc, written.value)
 }
 
-/// Whether some attribute has the local name.
+/// Returns whether one of the attributes has the local name.
 fn has_attr(attrs: &[Attr], name: &LocalName) -> bool
     ensures { result ≡ list_any (is_attr_named name.now) attrs.now }
 {
@@ -49,8 +50,8 @@ fn has_attr(attrs: &[Attr], name: &LocalName) -> bool
         .any(|attr| attr.name.local().is_same(&name.by_ref()))
 }
 
-/// The names of a tag's attributes that stand in a set too: those of so many, all but the last few.
-/// So a tag of many attributes is read quickly, whatever their names are.
+/// A set of the names of a tag's first `count` attributes, that is, all but the latest few. With
+/// it, a tag with many attributes is read in little time, whatever their names are.
 #[derive(Drop)]
 struct Noted {
     count: usize,
@@ -58,7 +59,7 @@ struct Noted {
 }
 
 impl Noted {
-    /// No names yet.
+    /// Returns an empty set.
     fn new(alloc: Global) -> Noted
         ensures { IsNoted result [] }
     {
@@ -68,7 +69,7 @@ impl Noted {
         }
     }
 
-    /// Whether some attribute has the local name.
+    /// Returns whether one of the attributes has the local name.
     fn has(&self, attrs: &[Attr], name: &LocalName) -> bool
         requires { IsNoted self.now attrs.now }
         ensures { result ≡ list_any (is_attr_named name.now) attrs.now }
@@ -77,7 +78,7 @@ impl Noted {
         self.names.contains(name.as_str()) || has_attr(recent, name)
     }
 
-    /// Puts a name into the set.
+    /// Adds a name to the set. `count` stays as it is.
     fn insert(&mut self, name: String) -> Result<(), OutOfMemory>
         ensures count { self.new.count ≡ self.old.count }
         ensures names { OnOk result (Gains (string_bytes name) self.old.names self.new.names) }
@@ -86,7 +87,7 @@ impl Noted {
         Ok(())
     }
 
-    /// Puts the oldest name that isn't in the set there, where many aren't.
+    /// Adds the oldest name that isn't in the set yet, if `RECENT` names or more are not in it.
     fn note(&mut self, alloc: Global, attrs: &[Attr]) -> Result<(), OutOfMemory>
         requires { IsNoted self.old attrs.now }
         ensures { OnOk result (IsNoted self.new attrs.now) }
@@ -100,7 +101,7 @@ impl Noted {
         Ok(())
     }
 
-    /// Adds an attribute to those of the tag, unless one of its name is there.
+    /// Appends an attribute to those of the tag, unless the tag already has one with that name.
     #[inline(always)]
     fn add(
         &mut self,
@@ -125,8 +126,9 @@ impl Noted {
     }
 }
 
-/// Reads the attributes of a start tag, behind its name, into a vector that is empty, and returns
-/// what follows them; of equal names the first is kept.
+/// Reads the attributes of a start tag from the text after the tag's name into `attrs`, which must
+/// be empty, and returns the text after them. If a name occurs more than once, the first attribute
+/// is kept. Fails only when memory runs out.
 #[inline(always)]
 pub fn attrs_of<'a>(
     alloc: Global,

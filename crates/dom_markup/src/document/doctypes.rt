@@ -1,4 +1,4 @@
-//! Doctypes.
+//! Parsing of doctypes.
 
 ghost use Rattle.std.specs.Prelude.{◌++◌, codes, IfNone, IfSome};
 ghost use Rattle.dom_markup.specs.ByteClasses.{AfterPublic, EndsDoctype, IsWord};
@@ -11,7 +11,7 @@ ghost use Rattle.dom_markup.specs.Token.{doctype_item};
 
 use crate::document::scan::{ByteClass, close_at, split_front, split_letter, strip};
 
-/// A doctype as it is written.
+/// The name and the identifiers of a doctype, as slices of the source.
 #[derive(Clone, Copy)]
 pub struct Doctype<'a> {
     pub name: &'a str,
@@ -19,7 +19,7 @@ pub struct Doctype<'a> {
     pub system: &'a str,
 }
 
-/// A text in quotes behind whitespace, and what follows it.
+/// Splits off whitespace and a quoted value; returns the value and the rest.
 fn quoted_at(text: &str) -> Option<(&str, &str)>
     ensures { Takes (BeginsQuoted text.now) result }
 {
@@ -36,7 +36,7 @@ fn quoted_at(text: &str) -> Option<(&str, &str)>
     Some(found)
 }
 
-/// What follows the whitespace and the word at the front, A to Z being a to z.
+/// Splits off whitespace and the word, in upper or lower case, and returns the rest.
 fn word_end<'a>(text: &'a str, word: &str) -> Option<&'a str>
     requires { IsWord word.now }
     ensures some { IfSome result (λ rest. BeginsWord word.now text.now rest.now) }
@@ -54,7 +54,8 @@ fn word_end<'a>(text: &'a str, word: &str) -> Option<&'a str>
     Some(rest)
 }
 
-/// The identifiers behind the word `public`, and what follows the doctype.
+/// Returns the public and the system identifier after the word `public`, and the text after the
+/// doctype.
 fn public_at(text: &str) -> Option<(&str, &str, &str)>
     ensures { TakesTwo (AfterPublic text.now) result }
 {
@@ -67,7 +68,8 @@ fn public_at(text: &str) -> Option<(&str, &str, &str)>
     Some((public, system, rest))
 }
 
-/// The identifiers, and what follows the doctype; an identifier that isn't there is empty.
+/// Returns the public and the system identifier, and the text after the doctype. A missing
+/// identifier is empty.
 fn identifiers_at(text: &str) -> Option<(&str, &str, &str)>
     ensures { TakesTwo (EndsDoctype text.now) result }
 {
@@ -84,7 +86,8 @@ fn identifiers_at(text: &str) -> Option<(&str, &str, &str)>
     Some(("", "", rest))
 }
 
-/// The doctype, behind its `<!`, and what follows it.
+/// Returns the doctype that starts with `<!` and this text, and what follows it; `None` if the text
+/// is no doctype.
 pub fn doctype_at(tag: &str) -> Option<(Doctype<'_>, &str)>
     ensures some { IfSome result (λ f.
         Begins markup (codes "<!" ++ tag.now) (doctype_item f.0) f.1.now) }

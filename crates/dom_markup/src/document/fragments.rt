@@ -1,4 +1,5 @@
-//! Fragments: markup that is read below an element `html`, and copies of nodes as such.
+//! Fragments: markup that is parsed below an element `html`, and nodes that are copied in that
+//! form.
 
 ghost use Rattle.std.specs.Prelude.{◌≡◌, IfErr, IfOk, MatchResult};
 ghost use Rattle.dom_nodes.specs.declared.fault.EditFault.TheVariants.{Memory};
@@ -24,9 +25,9 @@ use dom_trees::tree::Tree;
 use std::alloc::Global;
 
 impl Document {
-    /// The fragment that the text spells: a fragment node, below it an element `html`, and below
-    /// that what `parse` would read, without doctypes, numbered in order of start. Refused as
-    /// `parse` refuses the text, or by a limit that was met once all was read.
+    /// Parses the text as a fragment: a fragment node, its child `html`, and below that the nodes
+    /// that `parse` would put below the root, without doctypes. Node ids follow document order.
+    /// Fails as `parse` does, or with `TooManyNodes` or `Memory` at the end of the text.
     pub fn fragment(alloc: Global, source: &str) -> Result<Document, MarkupFault>
         ensures ok { IfOk result (λ document. IsFragmentOf source.now document.tree) }
         ensures notes { IfOk result NotesNothing }
@@ -46,8 +47,8 @@ impl Document {
         }
     }
 
-    /// A fragment with nothing in it, for a parser that fills it: a fragment node alone. `Err`
-    /// where memory was refused.
+    /// Returns an empty fragment, which is a fragment node alone, for a parser to fill. Fails only
+    /// when memory runs out.
     pub fn fragment_sink(alloc: Global) -> Result<Document, OutOfMemory>
         ensures empty { IfOk result (λ document. document.tree ≡ lone NodeData.Fragment) }
         ensures notes { IfOk result NotesNothing }
@@ -56,7 +57,7 @@ impl Document {
     }
 }
 
-/// What a limit that copies met is called in markup.
+/// Returns the parser's fault for a limit that copying met.
 fn limit_of(fault: EditFault) -> MarkupFaultKind
     ensures is { result ≡ limit_kind fault }
     ensures limit { IsLimitFault result }
@@ -75,12 +76,13 @@ pub trait NodeFragment {
     // The forest of the node's tree.
     ghost forest: { Self → Forest };
 
-    // The number of the node.
+    // The node's id.
     ghost number: { Self → ℕ };
 
-    /// A fragment that holds a copy of the node below an element `html`; of a document or a
-    /// fragment, copies of its children. The root and an element named `html` give a copy of the
-    /// whole tree, every node at its number. Refused as `UnknownNode`, `TooManyNodes` or `Memory`.
+    /// Returns a fragment with a copy of the node below an element `html`. For a document or a
+    /// fragment, its children are copied instead. For the root and for an element named `html`, the
+    /// result is a copy of the whole tree with the same node ids. Fails with `UnknownNode`,
+    /// `TooManyNodes` or `Memory`.
     fn to_fragment(&self) -> Result<Document, EditFault>
         ensures ok { IfOk result (λ d. d.tree ≡ node_fragment (forest self.now) (number self.now)) }
         ensures cause { IfErr result (NodeFragmentCause (forest self.now) (number self.now)) }
@@ -98,7 +100,7 @@ impl<'a> NodeFragment for NodeRef<'a> {
     }
 }
 
-/// The tree of a node's fragment.
+/// Returns the tree of the node's fragment.
 fn fragment_tree(tree: &Tree, id: NodeId) -> Result<Tree, EditFault>
     ensures ok { IfOk result (λ made. made ≡ node_fragment tree.now id) }
     ensures cause { IfErr result (NodeFragmentCause tree.now id) }
@@ -115,7 +117,7 @@ fn fragment_tree(tree: &Tree, id: NodeId) -> Result<Tree, EditFault>
     }
 }
 
-/// The same tree. Refused as `Memory`.
+/// Returns a copy of the tree. Fails only with `Memory`.
 fn cloned(tree: &Tree) -> Result<Tree, EditFault>
     ensures { MatchResult result (λ made. made ≡ tree.now) (λ fault. fault ≡ Memory) }
 {
@@ -125,14 +127,14 @@ fn cloned(tree: &Tree) -> Result<Tree, EditFault>
     }
 }
 
-/// The root, or an element named `html`.
+/// Returns whether the node is the root or an element named `html`.
 fn is_whole(tree: &Tree, id: NodeId) -> bool
     ensures { result ≡ is_whole tree.now id }
 {
     id.value() == 0 || NodeRef::new(id, tree).has_name("html")
 }
 
-/// A document or a fragment.
+/// Returns whether the node is a document or a fragment.
 fn is_top(tree: &Tree, id: NodeId) -> bool
     ensures { result ≡ node_is is_top tree.now id }
 {

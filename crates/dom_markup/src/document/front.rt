@@ -1,8 +1,8 @@
-//! The item at the front of a text, as it is written.
+//! The token at the start of a text, as slices of the source.
 
 ghost use Rattle.std.specs.Prelude.{◌≢◌, ◌++◌, [], codes, IfSome};
 ghost use Rattle.dom_markup.specs.Bytes.{folded};
-ghost use Rattle.dom_markup.specs.Front.{IsFront, IsNoComment, OpensTag, TakesDoctype, TakesFront};
+ghost use Rattle.dom_markup.specs.Lexeme.{IsLexeme, IsNoComment, OpensTag, TakesDoctype, TakesLexeme};
 ghost use Rattle.dom_markup.specs.Names.{markup};
 ghost use Rattle.dom_markup.specs.Taking.{Leaves};
 ghost use Rattle.dom_markup.specs.Token.{IsTextIn, mode_of};
@@ -12,14 +12,14 @@ use crate::document::names::is_letter;
 use crate::document::raw::{after_end, split_raw};
 use crate::document::scan::{begins_markup, comment_at, split_plain, split_text, strip, strip_all};
 use crate::document::tags::end_tag_end;
-use crate::document::within::Within;
+use crate::document::within::ContentModel;
 use dom_nodes::fault::MarkupFaultKind;
 
-/// An item as it is written: a text, one that stands for itself, the name of an end tag, the
-/// contents of a comment. Of a start tag only its `<` is taken, and of a declaration only its `<!`:
-/// what a reader needs of them is taken while they are scanned.
+/// A token as it is in the source: a text, a text without character references (`Plain`), the name
+/// of an end tag, or the contents of a comment. For a start tag only its `<` is read, and for a
+/// declaration only its `<!`; the caller reads the rest while it scans.
 #[derive(Clone, Copy)]
-pub enum Front<'a> {
+pub enum Lexeme<'a> {
     StartTag,
     Text(&'a str),
     Plain(&'a str),
@@ -28,7 +28,7 @@ pub enum Front<'a> {
     Declaration,
 }
 
-/// What follows the `<` of a start tag that may begin here: a letter stands behind it.
+/// Returns the text after the `<` of a start tag, if a letter follows the `<`.
 #[inline(always)]
 fn opened_tag(text: &str) -> Option<&str>
     ensures { Leaves (OpensTag text.now) result }
@@ -43,37 +43,38 @@ fn opened_tag(text: &str) -> Option<&str>
     Some(tag)
 }
 
-/// The item at the front of markup, and what follows it.
-fn markup_front(text: &str) -> Result<(Front<'_>, &str), MarkupFaultKind>
+/// Returns the token at the start of markup, and the text after it.
+fn markup_lexeme(text: &str) -> Result<(Lexeme<'_>, &str), MarkupFaultKind>
     requires { text.now ≢ [] }
-    ensures { TakesFront markup text.now result }
+    ensures { TakesLexeme markup text.now result }
 {
     if let Some(tag) = opened_tag(text) {
-        return Ok((Front::StartTag, tag));
+        return Ok((Lexeme::StartTag, tag));
     }
     if !begins_markup(text.as_bytes()) {
         let (contents, rest) = split_text(text);
-        return Ok((Front::Text(contents), rest));
+        return Ok((Lexeme::Text(contents), rest));
     }
     if let Some(tag) = strip_all(text, "</") {
         let Some((name, rest)) = end_tag_end(tag) else {
             return Err(MarkupFaultKind::BadTag);
         };
-        return Ok((Front::EndTag(name), rest));
+        return Ok((Lexeme::EndTag(name), rest));
     }
     if let Some(comment) = strip_all(text, "<!--") {
         let Some((contents, rest)) = comment_at(comment) else {
             return Err(MarkupFaultKind::BadComment);
         };
-        return Ok((Front::Comment(contents), rest));
+        return Ok((Lexeme::Comment(contents), rest));
     }
     if let Some(tag) = strip_all(text, "<!") {
-        return Ok((Front::Declaration, tag));
+        return Ok((Lexeme::Declaration, tag));
     }
     Err(MarkupFaultKind::Instruction)
 }
 
-/// The doctype that a declaration is, which stands here behind its `<!`, and what follows it.
+/// Returns the doctype of a declaration, whose `<!` is already read, and the text after it. Fails
+/// with `BadDeclaration` if the declaration is no doctype.
 pub fn declared_doctype(tag: &str) -> Result<(Doctype<'_>, &str), MarkupFaultKind>
     requires { IsNoComment tag.now }
     ensures { TakesDoctype (codes "<!" ++ tag.now) result }
@@ -84,81 +85,86 @@ pub fn declared_doctype(tag: &str) -> Result<(Doctype<'_>, &str), MarkupFaultKin
     }
 }
 
-/// The item at the front of the text of an element of this name: the text, or where none is left
-/// the end tag.
+/// Returns the token at the start of the text inside an element of this name: the text, or the end
+/// tag if no text is left. Fails with `Unclosed` if the end tag is missing.
 fn front_in_text<'a>(
     text: &'a str,
     name: &'a str,
-    within: Within<'a>,
-) -> Result<(Front<'a>, &'a str), MarkupFaultKind>
+    within: ContentModel<'a>,
+) -> Result<(Lexeme<'a>, &'a str), MarkupFaultKind>
     requires { IsTextIn (mode_of within) (folded name.now) }
-    ensures { TakesFront (mode_of within.entry) text.now result }
+    ensures { TakesLexeme (mode_of within.entry) text.now result }
 {
     if let Some(rest) = after_end(text, name) {
-        return Ok((Front::EndTag(name), rest));
+        return Ok((Lexeme::EndTag(name), rest));
     }
     let Some((contents, rest)) = split_raw(text, name) else {
         return Err(MarkupFaultKind::Unclosed);
     };
-    Ok((Front::Text(contents), rest))
+    Ok((Lexeme::Text(contents), rest))
 }
 
-/// The item at the front, and what follows it, whatever it is.
+/// Returns the token at the start of the text in any mode, and the text after it.
 #[inline(never)]
-fn any_front<'a>(text: &'a str, within: Within<'a>) -> Result<(Front<'a>, &'a str), MarkupFaultKind>
+fn any_lexeme<'a>(
+    text: &'a str,
+    within: ContentModel<'a>,
+) -> Result<(Lexeme<'a>, &'a str), MarkupFaultKind>
     requires { text.now ≢ [] }
-    ensures { TakesFront (mode_of within.entry) text.now result }
+    ensures { TakesLexeme (mode_of within.entry) text.now result }
 {
     match within {
-        Within::Markup => markup_front(text),
-        Within::Text(name) => front_in_text(text, name, within),
-        Within::RawText(name) => front_in_text(text, name, within),
+        ContentModel::Markup => markup_lexeme(text),
+        ContentModel::Text(name) => front_in_text(text, name, within),
+        ContentModel::RawText(name) => front_in_text(text, name, within),
     }
 }
 
-/// The same. What the call returns has a place in memory, which is set up where this begins: what
-/// is found without the call needs none.
+/// Calls `any_lexeme`. The result of that call needs a place in memory, which is set up here, so a
+/// token that is found without the call doesn't pay for it.
 #[inline(always)]
 fn other_front<'a>(
     text: &'a str,
-    within: Within<'a>,
-) -> Result<(Front<'a>, &'a str), MarkupFaultKind>
+    within: ContentModel<'a>,
+) -> Result<(Lexeme<'a>, &'a str), MarkupFaultKind>
     requires { text.now ≢ [] }
-    ensures { TakesFront (mode_of within.entry) text.now result }
+    ensures { TakesLexeme (mode_of within.entry) text.now result }
 {
-    let (front, rest) = any_front(text, within)?;
+    let (front, rest) = any_lexeme(text, within)?;
     Ok((front, rest))
 }
 
-/// The start tag, plain text or end tag at the front of markup, if one of these is found there.
+/// Returns the start tag, plain text or end tag at the start of markup, if it is one that can be
+/// read quickly.
 #[inline(always)]
-fn common_front(text: &str) -> Option<(Front<'_>, &str)>
+fn common_lexeme(text: &str) -> Option<(Lexeme<'_>, &str)>
     requires { text.now ≢ [] }
-    ensures { IfSome result (λ found. IsFront markup text.now found.0 found.1.now) }
+    ensures { IfSome result (λ found. IsLexeme markup text.now found.0 found.1.now) }
 {
     if let Some(tag) = opened_tag(text) {
-        return Some((Front::StartTag, tag));
+        return Some((Lexeme::StartTag, tag));
     }
     let Some(behind) = strip(text, '<') else {
         let (contents, rest) = split_plain(text)?;
-        return Some((Front::Plain(contents), rest));
+        return Some((Lexeme::Plain(contents), rest));
     };
     let tag = strip(behind, '/')?;
     let (name, rest) = end_tag_end(tag)?;
-    Some((Front::EndTag(name), rest))
+    Some((Lexeme::EndTag(name), rest))
 }
 
-/// The item at the front, and what follows it. What is common is found without a call.
+/// Returns the token at the start of the text, and the text after it. Common tokens are read
+/// without a call.
 #[inline(always)]
 pub fn front_at<'a>(
     text: &'a str,
-    within: Within<'a>,
-) -> Result<(Front<'a>, &'a str), MarkupFaultKind>
+    within: ContentModel<'a>,
+) -> Result<(Lexeme<'a>, &'a str), MarkupFaultKind>
     requires { text.now ≢ [] }
-    ensures { TakesFront (mode_of within.entry) text.now result }
+    ensures { TakesLexeme (mode_of within.entry) text.now result }
 {
-    if let Within::Markup = within {
-        if let Some((front, rest)) = common_front(text) {
+    if let ContentModel::Markup = within {
+        if let Some((front, rest)) = common_lexeme(text) {
             return Ok((front, rest));
         }
     }

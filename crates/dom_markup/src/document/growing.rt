@@ -1,4 +1,4 @@
-//! A tree that grows while markup is read.
+//! The tree under construction while markup is parsed.
 
 ghost use Rattle.std.specs.Prelude.{◌≡◌, ◌+◌, ◌++◌, OnErr, OnOk, IfOk, length};
 ghost use Rattle.dom_nodes.specs.Changes.{with_attrs, with_missing};
@@ -6,10 +6,10 @@ ghost use Rattle.dom_nodes.specs.declared.node_data.NodeData.TheVariants as cont
 ghost use Rattle.dom_links.specs.Contents.{with_content};
 ghost use Rattle.dom_links.specs.Growth.{lone, with_child, with_template};
 ghost use Rattle.dom_trees.specs.NewNodes.{bare_element, element_with, text_node};
-ghost use Rattle.dom_markup.specs.Growing.{GrowsTo, MayGrowAt, plain_element, with_lists};
+ghost use Rattle.dom_markup.specs.TreeUnderConstruction.{GrowsTo, MayGrowAt, plain_element, with_lists};
 ghost use Rattle.dom_markup.specs.Limits.{IsPlainData};
 
-use crate::document::late_texts::LateTexts;
+use crate::document::late_texts::DeferredTexts;
 use dom_nodes::fault::{MarkupFaultKind, OutOfMemory};
 use dom_nodes::name::{Attr, QualName};
 use dom_nodes::node_data::{Attrs, Element, NodeData, take_all};
@@ -20,31 +20,31 @@ use std::marker::Model;
 use std::mem;
 use std::rc::Rc;
 
-/// How many attributes stand one behind another at most before their elements get them.
+/// The longest shared list of attributes before it is handed out to the elements.
 const ROOM: usize = 512;
 
-/// An element that gets its attributes later: its number, and from where up to where they stand.
+/// An element whose attributes are stored later: its node id, and its range in the shared list.
 #[derive(Clone, Copy)]
-struct Waiting {
+struct PendingText {
     number: NodeId,
     from: usize,
     to: usize,
 }
 
-/// A tree that grows. Elements of one attribute or two get them later: those of many elements
-/// stand one behind another in one list, which the elements then share. A contract sees the forest
-/// in which each element has its attributes.
+/// A tree under construction. The attributes of an element with one or two are collected in one
+/// list first, and many elements then share that list, which saves allocations. A contract sees the
+/// forest in which each element already has its attributes.
 #[derive(Drop)]
-pub struct Growing<'a> {
-    tree: LateTexts<'a>,
+pub struct TreeUnderConstruction<'a> {
+    tree: DeferredTexts<'a>,
     attrs: Vec<Attr>,
-    waiting: Vec<Waiting>,
+    waiting: Vec<PendingText>,
 }
 
-impl<'a> Model for Growing<'a> {
+impl<'a> Model for TreeUnderConstruction<'a> {
     ghost use Rattle.std.specs.Prelude.{length};
     ghost use Rattle.dom_links.specs.Forest.{Forest};
-    ghost use Rattle.dom_markup.specs.Growing.{AreKnown, with_lists};
+    ghost use Rattle.dom_markup.specs.TreeUnderConstruction.{AreKnown, with_lists};
 
     ghost Value = { Forest };
 
@@ -54,26 +54,27 @@ impl<'a> Model for Growing<'a> {
         (length growing.attrs.items) growing.waiting.items };
 }
 
-impl<'a> Growing<'a> {
-    /// A document without children.
-    pub fn new(alloc: Global) -> Result<Growing<'a>, OutOfMemory>
+impl<'a> TreeUnderConstruction<'a> {
+    /// Returns a document without children. Fails only when memory runs out.
+    pub fn new(alloc: Global) -> Result<TreeUnderConstruction<'a>, OutOfMemory>
         ensures { IfOk result (λ growing. growing ≡ lone contents.Document) }
     {
-        Ok(Growing {
-            tree: LateTexts::new(alloc)?,
+        Ok(TreeUnderConstruction {
+            tree: DeferredTexts::new(alloc)?,
             attrs: Vec::new(alloc),
             waiting: Vec::new(alloc),
         })
     }
 
-    /// Makes room for so many more nodes, where there is memory.
+    /// Reserves room for `additional` more nodes, if there is memory for it.
     pub fn reserve(&mut self, additional: usize)
         ensures { self.new ≡ self.old }
     {
         self.tree.reserve(additional);
     }
 
-    /// Makes a node as the last child of another.
+    /// Makes a node as the last child of another and returns its id. Fails only with `TooManyNodes`
+    /// or `Memory`.
     #[inline(always)]
     pub fn append(&mut self, parent: &NodeId, content: NodeData) -> Result<NodeId, MarkupFaultKind>
         requires may { MayGrowAt self.old parent.now }
@@ -84,7 +85,8 @@ impl<'a> Growing<'a> {
         self.tree.append(parent, content)
     }
 
-    /// Makes a text as the last child of a node.
+    /// Makes a text as the last child of a node and returns its id. Fails only with `TooManyNodes`
+    /// or `Memory`.
     #[inline(always)]
     pub fn append_text(&mut self, parent: &NodeId, text: &'a str) -> Result<NodeId, MarkupFaultKind>
         requires { MayGrowAt self.old parent.now }
@@ -100,8 +102,8 @@ impl<'a> Growing<'a> {
         }
     }
 
-    /// Makes an element with contents as the last child of a node, and returns the contents'
-    /// number. It takes its attributes out of the list.
+    /// Makes a template as the last child of a node, and returns the id of its contents fragment.
+    /// The attributes are moved out of the list. Fails only with `TooManyNodes` or `Memory`.
     pub fn append_template(
         &mut self,
         parent: &NodeId,
@@ -120,7 +122,8 @@ impl<'a> Growing<'a> {
         self.tree.append_template(parent, name, attrs)
     }
 
-    /// Makes an element as the last child of a node. It takes its attributes out of the list.
+    /// Makes an element as the last child of a node, and returns its id. The attributes are moved
+    /// out of the list. Fails only with `TooManyNodes` or `Memory`.
     pub fn append_element(
         &mut self,
         parent: &NodeId,
@@ -144,7 +147,8 @@ impl<'a> Growing<'a> {
         self.append(parent, element_of(name, attrs))
     }
 
-    /// The same of an element that gets its attributes later.
+    /// Makes an element as the last child of a node, whose attributes go to the shared list for
+    /// now.
     fn append_waiting(
         &mut self,
         parent: &NodeId,
@@ -162,7 +166,7 @@ impl<'a> Growing<'a> {
             return Err(MarkupFaultKind::Memory);
         };
         let to = self.attrs.as_slice().len();
-        let Ok(()) = self.waiting.push(Waiting { number, from, to }) else {
+        let Ok(()) = self.waiting.push(PendingText { number, from, to }) else {
             return Err(MarkupFaultKind::Memory);
         };
         match self.settle_where_full() {
@@ -171,7 +175,7 @@ impl<'a> Growing<'a> {
         }
     }
 
-    /// Gives the elements that wait their attributes, where the list has no room for two more.
+    /// Stores the collected attributes in their elements, if the list has no room for two more.
     fn settle_where_full(&mut self) -> Result<(), OutOfMemory>
         ensures { OnOk result (self.new ≡ self.old) }
     {
@@ -185,11 +189,11 @@ impl<'a> Growing<'a> {
         given
     }
 
-    /// The tree, in which each element has its attributes.
+    /// Returns the tree, in which each element has its attributes. Fails only when memory runs out.
     pub fn finish(self) -> Result<Tree, OutOfMemory>
         ensures { IfOk result (λ tree. tree ≡ self.entry) }
     {
-        let Growing {
+        let TreeUnderConstruction {
             mut tree,
             mut attrs,
             waiting,
@@ -200,7 +204,7 @@ impl<'a> Growing<'a> {
     }
 }
 
-/// An element without contents.
+/// Returns an element without template contents.
 #[inline(always)]
 fn element_of(name: QualName, attrs: Attrs) -> NodeData
     ensures is { result ≡ plain_element name attrs }
@@ -209,7 +213,7 @@ fn element_of(name: QualName, attrs: Attrs) -> NodeData
     NodeData::Element(Element::new(name, attrs, None, false))
 }
 
-/// An element without attributes and contents.
+/// Returns an element without attributes and template contents.
 #[inline(always)]
 fn bare_of(alloc: Global, name: QualName) -> NodeData
     ensures is { result ≡ bare_element name }
@@ -218,8 +222,8 @@ fn bare_of(alloc: Global, name: QualName) -> NodeData
     element_of(name, Attrs::new(alloc))
 }
 
-/// Moves all attributes of a list behind those of another. One that has no memory yet takes over
-/// the list's.
+/// Moves all attributes to the end of `list`. A list that has no memory yet takes over the memory
+/// of `attrs`.
 fn move_behind(list: &mut Vec<Attr>, attrs: &mut Vec<Attr>) -> Result<(), OutOfMemory>
     ensures ok { OnOk result (list.new.items ≡ list.old.items ++ attrs.old.items) }
     ensures err { OnErr result (list.new.items ≡ list.old.items) }
@@ -232,8 +236,12 @@ fn move_behind(list: &mut Vec<Attr>, attrs: &mut Vec<Attr>) -> Result<(), OutOfM
     Ok(())
 }
 
-/// Gives each element that waits its attributes, which it shares with the list.
-fn give(tree: &mut LateTexts<'_>, attrs: Vec<Attr>, waiting: &[Waiting]) -> Result<(), OutOfMemory>
+/// Gives each waiting element its range of the attributes; the elements share the list.
+fn give(
+    tree: &mut DeferredTexts<'_>,
+    attrs: Vec<Attr>,
+    waiting: &[PendingText],
+) -> Result<(), OutOfMemory>
     ensures { OnOk result (tree.new ≡ with_lists attrs.items waiting.now tree.old) }
 {
     if waiting.is_empty() {

@@ -1,4 +1,4 @@
-//! The numbers of the nodes at the top of what was read.
+//! The ids of the nodes at the top level of what was parsed.
 
 ghost use Rattle.std.specs.Prelude.{◌≡◌, ◌∷◌, ◌++◌, [], IfOk, OnOk};
 
@@ -7,7 +7,8 @@ use dom_nodes::node_id::NodeId;
 use std::alloc::Global;
 use std::marker::Model;
 
-/// Numbers of nodes, of which one needs no memory of its own. A contract sees them as a list.
+/// A list of node ids that needs no memory of its own for none or one. A contract sees it as a
+/// list.
 #[derive(Drop)]
 pub(super) struct IdList {
     form: Form,
@@ -23,7 +24,7 @@ impl Model for IdList {
     ghost view = { λ top_ids. numbers top_ids.form };
 }
 
-/// Where the numbers lie.
+/// Where the ids are stored.
 #[derive(Drop)]
 enum Form {
     Nothing,
@@ -32,7 +33,7 @@ enum Form {
 }
 
 impl IdList {
-    /// No numbers.
+    /// Returns an empty list.
     pub(super) fn new(alloc: Global) -> IdList
         ensures { result ≡ [] }
     {
@@ -42,7 +43,7 @@ impl IdList {
         }
     }
 
-    /// The numbers, in order.
+    /// Returns the ids, in order.
     pub(super) fn as_slice(&self) -> &[NodeId]
         ensures { result.now ≡ self.now }
     {
@@ -53,7 +54,7 @@ impl IdList {
         }
     }
 
-    /// Adds a number at the end.
+    /// Appends an id. Fails only when memory runs out.
     pub(super) fn push(&mut self, id: NodeId) -> Result<(), OutOfMemory>
         ensures { OnOk result (self.new ≡ self.old ++ id ∷ []) }
     {

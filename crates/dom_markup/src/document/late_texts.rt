@@ -1,4 +1,4 @@
-//! A tree that grows, and texts that get their contents later.
+//! A tree under construction whose longer texts are stored together.
 
 ghost use Rattle.std.specs.Prelude.{◌≡◌, ◌<◌, ◌+◌, OnErr, OnOk, IfOk, length};
 ghost use Rattle.dom_nodes.specs.declared.node_data.NodeData.TheVariants as contents;
@@ -6,8 +6,8 @@ ghost use Rattle.dom_links.specs.Contents.{with_content};
 ghost use Rattle.dom_links.specs.Growth.{lone, with_child, with_template};
 ghost use Rattle.dom_trees.specs.NewNodes.{element_with, text_node};
 ghost use Rattle.dom_nodes.specs.Changes.{with_attrs, with_missing};
-ghost use Rattle.dom_markup.specs.Growing.{GrowsTo, MayGrowAt};
-ghost use Rattle.dom_markup.specs.LateTexts.{joined, with_contents, with_texts};
+ghost use Rattle.dom_markup.specs.TreeUnderConstruction.{GrowsTo, MayGrowAt};
+ghost use Rattle.dom_markup.specs.DeferredTexts.{joined, with_contents, with_texts};
 ghost use Rattle.dom_markup.specs.Limits.{IsLimit, IsPlainData, limit_kind};
 
 use dom_nodes::fault::{EditFault, MarkupFaultKind, OutOfMemory};
@@ -19,36 +19,36 @@ use dom_trees::tree::Tree;
 use std::alloc::Global;
 use std::marker::Model;
 
-/// How many bytes wait at most before their texts get them.
+/// How many bytes of text are collected at most before they are stored.
 const ROOM: usize = 8192;
 
-/// The shortest text that shares a block with others: no shorter one asks for memory.
+/// The shortest text that shares a block with others; a shorter one needs no allocation.
 const SHORTEST: usize = 31;
 
 /// The longest text that shares a block with others.
 const LONGEST: usize = 1024;
 
-/// A text that gets its contents later.
+/// A text node whose contents are stored later.
 #[derive(Clone, Copy)]
 struct Late<'a> {
     number: NodeId,
     text: &'a str,
 }
 
-/// A tree that grows. Long texts get their contents later: those of many lie one behind another in
-/// one block, which the texts then share. A contract sees the forest in which each text has its
-/// contents.
+/// A tree under construction. The contents of longer texts are collected first, and many are then
+/// copied into one block that the texts share, which saves allocations. A contract sees the forest
+/// in which each text already has its contents.
 #[derive(Drop)]
-pub struct LateTexts<'a> {
+pub struct DeferredTexts<'a> {
     tree: Tree,
     late: Vec<Late<'a>>,
     bytes: usize,
 }
 
-impl<'a> Model for LateTexts<'a> {
+impl<'a> Model for DeferredTexts<'a> {
     ghost use Rattle.std.specs.Prelude.{length};
     ghost use Rattle.dom_links.specs.Forest.{Forest};
-    ghost use Rattle.dom_markup.specs.LateTexts.{AreAmong, with_texts};
+    ghost use Rattle.dom_markup.specs.DeferredTexts.{AreAmong, with_texts};
 
     ghost Value = { Forest };
 
@@ -57,15 +57,15 @@ impl<'a> Model for LateTexts<'a> {
     ghost invariant = { λ texts. AreAmong (length texts.tree.content) texts.late.items };
 }
 
-impl<'a> LateTexts<'a> {
-    /// A document without children.
-    pub fn new(alloc: Global) -> Result<LateTexts<'a>, OutOfMemory>
+impl<'a> DeferredTexts<'a> {
+    /// Returns a document without children. Fails only when memory runs out.
+    pub fn new(alloc: Global) -> Result<DeferredTexts<'a>, OutOfMemory>
         ensures { IfOk result (λ texts. texts ≡ lone contents.Document) }
     {
         let Ok(tree) = Tree::new(alloc, NodeData::Document) else {
             return Err(OutOfMemory);
         };
-        Ok(LateTexts {
+        Ok(DeferredTexts {
             tree,
             late: Vec::new(alloc),
             bytes: 0,
@@ -77,14 +77,15 @@ impl<'a> LateTexts<'a> {
         self.tree.allocator()
     }
 
-    /// Makes room for so many more nodes, where there is memory.
+    /// Reserves room for `additional` more nodes, if there is memory for it.
     pub fn reserve(&mut self, additional: usize)
         ensures { self.new ≡ self.old }
     {
         self.tree.reserve(additional);
     }
 
-    /// Makes a node as the last child of another.
+    /// Makes a node as the last child of another and returns its id. Fails only with `TooManyNodes`
+    /// or `Memory`.
     #[inline(always)]
     pub fn append(&mut self, parent: &NodeId, content: NodeData) -> Result<NodeId, MarkupFaultKind>
         requires may { MayGrowAt self.old parent.now }
@@ -99,8 +100,8 @@ impl<'a> LateTexts<'a> {
         }
     }
 
-    /// Makes an element with contents as the last child of a node, and returns the contents'
-    /// number.
+    /// Makes a template as the last child of a node, and returns the id of its contents fragment.
+    /// Fails only with `TooManyNodes` or `Memory`.
     pub fn append_template(
         &mut self,
         parent: &NodeId,
@@ -119,7 +120,8 @@ impl<'a> LateTexts<'a> {
         }
     }
 
-    /// Makes a text as the last child of a node.
+    /// Makes a text as the last child of a node and returns its id. Fails only with `TooManyNodes`
+    /// or `Memory`.
     pub fn append_text(&mut self, parent: &NodeId, text: &'a str) -> Result<NodeId, MarkupFaultKind>
         requires { MayGrowAt self.old parent.now }
         ensures { GrowsTo result self.new (length self.old.content)
@@ -134,7 +136,7 @@ impl<'a> LateTexts<'a> {
         self.append(parent, NodeData::Text { contents })
     }
 
-    /// The same of a text that gets its contents later.
+    /// Makes a text as the last child of a node, whose contents are stored later.
     fn append_late(&mut self, parent: &NodeId, text: &'a str) -> Result<NodeId, MarkupFaultKind>
         requires { MayGrowAt self.old parent.now }
         ensures { GrowsTo result self.new (length self.old.content)
@@ -152,7 +154,7 @@ impl<'a> LateTexts<'a> {
         }
     }
 
-    /// Adds the attributes to an element whose names it lacks.
+    /// Adds those attributes to the element whose names it does not have yet.
     pub fn add_attrs(&mut self, number: &NodeId, attrs: Attrs) -> Result<(), OutOfMemory>
         ensures { OnOk result (self.new
             ≡ with_content number.now (with_attrs (with_missing attrs)) self.old) }
@@ -163,7 +165,7 @@ impl<'a> LateTexts<'a> {
         }
     }
 
-    /// Gives the texts that wait their contents, where these leave no room for another text.
+    /// Stores the collected contents in their texts, if there is no room for another long text.
     fn settle_where_full(&mut self) -> Result<(), OutOfMemory>
         ensures { OnOk result (self.new ≡ self.old) }
     {
@@ -176,11 +178,11 @@ impl<'a> LateTexts<'a> {
         given
     }
 
-    /// The tree, in which each text has its contents.
+    /// Returns the tree, in which each text has its contents. Fails only when memory runs out.
     pub fn finish(self) -> Result<Tree, OutOfMemory>
         ensures { IfOk result (λ tree. tree ≡ self.entry) }
     {
-        let LateTexts {
+        let DeferredTexts {
             mut tree,
             late,
             bytes,
@@ -190,7 +192,7 @@ impl<'a> LateTexts<'a> {
     }
 }
 
-/// What a limit that an edit met is called in markup.
+/// Returns the parser's fault for a limit that an edit met.
 fn limit_of(fault: EditFault) -> MarkupFaultKind
     requires { IsLimit fault }
     ensures { result ≡ limit_kind fault }
@@ -202,7 +204,7 @@ fn limit_of(fault: EditFault) -> MarkupFaultKind
     }
 }
 
-/// The texts one behind another, in one block.
+/// Returns one block with the texts, concatenated.
 fn block_of(alloc: Global, late: &[Late], bytes: usize) -> Result<TextBlock, OutOfMemory>
     ensures texts { IfOk result (λ block. block ≡ joined late.now) }
     ensures fits { IfOk result (λ block. length block < 18446744073709551616) }
@@ -214,8 +216,7 @@ fn block_of(alloc: Global, late: &[Late], bytes: usize) -> Result<TextBlock, Out
     TextBlock::new(alloc, all)
 }
 
-/// Gives each text that waits its contents, which it shares with the others. They are so many
-/// bytes.
+/// Stores the contents of each waiting text in one block of `bytes` bytes, which the texts share.
 fn give(tree: &mut Tree, late: &[Late], bytes: usize) -> Result<(), OutOfMemory>
     ensures { OnOk result (tree.new ≡ with_texts late.now tree.old) }
 {
@@ -226,7 +227,7 @@ fn give(tree: &mut Tree, late: &[Late], bytes: usize) -> Result<(), OutOfMemory>
     share(tree, late, &block)
 }
 
-/// Gives each text that waits its contents, which lie in the block.
+/// Gives each waiting text its part of the block.
 fn share(tree: &mut Tree, late: &[Late], block: &TextBlock) -> Result<(), OutOfMemory>
     requires texts { block.now ≡ joined late.now }
     requires fits { length block.now < 18446744073709551616 }
@@ -242,7 +243,7 @@ fn share(tree: &mut Tree, late: &[Late], block: &TextBlock) -> Result<(), OutOfM
     Ok(())
 }
 
-/// Gives a text or a comment other contents.
+/// Replaces the contents of a text or a comment.
 fn set_contents(tree: &mut Tree, number: &NodeId, contents: Text)
     ensures { tree.new ≡ with_content number.now (with_contents contents) tree.old }
 {

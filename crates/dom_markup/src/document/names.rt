@@ -1,4 +1,4 @@
-//! Names of elements.
+//! Which elements the parser treats specially, asked by the name in a tag.
 
 ghost use Rattle.std.specs.Prelude.{◌≡◌, List, ℕ, MatchBool, true};
 ghost use Rattle.std.specs.List.{list_all, list_any};
@@ -10,35 +10,35 @@ ghost use Rattle.dom_markup.specs.Names.{is_template, raw_names, text_names, voi
 
 use crate::names::{RAW_NAMES, TEXT_NAMES, VOID_NAMES};
 
-/// Whether the name is one of those, A to Z being a to z.
+/// Returns whether the name is one of these, in upper or lower case.
 fn is_one_of(names: &[&str], name: &str) -> bool
     ensures { result ≡ list_any (λ known. bytes_eq (folded known.now) (folded name.now)) names.now }
 {
     names.iter().any(|known| known.eq_ignore_ascii_case(name))
 }
 
-/// Whether the element is a start tag alone.
+/// Returns whether the element is void.
 pub fn is_void(name: &str) -> bool
     ensures { result ≡ is_among (folded name.now) void_names }
 {
     is_one_of(&VOID_NAMES, name)
 }
 
-/// Whether the texts in the element are read as they are.
+/// Returns whether the element is a raw text element, in whose text nothing is resolved.
 pub fn is_raw(name: &str) -> bool
     ensures { result ≡ is_among (folded name.now) raw_names }
 {
     is_one_of(&RAW_NAMES, name)
 }
 
-/// Whether the element holds one text alone, in which references are read.
+/// Returns whether the element's content is one text in which character references are resolved.
 pub fn holds_text(name: &str) -> bool
     ensures { result ≡ is_among (folded name.now) text_names }
 {
     is_one_of(&TEXT_NAMES, name)
 }
 
-/// Whether the element has contents.
+/// Returns whether the element is a template, which has a contents fragment.
 pub fn is_template(name: &str) -> bool
     ensures { result ≡ is_template (folded name.now) }
 {
@@ -51,7 +51,7 @@ pub fn is_letter(byte: u8) -> bool
     byte.is_ascii_alphabetic()
 }
 
-/// Whether a run of name bytes names an element in a tag.
+/// Returns whether a run of name bytes is a tag name, that is, starts with a letter.
 pub fn names_element(name: &str) -> bool
     requires { list_all is_name_byte name.now ≡ true }
     ensures { MatchBool result (NamesElement name.now (folded name.now))

@@ -1,4 +1,4 @@
-//! Texts that go as far as the end tag of their element.
+//! Texts that end at the end tag of their element.
 
 ghost use Rattle.std.specs.Prelude.{IfNone, IfSome};
 ghost use Rattle.dom_markup.specs.Taking.{Leaves};
@@ -9,7 +9,7 @@ use crate::document::scan::{bytes_from, strip_all};
 use crate::document::tags::end_tag_end;
 use memchr::memchr;
 
-/// What follows the end tag of this name, where it stands at the front.
+/// Returns what follows the end tag of this name, if the text starts with it.
 pub fn after_end<'a>(text: &'a str, name: &str) -> Option<&'a str>
     ensures { Leaves (BeginsEnd text.now (folded name.now)) result }
 {
@@ -21,7 +21,7 @@ pub fn after_end<'a>(text: &'a str, name: &str) -> Option<&'a str>
     Some(rest)
 }
 
-/// The text before the first end tag of this name, and what begins with that tag.
+/// Splits the text before the first end tag of this name; `None` if there is none.
 pub fn split_raw<'a>(text: &'a str, name: &str) -> Option<(&'a str, &'a str)>
     ensures some { IfSome result (λ f. EndsAtTag (folded name.now) text.now f.0.now f.1.now) }
     ensures none { IfNone result (LacksEnd (folded name.now) text.now) }

@@ -1,4 +1,4 @@
-//! Reading tags and texts into a tree.
+//! The parser's state, and its steps: each reads one token into the tree.
 
 ghost use Rattle.std.specs.Prelude.{◌≡◌, ◌≢◌, ◌<◌, ◌+◌, ◌++◌, [], None, Some, codes};
 ghost use Rattle.std.specs.Prelude.{IfOk, length};
@@ -11,12 +11,12 @@ ghost use Rattle.dom_markup.specs.Token.{contents_in, doctype_item, mode_of};
 
 use crate::document::attributes::{attrs_of, folded_name};
 use crate::document::doctypes::Doctype;
-use crate::document::front::{Front, declared_doctype, front_at};
-use crate::document::growing::Growing;
+use crate::document::front::{Lexeme, declared_doctype, front_at};
+use crate::document::growing::TreeUnderConstruction;
 use crate::document::names::{is_template, names_element};
 use crate::document::scan::{ByteClass, split_front};
 use crate::document::tags::close_tag;
-use crate::document::within::{Within, within_named};
+use crate::document::within::{ContentModel, within_named};
 use crate::names::is_void_name;
 use crate::references::decode;
 use dom_nodes::fault::{MarkupFaultKind, OutOfMemory};
@@ -28,8 +28,8 @@ use dom_nodes::words::is_same_word;
 use dom_trees::tree::Tree;
 use std::alloc::Global;
 
-/// What a start tag holds besides attributes: the name as it is written, the element's local name,
-/// and whether the element is void.
+/// What a start tag contains besides attributes: the name as in the source, the element's local
+/// name, and whether the element is void.
 #[derive(Drop)]
 struct Started<'a> {
     written: &'a str,
@@ -37,7 +37,7 @@ struct Started<'a> {
     void: bool,
 }
 
-/// Empties a list. Most are empty already.
+/// Empties a list. Most are already empty.
 #[inline(always)]
 fn empty(attrs: &mut Vec<Attr>)
     ensures { attrs.new.items ≡ [] }
@@ -47,8 +47,8 @@ fn empty(attrs: &mut Vec<Attr>)
     }
 }
 
-/// What a start tag holds, which is taken while it is scanned, and what follows it. It stands here
-/// behind its `<`. Its attributes are put into the vector, which is empty.
+/// Reads a start tag, whose `<` is already read: returns its name and the text after the tag, and
+/// puts its attributes into `attrs`, which must be empty.
 fn start_tag_of<'a>(
     alloc: Global,
     tag: &'a str,
@@ -79,7 +79,7 @@ fn start_tag_of<'a>(
     ))
 }
 
-/// The node of a doctype.
+/// Returns the node of a doctype. Fails only when memory runs out.
 fn doctype_of(alloc: Global, written: Doctype) -> Result<NodeData, OutOfMemory>
     ensures doctype { IfOk result (λ content. content ≡ doctype_data written.entry) }
     ensures plain { IfOk result (λ content. IsPlainData content) }
@@ -94,47 +94,48 @@ fn doctype_of(alloc: Global, written: Doctype) -> Result<NodeData, OutOfMemory>
     })
 }
 
-/// What a text stands for: a raw one for itself, in every other the references are read.
-fn contents_of(alloc: Global, text: &str, within: Within) -> Result<Text, OutOfMemory>
+/// Returns the contents of a text node: raw text unchanged, any other text with its character
+/// references resolved.
+fn contents_of(alloc: Global, text: &str, within: ContentModel) -> Result<Text, OutOfMemory>
     ensures { IfOk result (λ contents. contents ≡ contents_in (mode_of within.entry) text.now) }
 {
     match within {
-        Within::Markup => decode(alloc, text),
-        Within::Text(_) => decode(alloc, text),
-        Within::RawText(_) => Text::new(alloc, text),
+        ContentModel::Markup => decode(alloc, text),
+        ContentModel::Text(_) => decode(alloc, text),
+        ContentModel::RawText(_) => Text::new(alloc, text),
     }
 }
 
-/// An open element: the number of the node below which its children stand, and its name as it is
-/// written.
+/// An open element: the id of the node that gets its children, and its name as in the source.
 #[derive(Clone, Copy)]
 struct Open<'a> {
     number: NodeId,
     name: &'a str,
 }
 
-/// What follows an item that was read, and how that is read.
+/// The text after a token, and the mode in which it is read.
 #[derive(Clone, Copy)]
 pub struct Behind<'a> {
     pub rest: &'a str,
-    pub within: Within<'a>,
+    pub within: ContentModel<'a>,
 }
 
-/// Markup that follows an item.
+/// Returns this text, to be read as markup.
 fn markup_behind(rest: &str) -> Behind<'_>
     ensures rest { result.rest.now ≡ rest.now }
     ensures mode { mode_of result.within ≡ markup }
 {
     Behind {
         rest,
-        within: Within::Markup,
+        within: ContentModel::Markup,
     }
 }
 
-/// What has been read of a document, and the vector into which a tag's attributes are read.
+/// The state of the parser: the tree so far, the stack of open elements, and a vector for the
+/// attributes of the current tag.
 #[derive(Drop)]
 pub struct Reader<'a> {
-    pub tree: Growing<'a>,
+    pub tree: TreeUnderConstruction<'a>,
     stack: Vec<Open<'a>>,
     spare: Vec<Attr>,
 }
@@ -142,18 +143,18 @@ pub struct Reader<'a> {
 impl<'a> Reader<'a> {
     ghost use Rattle.dom_links.specs.Growth.{with_child, with_template};
     ghost use Rattle.dom_markup.specs.Frames.{children_place};
-    ghost use Rattle.dom_markup.specs.Front.{BeginsLetter, IsNoComment};
-    ghost use Rattle.dom_markup.specs.Growing.{plain_element};
+    ghost use Rattle.dom_markup.specs.Lexeme.{BeginsLetter, IsNoComment};
+    ghost use Rattle.dom_markup.specs.TreeUnderConstruction.{plain_element};
     ghost use Rattle.dom_markup.specs.Markup.{Item};
     ghost use Rattle.dom_markup.specs.Reader.{AfterItems, EndsReading, Grows, IsReading};
     ghost use Rattle.dom_markup.specs.Reader.{ReadsFront, ReadsItem, leaf_item, parent_number};
     ghost use Rattle.dom_markup.specs.Reader.{with_started};
 
-    /// A reader that has read nothing.
+    /// Returns a parser that has read nothing. Fails only when memory runs out.
     pub fn new(alloc: Global) -> Result<Reader<'a>, OutOfMemory>
         ensures { IfOk result (λ reader. AfterItems [] reader) }
     {
-        let tree = Growing::new(alloc)?;
+        let tree = TreeUnderConstruction::new(alloc)?;
         Ok(Reader {
             tree,
             stack: Vec::new(alloc),
@@ -161,8 +162,8 @@ impl<'a> Reader<'a> {
         })
     }
 
-    /// The number of the innermost open element, of its contents where it is a template, or of the
-    /// document.
+    /// Returns the id of the node that gets the next child: the innermost open element (its
+    /// contents, if it is a template), or the document.
     fn parent(&self) -> NodeId
         ensures { result ≡ parent_number self.now }
     {
@@ -172,7 +173,7 @@ impl<'a> Reader<'a> {
         }
     }
 
-    /// Makes a node as the last child of the innermost open element.
+    /// Makes a node as the last child of the innermost open element, and returns its id.
     #[inline(always)]
     fn append(&mut self, content: NodeData) -> Result<NodeId, MarkupFaultKind>
         requires reading { IsReading self.old }
@@ -184,7 +185,7 @@ impl<'a> Reader<'a> {
         self.tree.append(&parent, content)
     }
 
-    /// Makes a text as the last child of the innermost open element.
+    /// Makes a text as the last child of the innermost open element, and returns its id.
     fn append_text(&mut self, text: &'a str) -> Result<NodeId, MarkupFaultKind>
         requires { IsReading self.old }
         ensures { Grows self.old self.new result (length self.old.tree.content)
@@ -194,8 +195,8 @@ impl<'a> Reader<'a> {
         self.tree.append_text(&parent, text)
     }
 
-    /// Makes an element without contents, with the attributes that were read, as the last child of
-    /// the innermost open element.
+    /// Makes an element that is no template as the last child of the innermost open element, with
+    /// the attributes of the current tag, and returns its id.
     fn append_plain(&mut self, name: QualName) -> Result<NodeId, MarkupFaultKind>
         requires { IsReading self.old }
         ensures { let element = plain_element name self.old.spare.items in
@@ -206,8 +207,8 @@ impl<'a> Reader<'a> {
         self.tree.append_element(&parent, name, &mut self.spare)
     }
 
-    /// Makes an element with contents, with the attributes that were read, as the last child of the
-    /// innermost open element, and returns the contents' number.
+    /// Makes a template as the last child of the innermost open element, with the attributes of the
+    /// current tag, and returns the id of its contents fragment.
     fn append_template(&mut self, name: QualName) -> Result<NodeId, MarkupFaultKind>
         requires { IsReading self.old }
         ensures { let contents = length self.old.tree.content + 1 in
@@ -219,9 +220,9 @@ impl<'a> Reader<'a> {
         self.tree.append_template(&parent, name, &mut self.spare)
     }
 
-    /// Makes an element with the attributes that were read as the last child of the innermost open
-    /// element, with contents where it is a template, and returns below which number its children
-    /// stand.
+    /// Makes the element of a start tag as the last child of the innermost open element, and
+    /// returns the id of the node that gets its children: the contents fragment, if it is a
+    /// template.
     fn append_element(&mut self, started: Started) -> Result<NodeId, MarkupFaultKind>
         requires { IsReading self.old }
         ensures { Grows self.old self.new result
@@ -236,7 +237,7 @@ impl<'a> Reader<'a> {
         self.append_template(name)
     }
 
-    /// Reads the text or the comment of this content.
+    /// Appends a text node or a comment node.
     #[inline(always)]
     fn read_leaf(&mut self, content: NodeData) -> Result<(), MarkupFaultKind>
         requires reading { IsReading self.old }
@@ -248,12 +249,12 @@ impl<'a> Reader<'a> {
         Ok(())
     }
 
-    /// Reads a text.
+    /// Appends a text node.
     fn read_text(
         &mut self,
         alloc: Global,
         text: &str,
-        within: Within,
+        within: ContentModel,
     ) -> Result<(), MarkupFaultKind>
         requires { IsReading self.old }
         ensures { let contents = contents_in (mode_of within.entry) text.now in
@@ -265,7 +266,7 @@ impl<'a> Reader<'a> {
         self.read_leaf(NodeData::Text { contents })
     }
 
-    /// Reads a text that stands for itself.
+    /// Appends the node of a text that contains no character reference.
     fn read_plain(&mut self, text: &'a str) -> Result<(), MarkupFaultKind>
         requires { IsReading self.old }
         ensures { ReadsItem (Item.characters text.now) self.old self.new result }
@@ -274,7 +275,7 @@ impl<'a> Reader<'a> {
         Ok(())
     }
 
-    /// Reads a comment of these contents.
+    /// Appends a comment node.
     fn read_comment(&mut self, alloc: Global, written: &str) -> Result<(), MarkupFaultKind>
         requires { IsReading self.old }
         ensures { ReadsItem (Item.comment written.now) self.old self.new result }
@@ -285,7 +286,7 @@ impl<'a> Reader<'a> {
         self.read_leaf(NodeData::Comment { contents })
     }
 
-    /// Reads a doctype, which stands where no element is open.
+    /// Appends a doctype node. Fails with `MisplacedDoctype` if an element is open.
     fn read_doctype(&mut self, alloc: Global, written: Doctype) -> Result<(), MarkupFaultKind>
         requires { IsReading self.old }
         ensures { ReadsItem (doctype_item written.entry) self.old self.new result }
@@ -300,7 +301,7 @@ impl<'a> Reader<'a> {
         Ok(())
     }
 
-    /// Reads a declaration, which stands here behind its `<!`. Doctypes are the only ones.
+    /// Reads a declaration, whose `<!` is already read. Only a doctype is allowed.
     #[inline(never)]
     fn read_declaration(
         &mut self,
@@ -316,7 +317,8 @@ impl<'a> Reader<'a> {
         Ok(markup_behind(rest))
     }
 
-    /// The same. What the call returns has a place in memory, which is set up where this begins.
+    /// Calls `read_declaration`. The result of that call needs a place in memory, which is set up
+    /// here, so that other tokens don't pay for it.
     #[inline(always)]
     fn read_declared(&mut self, alloc: Global, tag: &'a str) -> Result<Behind<'a>, MarkupFaultKind>
         requires reading { IsReading self.old }
@@ -327,7 +329,8 @@ impl<'a> Reader<'a> {
         Ok(behind)
     }
 
-    /// Reads an end tag of this name.
+    /// Closes the innermost open element at an end tag of this name. Fails with `StrayEnd` if no
+    /// element is open, and with `MismatchedEnd` if the innermost has another name.
     fn read_end(&mut self, name: &str) -> Result<(), MarkupFaultKind>
         ensures { ReadsItem (Item.end_tag (folded name.now)) self.old self.new result }
     {
@@ -343,7 +346,7 @@ impl<'a> Reader<'a> {
         Ok(())
     }
 
-    /// Reads a start tag, which stands here behind its `<`.
+    /// Reads a start tag, whose `<` is already read.
     #[inline(always)]
     fn read_start(&mut self, alloc: Global, tag: &'a str) -> Result<Behind<'a>, MarkupFaultKind>
         requires reading { IsReading self.old }
@@ -366,14 +369,14 @@ impl<'a> Reader<'a> {
         }
     }
 
-    /// Reads the item at the front of what is left, and returns what follows it. `Err` where none
-    /// begins there, for a limit, or where no trees have such items.
+    /// Reads the token at the start of the text, and returns what follows it. Fails if no token
+    /// starts there, if the token is out of place, or with a limit.
     #[inline(always)]
     pub fn read(
         &mut self,
         alloc: Global,
         left: &'a str,
-        within: Within<'a>,
+        within: ContentModel<'a>,
     ) -> Result<Behind<'a>, MarkupFaultKind>
         requires reading { IsReading self.old }
         requires some { left.now ≢ [] }
@@ -381,28 +384,29 @@ impl<'a> Reader<'a> {
     {
         let (front, rest) = front_at(left, within)?;
         match front {
-            Front::StartTag => self.read_start(alloc, rest),
-            Front::Text(text) => {
+            Lexeme::StartTag => self.read_start(alloc, rest),
+            Lexeme::Text(text) => {
                 self.read_text(alloc, text, within)?;
                 Ok(Behind { rest, within })
             }
-            Front::Plain(text) => {
+            Lexeme::Plain(text) => {
                 self.read_plain(text)?;
                 Ok(Behind { rest, within })
             }
-            Front::EndTag(name) => {
+            Lexeme::EndTag(name) => {
                 self.read_end(name)?;
                 Ok(markup_behind(rest))
             }
-            Front::Comment(contents) => {
+            Lexeme::Comment(contents) => {
                 self.read_comment(alloc, contents)?;
                 Ok(markup_behind(rest))
             }
-            Front::Declaration => { self.read_declared(alloc, rest) }
+            Lexeme::Declaration => { self.read_declared(alloc, rest) }
         }
     }
 
-    /// The tree, once all is read; `Unclosed` where an element is open.
+    /// Returns the tree after the last token. Fails with `Unclosed` if an element is open, and with
+    /// `Memory` if memory runs out.
     pub fn finish(self) -> Result<Tree, MarkupFaultKind>
         ensures { EndsReading self.entry result }
     {

@@ -1,4 +1,5 @@
-//! Fronts of a text: whitespace, names, attributes, the end of a start tag.
+//! Splitting whitespace, names, attributes, texts and the end of a start tag off the start of a
+//! text.
 
 ghost use Rattle.std.specs.Prelude.{◌≡◌, ◌≤◌, ◌<◌, not, true, List, ℕ, ◌∷◌, ◌++◌};
 ghost use Rattle.std.specs.Prelude.{IfNone, IfSome, codes, drop, length, map};
@@ -20,15 +21,17 @@ use crate::document::names::is_letter;
 use crate::find::{find_before, find_byte};
 use std::simd::prelude::*;
 
-/// A class of bytes, of which runs of markup are made.
+/// A class of bytes.
 #[derive(Clone, Copy)]
 pub enum ByteClass {
     Whitespace,
     Name,
+    /// The bytes of an unquoted attribute value.
     Bare,
 }
 
-/// Tab, line feed, form feed, carriage return and space. All above a space are tested first.
+/// Returns whether the byte is a tab, line feed, form feed, carriage return or space. Bytes above a
+/// space, which are the most frequent, are tested first.
 #[inline(always)]
 fn is_whitespace(byte: u8) -> bool
     ensures { result ≡ is_whitespace byte }
@@ -39,7 +42,8 @@ fn is_whitespace(byte: u8) -> bool
     matches!(byte, b'\t' | b'\n' | 0x0c | b'\r' | b' ')
 }
 
-/// Whether a byte may stand in a name. Letters are tested first: all above `>` may.
+/// Returns whether a byte may occur in a name. All bytes above `>` may, so letters are tested
+/// first.
 #[inline(always)]
 fn is_name_byte(byte: u8) -> bool
     ensures { result ≡ is_name_byte byte }
@@ -51,7 +55,7 @@ fn is_name_byte(byte: u8) -> bool
 }
 
 impl ByteClass {
-    /// Whether a byte is of this kind.
+    /// Returns whether a byte belongs to this class.
     #[inline(always)]
     fn pass(self, byte: u8) -> bool
         ensures { result ≡ passes self byte }
@@ -64,7 +68,7 @@ impl ByteClass {
     }
 }
 
-/// The same as `class_len`, one byte after the other.
+/// Returns how many bytes at the start belong to the class, tested one after the other.
 #[inline(always)]
 fn front_len(byte_class: ByteClass, bytes: &[u8]) -> usize
     ensures { result ≡ prefix_len (passes byte_class) bytes.now }
@@ -77,7 +81,7 @@ fn front_len(byte_class: ByteClass, bytes: &[u8]) -> usize
     bytes.len()
 }
 
-/// Which of the bytes are no more than `>`, a bit for each.
+/// Returns a bit mask of the bytes that are at most `>`.
 #[inline(always)]
 fn low_bytes(bytes: u8x16) -> u64
     ensures { result ≡ mask_l (map is_low bytes) }
@@ -85,7 +89,7 @@ fn low_bytes(bytes: u8x16) -> u64
     bytes.simd_le(u8x16::splat(b'>')).to_bitmask()
 }
 
-/// How many of the first 16 bytes stand before one that is no more than `>`.
+/// Returns how many of the first 16 bytes come before the first that is at most `>`.
 #[inline(always)]
 fn high_len(bytes: &[u8]) -> usize
     requires { 16 ≤ length bytes.now }
@@ -98,8 +102,8 @@ fn high_len(bytes: &[u8]) -> usize
     low.trailing_zeros() as usize
 }
 
-/// How many bytes of a name stand at the front. Those above `>` are tested by 16 at once, and they
-/// are the whole of most names.
+/// Returns how many bytes at the start may occur in a name. Bytes above `>` are tested 16 at a
+/// time; most names consist of these alone.
 #[inline(always)]
 fn name_len(bytes: &[u8]) -> usize
     ensures { result ≡ prefix_len is_name_byte bytes.now }
@@ -111,7 +115,7 @@ fn name_len(bytes: &[u8]) -> usize
     high + front_len(ByteClass::Name, bytes_from(bytes, high))
 }
 
-/// How many bytes of this kind stand at the front.
+/// Returns how many bytes at the start belong to the class.
 #[inline(always)]
 fn class_len(byte_class: ByteClass, bytes: &[u8]) -> usize
     ensures { result ≡ prefix_len (passes byte_class) bytes.now }
@@ -122,7 +126,7 @@ fn class_len(byte_class: ByteClass, bytes: &[u8]) -> usize
     }
 }
 
-/// The front that is of this kind, as far as it goes, and what follows it.
+/// Splits the longest run of this class off the start of the text; returns the run and the rest.
 #[inline(always)]
 pub fn split_front(byte_class: ByteClass, text: &str) -> (&str, &str)
     ensures { Splits (passes byte_class) text.now result.0.now result.1.now }
@@ -130,7 +134,7 @@ pub fn split_front(byte_class: ByteClass, text: &str) -> (&str, &str)
     text.split_at(class_len(byte_class, text.as_bytes()))
 }
 
-/// What follows the letter at the front, if it stands there.
+/// Returns the rest of the text, if it starts with this ASCII character.
 #[inline(always)]
 pub fn strip(text: &str, letter: char) -> Option<&str>
     requires { letter < 128 }
@@ -145,7 +149,7 @@ pub fn strip(text: &str, letter: char) -> Option<&str>
     Some(&text[1..])
 }
 
-/// What follows the front, if the text begins with it.
+/// Returns the rest of the text, if it starts with `front`.
 pub fn strip_all<'a>(text: &'a str, front: &str) -> Option<&'a str>
     ensures { Leaves (λ rest. text.now ≡ front.now ++ rest) result }
 {
@@ -154,14 +158,14 @@ pub fn strip_all<'a>(text: &'a str, front: &str) -> Option<&'a str>
 
 // ---- texts
 
-/// Whether markup begins at a `<` with this byte behind it.
+/// Returns whether a `<` followed by this byte starts a tag, comment, doctype or instruction.
 fn opens_markup(byte: u8) -> bool
     ensures { result ≡ opens_markup byte }
 {
     is_letter(byte) || matches!(byte, b'/' | b'!' | b'?')
 }
 
-/// Whether a tag, a comment, a doctype or an instruction begins here.
+/// Returns whether a tag, a comment, a doctype or a processing instruction starts here.
 pub fn begins_markup(bytes: &[u8]) -> bool
     ensures { result ≡ begins_markup bytes.now }
 {
@@ -171,7 +175,7 @@ pub fn begins_markup(bytes: &[u8]) -> bool
     *first == b'<' && opens_markup(*second)
 }
 
-/// The bytes from a place on.
+/// Returns the bytes from the offset `at` on.
 #[inline(always)]
 pub fn bytes_from(bytes: &[u8], at: usize) -> &[u8]
     requires { at ≤ length bytes.now }
@@ -181,7 +185,7 @@ pub fn bytes_from(bytes: &[u8], at: usize) -> &[u8]
     rest
 }
 
-/// How many bytes stand before the first place where markup begins.
+/// Returns how many bytes come before the first tag, comment, doctype or processing instruction.
 fn text_len(bytes: &[u8]) -> usize
     ensures { result ≡ length (text_front bytes.now) }
 {
@@ -196,7 +200,7 @@ fn text_len(bytes: &[u8]) -> usize
     bytes.len()
 }
 
-/// The text up to the first place where markup begins, and what follows it.
+/// Splits the text before the first tag, comment, doctype or processing instruction.
 #[inline(always)]
 pub fn split_text(text: &str) -> (&str, &str)
     ensures front { result.0.now ≡ text_front text.now }
@@ -205,7 +209,8 @@ pub fn split_text(text: &str) -> (&str, &str)
     text.split_at(text_len(text.as_bytes()))
 }
 
-/// How many bytes stand before the first `<`, if markup begins there and no `&` stands before it.
+/// Returns the offset of the first `<`, if a tag or the like starts there and no `&` comes before
+/// it.
 #[inline(always)]
 fn plain_len(bytes: &[u8]) -> Option<usize>
     ensures len { IfSome result (λ len. len ≡ length (text_front bytes.now)) }
@@ -218,8 +223,8 @@ fn plain_len(bytes: &[u8]) -> Option<usize>
     Some(at)
 }
 
-/// The same as `split_text`, if the text has no `<` and no reference and sixteen bytes or more
-/// follow.
+/// Splits like `split_text`, in the common case alone: the first `<` starts a tag or the like, no
+/// `&` comes before it, and it is found at least sixteen bytes at a time. Otherwise `None`.
 #[inline(always)]
 pub fn split_plain(text: &str) -> Option<(&str, &str)>
     ensures front { IfSome result (λ found. found.0.now ≡ text_front text.now) }
@@ -230,9 +235,9 @@ pub fn split_plain(text: &str) -> Option<(&str, &str)>
     Some(text.split_at(len))
 }
 
-/// About how many nodes the text has: as many as it has `<`, for an element with a text has two of
-/// both. Only the room reserved for nodes depends on it, so a quarter of the text is counted, and
-/// four times that count and a little more is returned.
+/// Estimates how many nodes the text has: about as many as it has `<`, since an element with a text
+/// has two of both. Only the reserved room depends on the estimate, so a quarter of the text is
+/// counted, and four times that count and a little more is returned.
 pub fn estimate_nodes(text: &str) -> usize {
     let bytes = text.as_bytes();
     let mut count: usize = 0;
@@ -248,7 +253,8 @@ pub fn estimate_nodes(text: &str) -> usize {
 
 // ---- comments
 
-/// The contents of a comment, behind its `<!--`, and what follows its first `-->`.
+/// Returns the contents of a comment, whose `<!--` is already read, and the text after its first
+/// `-->`; `None` if there is no `-->`.
 pub fn comment_at(text: &str) -> Option<(&str, &str)>
     ensures some { IfSome result (λ found.
         EndsAtMark (codes "-->") text.now found.0.now found.1.now) }
@@ -260,7 +266,7 @@ pub fn comment_at(text: &str) -> Option<(&str, &str)>
 
 // ---- attributes
 
-/// What stands before the first such letter, and what follows it.
+/// Splits the text at the first occurrence of this ASCII character, which is left out.
 #[inline(always)]
 pub fn split_letter(text: &str, letter: u8) -> Option<(&str, &str)>
     requires { letter < 128 }
@@ -271,7 +277,7 @@ pub fn split_letter(text: &str, letter: u8) -> Option<(&str, &str)>
     Some((&text[..at], &text[at + 1..]))
 }
 
-/// The value at the front as it is written, without its quotes, and what follows it.
+/// Returns the attribute value at the start, as in the source and without quotes, and the rest.
 #[inline(always)]
 fn value_at(text: &str) -> Option<(&str, &str)>
     ensures { Takes (BeginsValue text.now) result }
@@ -291,8 +297,8 @@ fn value_at(text: &str) -> Option<(&str, &str)>
     Some((bare, rest))
 }
 
-/// The value behind an attribute's name as it is written, and what follows it; empty where there is
-/// none.
+/// Returns the value after an attribute's name, as in the source, and the rest. The value is empty
+/// if there is no `=`. `None` if a value is missing after the `=`.
 #[inline(never)]
 fn value_behind(after: &str) -> Option<(&str, &str)>
     ensures some { IfSome result (λ found. HasValue after.now (decoded found.0.now) found.1.now) }
@@ -307,8 +313,8 @@ fn value_behind(after: &str) -> Option<(&str, &str)>
     Some(found)
 }
 
-/// What stands before the first `"`, if no `&` stands in it, and what follows that quote. It isn't
-/// found where fewer than sixteen bytes are left.
+/// Splits the text at the first `"`, if no `&` comes before it. Returns `None` also if the quote is
+/// among the last bytes, which are not searched.
 #[inline(always)]
 fn split_plain_value(text: &str) -> Option<(&str, &str)>
     ensures some { IfSome result (λ found. EndsAtByte 34 text.now found.0.now found.1.now) }
@@ -318,8 +324,8 @@ fn split_plain_value(text: &str) -> Option<(&str, &str)>
     Some((&text[..at], &text[at + 1..]))
 }
 
-/// The value that is written in the common way right behind an attribute's name, if it stands for
-/// itself, and what follows it.
+/// Returns the value and the rest in the common case: `="value"` right after the name, without a
+/// character reference.
 #[inline(always)]
 fn plain_value(after: &str) -> Option<(&str, &str)>
     ensures some { IfSome result (λ found. HasValue after.now (decoded found.0.now) found.1.now) }
@@ -330,8 +336,8 @@ fn plain_value(after: &str) -> Option<(&str, &str)>
     Some((value, rest))
 }
 
-/// The value behind an attribute's name as it is written, what follows it, and whether it is known
-/// to stand for itself. Most values stand in double quotes and do.
+/// Returns the value after an attribute's name, as in the source, the rest, and whether the value
+/// is known to contain no character reference. Most values are in double quotes and contain none.
 #[inline(always)]
 fn noted_value(after: &str) -> Option<(&str, &str, bool)>
     ensures some { IfSome result (λ f. HasValue after.now (decoded f.0.now) f.1.now) }
@@ -345,7 +351,7 @@ fn noted_value(after: &str) -> Option<(&str, &str, bool)>
     Some((value, rest, false))
 }
 
-/// An attribute as it is written, and whether its value is known to stand for itself.
+/// An attribute as in the source, and whether its value is known to contain no character reference.
 #[derive(Clone, Copy)]
 pub struct Written<'a> {
     pub name: &'a str,
@@ -353,7 +359,7 @@ pub struct Written<'a> {
     pub is_plain: bool,
 }
 
-/// Whether whitespace stands at the front.
+/// Returns whether the text starts with whitespace.
 #[inline(always)]
 pub fn begins_space(text: &str) -> bool
     ensures { result ≡ begins_space text.now }
@@ -364,7 +370,7 @@ pub fn begins_space(text: &str) -> bool
     }
 }
 
-/// The name at the front behind whitespace, and what follows it. `None` where one of the two is
+/// Splits off whitespace and a name; returns the name and the rest, or `None` if one of the two is
 /// missing.
 #[inline(always)]
 fn spaced_name(text: &str) -> Option<(&str, &str)>
@@ -382,7 +388,8 @@ fn spaced_name(text: &str) -> Option<(&str, &str)>
     Some((name, behind))
 }
 
-/// The attribute at the front, and what follows it. Most tags end where no whitespace stands.
+/// Returns the attribute at the start and the rest, or `None`. Most tags end where there is no
+/// whitespace, so that is tested first.
 #[inline(always)]
 pub fn attribute_at(text: &str) -> Option<(Written<'_>, &str)>
     ensures some { IfSome result (λ f. BeginsAttribute text.now (attribute_in f.0) f.1.now) }
@@ -404,7 +411,7 @@ pub fn attribute_at(text: &str) -> Option<(Written<'_>, &str)>
     ))
 }
 
-/// What follows the end of a tag at the front, which may be a slash and `>`.
+/// Returns the text after the end of a tag, which is `>`, or also `/>` if `slash` is true.
 #[inline(always)]
 pub fn close_at(text: &str, slash: bool) -> Option<&str>
     ensures { Leaves (Closes slash text.now) result }
@@ -421,7 +428,7 @@ pub fn close_at(text: &str, slash: bool) -> Option<&str>
     Some(rest)
 }
 
-/// What follows the attributes at the front.
+/// Returns the text after all attributes at the start.
 pub fn attributes_end(text: &str) -> &str
     ensures { PastAttributes text.now result.now }
 {

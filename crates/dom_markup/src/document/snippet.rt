@@ -1,4 +1,4 @@
-//! Markup that was read to be put into trees.
+//! Markup that is parsed once, to be inserted into trees.
 
 ghost use Rattle.std.specs.Prelude.{◌≡◌, ◌≤◌, ◌∷◌, [], IfErr, IfOk, length};
 ghost use Rattle.dom_nodes.specs.Kinds.{is_doctype};
@@ -17,7 +17,7 @@ use dom_trees::tree::Tree;
 use std::alloc::Global;
 use std::marker::Model;
 
-/// What was read of markup, to be put into trees as often as is wanted. A contract sees it as the
+/// Parsed markup that can be inserted into trees any number of times. A contract sees it as the
 /// document's forest.
 #[derive(Drop)]
 pub struct Snippet {
@@ -43,7 +43,7 @@ impl Snippet {
     ghost use Rattle.dom_markup.specs.Refusals.{IsFaultAt, Refused};
     ghost use Rattle.dom_markup.specs.Setters.{putting, replacing};
 
-    /// Reads the text as `Document::parse` does, and refuses it so.
+    /// Parses the text as `Document::parse` does, and fails as it does.
     pub fn read(alloc: Global, text: &str) -> Result<Snippet, MarkupFault>
         ensures ok { IfOk result (λ snippet. IsSpelled text.now snippet) }
         ensures refused { IfErr result (λ fault. Refused text.now fault.kind) }
@@ -63,19 +63,22 @@ impl Snippet {
         })
     }
 
-    /// Puts copies of the nodes at the top, but for doctypes, with all that is below them, at a
-    /// place at a node of the tree. All is done or nothing, also where there is nothing to
-    /// put. Refused as `UnknownNode`; as `NoChildrenHere`, where the place is among the children of
-    /// a node that has none; as `RootOrFragment` by the node beside the place; as `TooManyNodes` or
-    /// `Memory`.
+    /// Inserts copies of the top-level nodes, without doctypes and with all their descendants, at a
+    /// place relative to the node `id` of the tree.
+    ///
+    /// If the call fails, the tree is unchanged; it checks the node and the place even if there is
+    /// nothing to insert. It fails with `UnknownNode`; with `NoChildrenHere`, if the place is among
+    /// the children of a node that can't have any; with `RootOrFragment`, if the place is beside a
+    /// node that can't have siblings; and with `TooManyNodes` or `Memory`.
     pub fn put_at(&self, tree: &mut Tree, id: &NodeId, place: Place) -> Result<(), EditFault>
         ensures { Edits result tree.old tree.new (putting place id.now self.now) }
     {
+        // Called for its contract alone: the links of this tree are consistent.
         self.tree.nodes();
         tree.merge_at(id, place, &self.tree, self.top_ids.as_slice())
     }
 
-    /// Where the nodes go that take the place of a node: none take none.
+    /// Returns the place for nodes that replace a node. If there are no nodes, nothing is replaced.
     pub(crate) fn replacing(&self) -> Place
         ensures { result ≡ replacing (top_nodes self.now) }
     {
@@ -86,8 +89,8 @@ impl Snippet {
         }
     }
 
-    /// The fragment that holds copies of the nodes at the top, but for doctypes, with all that is
-    /// below them. Refused as `TooManyNodes` or `Memory`.
+    /// Returns a fragment with copies of the top-level nodes, without doctypes and with all their
+    /// descendants. Fails with `TooManyNodes` or `Memory`.
     pub(super) fn fragment(&self) -> Result<Tree, EditFault>
         ensures ok { IfOk result (λ tree. tree ≡ fragment_read self.now) }
         ensures cause { IfErr result
@@ -97,7 +100,7 @@ impl Snippet {
     }
 }
 
-/// The nodes at the top of what was read, but for doctypes.
+/// Returns the ids of the root's children, without doctypes.
 fn top_nodes(tree: &Tree) -> Result<IdList, OutOfMemory>
     ensures { IfOk result (λ top_ids. top_ids ≡ top_nodes tree.now) }
 {

@@ -1,10 +1,10 @@
-//! Where tags end.
+//! The ends of tags.
 
 ghost use Rattle.std.specs.Prelude.{◌++◌, codes, IfNone, IfSome, MatchResult};
 ghost use Rattle.dom_markup.specs.Bytes.{folded};
 ghost use Rattle.dom_markup.specs.Markup.{BeginsEnd, Closes, BeginsNoEnd};
 ghost use Rattle.dom_markup.specs.ByteClasses.{ClosesNothing};
-ghost use Rattle.dom_markup.specs.Front.{TakesStart};
+ghost use Rattle.dom_markup.specs.Lexeme.{TakesStart};
 ghost use Rattle.dom_markup.specs.Names.{void_names};
 ghost use Rattle.dom_nodes.specs.Words.{is_among};
 
@@ -12,8 +12,8 @@ use crate::document::names::{is_void, names_element};
 use crate::document::scan::{ByteClass, attributes_end, close_at, split_front, strip};
 use dom_nodes::fault::MarkupFaultKind;
 
-/// What follows the end of a start tag, behind its attributes; that of a void element may be a
-/// slash and `>`.
+/// Returns the text after the end of a start tag, whose attributes are already read. The tag of a
+/// void element may end in `/>`. Fails with `SlashOnOpen` or `BadTag`.
 #[inline(always)]
 pub fn close_tag(close: &str, void: bool) -> Result<&str, MarkupFaultKind>
     ensures { MatchResult result (λ r. Closes void close.now r.now) (ClosesNothing void close.now) }
@@ -27,8 +27,8 @@ pub fn close_tag(close: &str, void: bool) -> Result<&str, MarkupFaultKind>
     Err(MarkupFaultKind::BadTag)
 }
 
-/// What follows the end of a start tag of this name, behind its attributes. Whether the element is
-/// void matters only where a slash ends the tag.
+/// Returns the text after the end of a start tag with this name, whose attributes are already read.
+/// Whether the element is void is looked up only if the tag ends in `/>`.
 #[inline(always)]
 fn close_named<'a>(name: &str, close: &'a str) -> Result<&'a str, MarkupFaultKind>
     ensures { let void = is_among (folded name.now) void_names in
@@ -40,7 +40,8 @@ fn close_named<'a>(name: &str, close: &'a str) -> Result<&'a str, MarkupFaultKin
     close_tag(close, is_void(name))
 }
 
-/// The name of the start tag behind its `<`, as it is written, and what follows the tag.
+/// Returns the name of a start tag as in the source, and the text after the tag. The `<` is already
+/// read.
 pub fn start_tag_end(tag: &str) -> Result<(&str, &str), MarkupFaultKind>
     ensures { TakesStart (codes "<" ++ tag.now) result }
 {
@@ -52,7 +53,8 @@ pub fn start_tag_end(tag: &str) -> Result<(&str, &str), MarkupFaultKind>
     Ok((name, rest))
 }
 
-/// The name of the end tag behind its `</`, as it is written, and what follows the tag.
+/// Returns the name of an end tag as in the source, and the text after the tag. The `</` is already
+/// read.
 #[inline(always)]
 pub fn end_tag_end(tag: &str) -> Option<(&str, &str)>
     ensures some { IfSome result (λ f. BeginsEnd (codes "</" ++ tag.now) (folded f.0.now) f.1.now) }

@@ -1,20 +1,20 @@
-//! Markup as a row of tags, texts, comments and doctypes.
+//! Markup as a sequence of tags, texts, comments and doctypes.
 
 ghost use Rattle.std.specs.Prelude.{◌≡◌, ◌++◌, ◌≢◌, [], List, ℕ, codes, length, MatchResult};
-ghost use Rattle.dom_markup.specs.Front.{IsNoComment};
+ghost use Rattle.dom_markup.specs.Lexeme.{IsNoComment};
 ghost use Rattle.dom_markup.specs.Names.{markup};
 ghost use Rattle.dom_markup.specs.Refusals.{StartCause};
 ghost use Rattle.dom_markup.specs.Token.{kind_of_text, mode_of};
 ghost use Rattle.dom_markup.specs.Tokens.{IsFound, TakesItem};
 
-use crate::document::front::{Front, declared_doctype, front_at};
+use crate::document::front::{Lexeme, declared_doctype, front_at};
 use crate::document::tags::start_tag_end;
-use crate::document::within::{Within, within_element};
+use crate::document::within::{ContentModel, within_element};
 use dom_nodes::fault::{MarkupFault, MarkupFaultKind};
 use std::marker::Model;
 
-/// What a token is. A text goes as far as it can. A `RawText` is the contents of a raw element,
-/// `title` or `textarea`.
+/// The kind of a token. A text is as long as possible. `RawText` is the text inside a raw text
+/// element, `title` or `textarea`.
 #[derive(Clone, Copy, PartialEq, Eq, Debug, Drop)]
 pub enum TokenKind {
     Text,
@@ -25,15 +25,16 @@ pub enum TokenKind {
     Doctype,
 }
 
-/// An item at the front: its kind, what follows it, and how that is read.
+/// The token at the start of a text: its kind, the text after it, and the mode in which that is
+/// read.
 #[derive(Clone, Copy)]
 struct Found<'a> {
     kind: TokenKind,
     rest: &'a str,
-    within: Within<'a>,
+    within: ContentModel<'a>,
 }
 
-/// An item that markup follows.
+/// Returns a token after which the text is read as markup.
 fn then_markup<'a>(kind: TokenKind, rest: &'a str) -> Found<'a>
     ensures kind { result.kind ≡ kind }
     ensures rest { result.rest.now ≡ rest.now }
@@ -42,22 +43,22 @@ fn then_markup<'a>(kind: TokenKind, rest: &'a str) -> Found<'a>
     Found {
         kind,
         rest,
-        within: Within::Markup,
+        within: ContentModel::Markup,
     }
 }
 
-/// What the texts that are read so are.
-fn kind_of_text(within: Within) -> TokenKind
+/// Returns the kind of a text that is read in this mode.
+fn kind_of_text(within: ContentModel) -> TokenKind
     ensures { result ≡ kind_of_text (mode_of within.entry) }
 {
     match within {
-        Within::Markup => TokenKind::Text,
-        Within::Text(_) => TokenKind::RawText,
-        Within::RawText(_) => TokenKind::RawText,
+        ContentModel::Markup => TokenKind::Text,
+        ContentModel::Text(_) => TokenKind::RawText,
+        ContentModel::RawText(_) => TokenKind::RawText,
     }
 }
 
-/// The start tag behind its `<`.
+/// Returns the start tag, whose `<` is already read.
 fn start_at(tag: &str) -> Result<Found<'_>, MarkupFaultKind>
     ensures { let t = codes "<" ++ tag.now in MatchResult result (IsFound markup t) (StartCause t) }
 {
@@ -69,7 +70,7 @@ fn start_at(tag: &str) -> Result<Found<'_>, MarkupFaultKind>
     })
 }
 
-/// The declaration behind its `<!`.
+/// Returns the declaration, whose `<!` is already read.
 fn declaration_at(tag: &str) -> Result<Found<'_>, MarkupFaultKind>
     requires { IsNoComment tag.now }
     ensures { TakesItem markup (codes "<!" ++ tag.now) result }
@@ -78,26 +79,26 @@ fn declaration_at(tag: &str) -> Result<Found<'_>, MarkupFaultKind>
     Ok(then_markup(TokenKind::Doctype, rest))
 }
 
-/// The item at the front.
-fn item_at<'a>(text: &'a str, within: Within<'a>) -> Result<Found<'a>, MarkupFaultKind>
+/// Returns the token at the start of the text.
+fn item_at<'a>(text: &'a str, within: ContentModel<'a>) -> Result<Found<'a>, MarkupFaultKind>
     requires { text.now ≢ [] }
     ensures { TakesItem (mode_of within.entry) text.now result }
 {
     let (front, rest) = front_at(text, within)?;
     match front {
-        Front::StartTag => start_at(rest),
-        Front::Text(_) | Front::Plain(_) => Ok(Found {
+        Lexeme::StartTag => start_at(rest),
+        Lexeme::Text(_) | Lexeme::Plain(_) => Ok(Found {
             kind: kind_of_text(within),
             rest,
             within,
         }),
-        Front::EndTag(_) => Ok(then_markup(TokenKind::EndTag, rest)),
-        Front::Comment(_) => Ok(then_markup(TokenKind::Comment, rest)),
-        Front::Declaration => declaration_at(rest),
+        Lexeme::EndTag(_) => Ok(then_markup(TokenKind::EndTag, rest)),
+        Lexeme::Comment(_) => Ok(then_markup(TokenKind::Comment, rest)),
+        Lexeme::Declaration => declaration_at(rest),
     }
 }
 
-/// What stands before the rest of a text.
+/// Returns the part of the text before its suffix `rest`.
 fn front_of<'a>(text: &'a str, rest: &str) -> &'a str
     requires { (front : List ℕ) × (text.now ≡ front ++ rest.now) }
     ensures { text.now ≡ result.now ++ rest.now }
@@ -106,8 +107,8 @@ fn front_of<'a>(text: &'a str, rest: &str) -> &'a str
     front
 }
 
-/// A tag, a text, a comment or a doctype: the slice of the source that it is, and the bytes where
-/// that begins and ends.
+/// A tag, a text, a comment or a doctype: its kind, its slice of the source, and the byte offsets
+/// at which that starts and ends.
 #[derive(Clone, Copy)]
 pub struct Token<'a> {
     pub kind: TokenKind,
@@ -116,16 +117,17 @@ pub struct Token<'a> {
     pub end: usize,
 }
 
-/// The tokens of a text, in order, one behind the other. They take no memory. `Err` stands where
-/// none of these begins, and after it there are no more: at a tag that isn't spelled (`BadTag`), a
-/// start tag that a slash ends though its element isn't void (`SlashOnOpen`), `<!--` without an end
-/// (`BadComment`), another `<!` that is no doctype (`BadDeclaration`), `<?` (`Instruction`), or
-/// where the text of an element has no end tag (`Unclosed`).
+/// An iterator over the tokens of a text, in order and without gaps. It allocates no memory.
+///
+/// It returns an error where no token starts, and then ends: for a malformed tag (`BadTag`), a
+/// start tag that ends in `/>` though its element isn't void (`SlashOnOpen`), a `<!--` without
+/// `-->` (`BadComment`), another `<!` that is no doctype (`BadDeclaration`), a `<?`
+/// (`Instruction`), or the text of an element whose end tag is missing (`Unclosed`).
 #[derive(Drop)]
 pub struct Tokens<'a> {
     rest: &'a str,
     at: usize,
-    within: Within<'a>,
+    within: ContentModel<'a>,
 }
 
 impl<'a> Model for Tokens<'a> {
@@ -141,14 +143,14 @@ impl<'a> Model for Tokens<'a> {
 }
 
 impl<'a> Tokens<'a> {
-    /// The tokens of the whole text.
+    /// Returns an iterator over the tokens of the whole text.
     pub fn new(source: &'a str) -> Tokens<'a>
         ensures { result ≡ record { text = source.now; at = 0; mode = markup } }
     {
         Tokens {
             rest: source,
             at: 0,
-            within: Within::Markup,
+            within: ContentModel::Markup,
         }
     }
 }

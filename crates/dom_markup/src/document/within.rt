@@ -1,4 +1,4 @@
-//! How what follows a tag is read.
+//! The modes in which the text after a token is read.
 
 ghost use Rattle.std.specs.Prelude.{◌≡◌};
 ghost use Rattle.dom_markup.specs.Bytes.{folded};
@@ -9,38 +9,38 @@ use crate::document::names::{holds_text, is_raw};
 use crate::names::is_raw_name;
 use dom_nodes::name::LocalRef;
 
-/// What is read next: markup, or the text of an element, whose name stands here as its start tag
-/// has it. The references in a `Text` are read, a `RawText` is read as it is.
+/// The mode in which the next text is read: as markup, or as the text of an element, whose name is
+/// as in its start tag. Character references are resolved in a `Text` and not in a `RawText`.
 #[derive(Clone, Copy)]
-pub enum Within<'a> {
+pub enum ContentModel<'a> {
     Markup,
     Text(&'a str),
     RawText(&'a str),
 }
 
-/// How the contents of an element are read.
-pub fn within_element(name: &str) -> Within<'_>
+/// Returns the mode in which the content of an element is read.
+pub fn within_element(name: &str) -> ContentModel<'_>
     ensures { mode_of result ≡ mode_in (folded name.now) }
 {
     if is_raw(name) {
-        return Within::RawText(name);
+        return ContentModel::RawText(name);
     }
     if holds_text(name) {
-        return Within::Text(name);
+        return ContentModel::Text(name);
     }
-    Within::Markup
+    ContentModel::Markup
 }
 
-/// The same of an element whose local name is known too.
-pub fn within_named<'a>(written: &'a str, name: &LocalRef<'_>) -> Within<'a>
+/// Returns the mode in which the content of an element is read, whose local name is known too.
+pub fn within_named<'a>(written: &'a str, name: &LocalRef<'_>) -> ContentModel<'a>
     requires { name.now ≡ folded written.now }
     ensures { mode_of result ≡ mode_in name.now }
 {
     if is_raw_name(name) {
-        return Within::RawText(written);
+        return ContentModel::RawText(written);
     }
     if holds_text(written) {
-        return Within::Text(written);
+        return ContentModel::Text(written);
     }
-    Within::Markup
+    ContentModel::Markup
 }

@@ -1,4 +1,4 @@
-//! What escaping alone makes sure of.
+//! Laws about escaping.
 
 ghost use Rattle.std.specs.Prelude.{◌≡◌, true, ℕ, List};
 ghost use Rattle.std.specs.Str.{IsUtf8};
@@ -7,23 +7,23 @@ ghost use Rattle.dom_nodes.specs.Escaping.{escaped_value};
 ghost use Rattle.dom_markup.specs.Escaping.{escaped_text, lacks};
 ghost use Rattle.dom_markup.specs.References.{decoded};
 
-/// An escaped text begins no tag and ends none.
+/// An escaped text contains no `<` and no `>`, so it neither starts nor ends a tag.
 pub fn text_is_inert()
     ensures less { (text : List ℕ) → lacks less_than (escaped_text text) ≡ true }
     ensures greater { (text : List ℕ) → lacks greater_than (escaped_text text) ≡ true }
 {}
 
-/// An escaped value doesn't end its quotes.
+/// An escaped value contains no `"`, so it doesn't end its quotes.
 pub fn value_is_inert()
     ensures { (text : List ℕ) → lacks double_quote (escaped_value text) ≡ true }
 {}
 
-/// An escaped text with its references read is the text again.
+/// Resolving the references of an escaped text gives the text again.
 pub fn text_reads_back()
     ensures { (text : List ℕ) → IsUtf8 text → decoded (escaped_text text) ≡ text }
 {}
 
-/// An escaped value with its references read is the value again.
+/// Resolving the references of an escaped value gives the value again.
 pub fn value_reads_back()
     ensures { (text : List ℕ) → IsUtf8 text → decoded (escaped_value text) ≡ text }
 {}

@@ -1,4 +1,4 @@
-//! What the faults of markup say of a text.
+//! Laws about the errors of the parser.
 
 ghost use Rattle.std.specs.Prelude.{[], List, ℕ};
 ghost use Rattle.dom_nodes.specs.declared.fault.MarkupFaultKind.{MarkupFaultKind};
@@ -9,9 +9,10 @@ ghost use Rattle.dom_markup.specs.Names.{Mode, markup};
 ghost use Rattle.dom_markup.specs.Refusals.{Cause, IsFaultAt, Refused};
 ghost use Rattle.dom_markup.specs.ValueTrees.{ValueTrees};
 
-/// Where no token begins, few kinds of faults occur. For a text that is cut into tokens whole,
-/// only faults of nesting and limits occur, and for one that spells trees only limits. A bad
-/// comment needs `<!--`, an instruction `<?`, and a stray end `</`.
+/// Which kinds of faults can occur. Where no token starts, only the six kinds of `IsTokenFault`;
+/// for a text of complete tokens, only faults of nesting and limits; for a text that is markup,
+/// only limits. A `BadComment` needs `<!--` in the text, an `Instruction` `<?`, and a `StrayEnd`
+/// `</`.
 pub fn kinds_of_faults()
     ensures tokens { (m : Mode) (t : List ℕ) (k : MarkupFaultKind) → Cause m t k → IsTokenFault k }
     ensures nesting { (text : List ℕ) (at : ℕ) (kind : MarkupFaultKind) (items : List Item)

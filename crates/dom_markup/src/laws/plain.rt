@@ -1,4 +1,4 @@
-//! What holds of plain documents.
+//! Laws about plain documents, whose HTML is parsed as the same document again.
 
 ghost use Rattle.std.specs.Prelude.{◌≡◌, ℕ, List};
 ghost use Rattle.std.specs.Str.{IsUtf8};
@@ -19,47 +19,47 @@ use crate::laws::one_reading;
 use dom_links::laws::trees_of_a_forest;
 use dom_nodes::node_data::NodeData;
 
-/// The HTML of nodes that stand for some trees is that of the trees, and so is the HTML of a
-/// document.
+/// The HTML of nodes equals the HTML of the value trees that they are, and so for a whole document.
 pub fn html_of_trees()
     ensures nodes { (forest : Forest) → IsForest forest → NodesAreWrittenAsTrees forest }
     ensures document { (forest : Forest) → IsForest forest → DocumentIsWrittenAsTrees forest }
 {
+    // Laws are called for their contracts alone; they do nothing.
     trees_of_a_forest();
 }
 
-/// The HTML of a plain document spells the trees that the nodes below its root stand for.
+/// The HTML of a plain document is markup for the value trees below its root.
 pub fn plain_reads_back()
     ensures { (forest : Forest) → IsForest forest → IsPlain forest → SpellsItsTrees forest }
 {
     trees_of_a_forest();
 }
 
-/// The document that a text spells is plain, where no doctype has an identifier.
+/// A parsed document is plain, if no doctype has an identifier.
 pub fn what_is_read_is_plain()
     ensures { (text : List ℕ) (trees : ValueTrees) → IsUtf8 text → Spells text trees
         → HaveNoIdentifiers trees → IsPlain (document_of trees) }
 {}
 
-/// The nodes below the root of the document of some trees stand for these trees.
+/// The nodes below the root of a document made from value trees are these value trees.
 pub fn documents_stand_for_their_trees()
     ensures { (t : ValueTrees) → Represents (document_of t) (children_of (document_of t) 0) t }
 {}
 
-/// Nodes stand for one list of trees at most.
+/// A list of nodes is at most one list of value trees.
 pub fn one_meaning()
     ensures { (f : Forest) (ns : List ℕ) (a b : ValueTrees) → Represents f ns a → Represents f ns b
         → a ≡ b }
 {}
 
-/// Documents that stand for the same trees are the same tree.
+/// Documents with the same value trees below their roots are the same tree.
 pub fn documents_of_the_same_trees()
     ensures { (one other : Forest) → IsForest one → IsForest other → AreSameByTrees one other }
 {
     trees_of_a_forest();
 }
 
-/// The HTML of a plain document's root, or of its children, spells the same tree.
+/// The HTML of a plain document's root, and that of its children, is markup for the same tree.
 pub fn plain_documents_are_spelled()
     ensures root { (f : Forest) → IsForest f → IsPlain f → SpellsDocument (html_of f 0) f }
     ensures children { (f : Forest) → IsForest f → IsPlain f
@@ -68,7 +68,7 @@ pub fn plain_documents_are_spelled()
     trees_of_a_forest();
 }
 
-/// The document that a text spells is plain, where it has no doctype with an identifier.
+/// A parsed document is plain, if it has no doctype with an identifier.
 pub fn documents_without_identifiers_are_plain()
     ensures { (text : List ℕ) (trees : ValueTrees) → IsUtf8 text → Spells text trees
         → LacksIdentifiers (document_of trees) → IsPlain (document_of trees) }
@@ -76,7 +76,7 @@ pub fn documents_without_identifiers_are_plain()
     what_is_read_is_plain();
 }
 
-/// A text that spells a document spells no other tree.
+/// If a text is markup for a document, it is markup for no other tree.
 pub fn spelled_documents_are_the_same()
     ensures { (text : List ℕ) (forest : Forest) (trees : ValueTrees) → SpellsDocument text forest
         → Spells text trees → SameTree forest 0 (document_of trees) 0 }
@@ -84,7 +84,7 @@ pub fn spelled_documents_are_the_same()
     one_reading();
 }
 
-/// The document of any trees is a forest.
+/// The document made from any value trees is a well-formed forest.
 pub fn documents_are_forests()
     ensures { (trees : ValueTrees) → IsForest (document_of trees) }
 {}

@@ -1,4 +1,4 @@
-//! What joining of texts keeps.
+//! A law about joining adjacent texts.
 
 ghost use Rattle.std.specs.Prelude.{◌<◌, ℕ, length};
 ghost use Rattle.dom_links.specs.Forest.{Forest};
@@ -8,7 +8,7 @@ ghost use Rattle.dom_markup.specs.Joining.{HasUtf8Texts, WritesAlike};
 
 use dom_links::laws::joining_keeps_readings;
 
-/// Where rows of texts were joined, the HTML of the node and that of its children are as they were.
+/// Joining adjacent texts below a node changes neither its outer nor its inner HTML.
 pub fn joining_keeps_the_html()
     ensures { (x : ℕ) (forest : Forest) → IsForest forest → x < length forest.content
         → HasUtf8Texts forest → WritesAlike x (normalized x forest) forest }

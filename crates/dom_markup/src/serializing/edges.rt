@@ -1,4 +1,4 @@
-//! Puts a tree's text, edge by edge.
+//! Writes a tree as HTML without recursion: each node is entered and left once.
 
 ghost use Rattle.std.specs.Prelude.{◌≡◌};
 ghost use Rattle.dom_links.specs.Forest.{forest_of};
@@ -16,7 +16,7 @@ use dom_nodes::node_data::{NodeData, TreeNode};
 use dom_nodes::node_id::NodeId;
 use dom_trees::tree::Tree;
 
-/// The nodes that are written; a text is marked where it is written as it is.
+/// Which nodes are visited when HTML is written; a text is marked if it is not escaped.
 struct WrittenNodes;
 
 impl Descent for WrittenNodes {
@@ -35,7 +35,7 @@ impl Descent for WrittenNodes {
     }
 }
 
-/// Puts the node; nothing for an unknown number.
+/// Writes the HTML of a node; nothing if the tree has no such node.
 pub(super) fn put_node<P: PutText<W>, W>(tree: &Tree, id: NodeId, w: &mut W) -> Result<(), P::Fault>
     ensures { Writes (P.written w.old) (P.written w.new) result (html_of tree.now id) }
 {
@@ -44,7 +44,8 @@ pub(super) fn put_node<P: PutText<W>, W>(tree: &Tree, id: NodeId, w: &mut W) -> 
     put_edges::<P, W>(nodes, edges, w)
 }
 
-/// Puts the children of the node; nothing for an unknown number or a void element.
+/// Writes the HTML of a node's children; nothing for a void element or if the tree has no such
+/// node.
 pub(super) fn put_children<P: PutText<W>, W>(
     tree: &Tree,
     id: NodeId,
@@ -60,7 +61,7 @@ pub(super) fn put_children<P: PutText<W>, W>(
     put_edges::<P, W>(nodes, edges, w)
 }
 
-/// Whether nothing is written below the node.
+/// Returns whether the node is a void element, so nothing is written inside it.
 fn is_bare(nodes: &[TreeNode], id: NodeId) -> bool
     requires { IsSoundArena nodes.now }
     ensures { result ≡ is_bare (forest_of nodes.now) id }
@@ -71,7 +72,7 @@ fn is_bare(nodes: &[TreeNode], id: NodeId) -> bool
     }
 }
 
-/// Puts edges, one after another.
+/// Writes what each entering and leaving of a node contributes, in order.
 fn put_edges<P: PutText<W>, W>(
     nodes: &[TreeNode],
     mut edges: NodeEdges<'_, WrittenNodes>,
@@ -88,7 +89,7 @@ fn put_edges<P: PutText<W>, W>(
     Ok(())
 }
 
-/// Puts an edge.
+/// Writes the start of a node that is entered, or the end tag of one that is left.
 fn put_edge<P: PutText<W>, W>(
     nodes: &[TreeNode],
     escaper: &Escaper,

@@ -1,4 +1,4 @@
-//! What a node is written as, before and after what is below it.
+//! What is written when a node is entered, and when it is left.
 
 ghost use Rattle.std.specs.Prelude.{◌≡◌, ◌++◌, codes};
 ghost use Rattle.std.specs.List.{list_any};
@@ -13,7 +13,8 @@ use crate::writing::{PutText, put_parts};
 use dom_nodes::name::{Attr, NamespaceRef, QualName};
 use dom_nodes::node_data::{Element, NodeData};
 
-/// Puts what stands before what is below a node; a text as it is, where `raw` says so.
+/// Writes the start of a node: a start tag, a text, a comment and so on. A text is not escaped if
+/// `raw` is true.
 pub(super) fn put_opening<P: PutText<W>, W>(
     w: &mut W,
     escaper: &Escaper,
@@ -39,7 +40,7 @@ pub(super) fn put_opening<P: PutText<W>, W>(
     }
 }
 
-/// Puts the end tag of an element, and nothing for another node.
+/// Writes the end tag of an element, and nothing for another node.
 pub(super) fn put_end_tag<P: PutText<W>, W>(w: &mut W, content: &NodeData) -> Result<(), P::Fault>
     ensures { Writes (P.written w.old) (P.written w.new) result (closing content.now) }
 {
@@ -72,7 +73,7 @@ fn put_attr<P: PutText<W>, W>(w: &mut W, escaper: &Escaper, attr: &Attr) -> Resu
     P::put(w, "\"")
 }
 
-/// What stands before the local name of an attribute: a space, and its prefix.
+/// Returns what precedes the local name of an attribute: a space, and the prefix of its namespace.
 fn before_local(name: &QualName) -> &str
     ensures { result.now ≡ codes " " ++ prefix_text name.now }
 {
@@ -86,7 +87,7 @@ fn before_local(name: &QualName) -> &str
     }
 }
 
-/// Whether the element is written as its start tag alone.
+/// Returns whether the element is void, that is, written as a start tag alone.
 pub(super) fn is_void(element: &Element) -> bool
     ensures { result ≡ is_void element.now }
 {
@@ -96,7 +97,7 @@ pub(super) fn is_void(element: &Element) -> bool
     }
 }
 
-/// Whether nothing is written below the node.
+/// Returns whether the node is a void element, so nothing is written inside it.
 pub(super) fn is_void_node(content: &NodeData) -> bool
     ensures { result ≡ is_void_node content.now }
 {
@@ -106,7 +107,7 @@ pub(super) fn is_void_node(content: &NodeData) -> bool
     }
 }
 
-/// Whether texts right below the node are written as they are.
+/// Returns whether text children of the node are written without escaping.
 pub(super) fn keeps_texts(content: &NodeData) -> bool
     ensures { result ≡ keeps_texts content.now }
 {
@@ -116,7 +117,7 @@ pub(super) fn keeps_texts(content: &NodeData) -> bool
     }
 }
 
-/// Whether the element's texts are written as they are.
+/// Returns whether the element's text children are written without escaping.
 fn is_raw(element: &Element) -> bool
     ensures { result ≡ is_raw element.now }
 {

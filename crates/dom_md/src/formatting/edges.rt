@@ -1,4 +1,4 @@
-//! Formats a tree, edge by edge.
+//! Formatting of a tree by a traversal, edge by edge.
 
 ghost use Rattle.std.specs.Prelude.{◌≡◌, [], IfOk, OnOk, string_bytes};
 ghost use Rattle.std.specs.Str.{IsUtf8};
@@ -22,7 +22,7 @@ use dom_nodes::node_id::NodeId;
 use dom_trees::tree::Tree;
 use std::alloc::Global;
 
-/// All but what is below a `pre`.
+/// The traversal of all nodes except those below a `pre`.
 struct OutsidePre;
 
 impl Descent for OutsidePre {
@@ -42,7 +42,7 @@ impl Descent for OutsidePre {
     }
 }
 
-/// What is entered of an element of that name.
+/// Returns what the traversal enters of an element with this name.
 #[inline(always)]
 fn inside_element(name: &LocalRef<'_>) -> Entered
     ensures { result ≡ inside_element name.now }
@@ -53,7 +53,7 @@ fn inside_element(name: &LocalRef<'_>) -> Entered
     Entered::Children
 }
 
-/// Formats what is below the node; nothing for an unknown number.
+/// Returns the formatted text of what is below the node; an empty string for an unknown id.
 pub(super) fn format_children(tree: &Tree, id: NodeId) -> Result<String, OutOfMemory>
     ensures { IfOk result (λ text. IsFolded [] (string_bytes text) (events_below tree.now id)) }
 {
@@ -62,7 +62,8 @@ pub(super) fn format_children(tree: &Tree, id: NodeId) -> Result<String, OutOfMe
     format_edges(tree.allocator(), nodes, edges)
 }
 
-/// Formats the node; nothing for a document, a fragment or an unknown number.
+/// Returns the formatted text of the node; an empty string for a document, a fragment or an unknown
+/// id.
 pub(super) fn format_node(tree: &Tree, id: NodeId) -> Result<String, OutOfMemory>
     ensures { IfOk result (λ text. string_bytes text ≡ formatted_node tree.now id) }
 {
@@ -77,7 +78,7 @@ pub(super) fn format_node(tree: &Tree, id: NodeId) -> Result<String, OutOfMemory
     format_edges(tree.allocator(), nodes, edges)
 }
 
-/// Formats edges, one after another.
+/// Formats the edges, one after another, and returns the text.
 fn format_edges(
     alloc: Global,
     nodes: &[TreeNode],
@@ -94,7 +95,7 @@ fn format_edges(
     Ok(text)
 }
 
-/// What an edge adds.
+/// Appends what an edge adds to the text.
 fn format_edge(nodes: &[TreeNode], edge: Edge, text: &mut String) -> Result<(), OutOfMemory>
     requires { IsSoundArena nodes.now }
     ensures { Formats text.old text.new result (edge_events (forest_of nodes.now) edge) }
@@ -111,7 +112,8 @@ fn format_edge(nodes: &[TreeNode], edge: Edge, text: &mut String) -> Result<(), 
     }
 }
 
-/// What the opening of a node adds.
+/// Appends what the opening of a node adds. A `pre` is written completely, since nothing below it
+/// is entered.
 fn open_node(
     nodes: &[TreeNode],
     id: NodeId,
@@ -136,7 +138,7 @@ fn open_node(
     }
 }
 
-/// What the end of a node adds.
+/// Appends what the end of a node adds.
 fn close_node(content: &NodeData, text: &mut String) -> Result<(), OutOfMemory>
     ensures { Formats text.old text.new result (close_events content.now) }
 {
@@ -146,7 +148,7 @@ fn close_node(content: &NodeData, text: &mut String) -> Result<(), OutOfMemory>
     }
 }
 
-/// Adds the text of the node as it is.
+/// Appends the text of the node unchanged.
 fn keep_text(nodes: &[TreeNode], id: NodeId, text: &mut String) -> Result<(), OutOfMemory>
     requires { IsSoundArena nodes.now }
     ensures text { Adds text.old text.new result (text_of (forest_of nodes.now) id) }

@@ -1,4 +1,4 @@
-//! What the names of elements are to formatted text.
+//! The kinds of elements that formatted text distinguishes, by their names.
 
 ghost use Rattle.std.specs.Prelude.{◌≡◌, codes};
 ghost use Rattle.std.specs.Str.{bytes_eq};
@@ -7,7 +7,8 @@ ghost use Rattle.dom_md.specs.Formatted.{block_names, cell_names, line_names};
 
 use dom_nodes::name::LocalRef;
 
-/// What the known name of each number is: 1 of a block, 2 of a line, 3 of a cell.
+/// The kind of each known name, by its number: 1 for a block, 2 for an element that ends a line, 3
+/// for a table cell, 0 for all others.
 #[rattlefmt::skip]
 static KINDS: [u8; 247] = [
     0, 0, 0, 0, 0, 1, 0, 0, 0, 2, 0, 1, 0, 0, 1, 1, 1, 1, 1, 1, 2, 0, 2, 1, 0, 0, 3, 3, 2, 0, 1,
@@ -20,10 +21,10 @@ static KINDS: [u8; 247] = [
     0, 0, 0, 0, 0, 0, 0, 0, 0, 0, 0, 0, 1, 0, 0, 0, 0, 0, 0, 0, 0, 0, 0, 0, 0, 0, 0, 0, 0, 0,
 ];
 
-/// The number of the name `pre`.
+/// The number of the known name `pre`.
 const PRE: u8 = 49;
 
-/// Whether the element keeps its text as it is.
+/// Whether the element keeps its text unchanged.
 #[inline(always)]
 pub(super) fn is_pre(name: &LocalRef<'_>) -> bool
     ensures { result ≡ bytes_eq name.now (codes "pre") }
@@ -34,7 +35,7 @@ pub(super) fn is_pre(name: &LocalRef<'_>) -> bool
     }
 }
 
-/// Whether the element stands in lines of its own, with a blank line behind it.
+/// Whether the element is a block: it begins on a new line and ends with a blank line.
 pub(super) fn is_block(name: &LocalRef<'_>) -> bool
     ensures { result ≡ is_among name.now block_names }
 {
@@ -44,7 +45,7 @@ pub(super) fn is_block(name: &LocalRef<'_>) -> bool
     }
 }
 
-/// Whether a line ends with the element.
+/// Whether the element ends a line.
 pub(super) fn is_line(name: &LocalRef<'_>) -> bool
     ensures { result ≡ is_among name.now line_names }
 {
@@ -54,7 +55,7 @@ pub(super) fn is_line(name: &LocalRef<'_>) -> bool
     }
 }
 
-/// Whether a space parts the element from the next.
+/// Whether the element is a table cell, which ends with a space.
 pub(super) fn is_cell(name: &LocalRef<'_>) -> bool
     ensures { result ≡ is_among name.now cell_names }
 {

@@ -1,4 +1,4 @@
-//! The steps of formatting, each on the text so far.
+//! The steps of formatting; each appends to the text so far.
 
 ghost use Rattle.std.specs.Prelude.{◌≡◌, ◌==◌, ◌<◌, ◌≤◌, ◌+◌, ◌-◌, ◌++◌, ◌∷◌, IfOk, IfSome};
 ghost use Rattle.std.specs.Prelude.{OnOk, drop, encode_utf8, length, not, slice_index_or};
@@ -21,7 +21,8 @@ use dom_nodes::name::LocalRef;
 use std::alloc::AllocError;
 use std::simd::prelude::*;
 
-/// An element opens.
+/// Appends what the start of an element adds: a line feed before a block, unless the text is empty
+/// or ends in two line feeds.
 pub(super) fn open_element(text: &mut String, name: &LocalRef<'_>) -> Result<(), AllocError>
     ensures { OnOk result (string_bytes text.new ≡ with_open (string_bytes text.old) name.now) }
 {
@@ -31,7 +32,9 @@ pub(super) fn open_element(text: &mut String, name: &LocalRef<'_>) -> Result<(),
     Ok(())
 }
 
-/// An element closes.
+/// Appends what the end of an element adds: a blank line after a block, a line feed after an
+/// element that ends a line, a space after a table cell. Spaces before the line feeds are removed.
+/// Appends nothing if the text is empty or ends in two line feeds.
 pub(super) fn close_element(text: &mut String, name: &LocalRef<'_>) -> Result<(), AllocError>
     ensures { OnOk result (string_bytes text.new ≡ with_close (string_bytes text.old) name.now) }
 {
@@ -55,7 +58,8 @@ pub(super) fn close_element(text: &mut String, name: &LocalRef<'_>) -> Result<()
     text.push_str(" ")
 }
 
-/// Adds the words of a text node.
+/// Appends the words of a text node, joined by single spaces, with a space before and after them
+/// where the node has whitespace and the text so far does not end in a gap.
 pub(super) fn add_text(text: &mut String, added: &str) -> Result<(), AllocError>
     ensures { OnOk result (string_bytes text.new ≡ with_text (string_bytes text.old) added.now) }
 {
@@ -74,7 +78,7 @@ pub(super) fn add_text(text: &mut String, added: &str) -> Result<(), AllocError>
     add_gap(text, added)
 }
 
-/// The text from its first word on.
+/// Returns the text from its first word on.
 fn first_word_on(added: &str) -> &str
     ensures row { result.now ≡ trim_start added.now }
     ensures words { joined_words added.now ≡ spaced_words result.now }
@@ -83,8 +87,8 @@ fn first_word_on(added: &str) -> &str
     added.trim_start()
 }
 
-/// Adds a text with one space for the whitespace before each word and none at its end. What stays
-/// as it is, most of most texts, is added in one go.
+/// Appends a text with one space for each run of whitespace before a word, and none at its end.
+/// Parts that stay unchanged, which are most of most texts, are appended at once.
 fn push_spaced(text: &mut String, row: &str) -> Result<(), AllocError>
     ensures { Adds text.old text.new result (spaced_words row.now) }
 {
@@ -97,8 +101,8 @@ fn push_spaced(text: &mut String, row: &str) -> Result<(), AllocError>
     Ok(())
 }
 
-/// Adds what is written for the character at the front, with the letters or the whitespace behind
-/// it, and gives what stands behind that.
+/// Appends what is written for the first character and, after it, a run of letters beyond ASCII; or
+/// one space for a run of whitespace before a word. Returns the remaining text.
 fn push_next<'a>(text: &mut String, rest: &'a str) -> Result<&'a str, AllocError>
     ensures words { AddsWords text.old text.new result rest.now }
     ensures shorter { IfOk result (λ after. length after.now ≤ length rest.now - 1) }
@@ -118,8 +122,8 @@ fn push_next<'a>(text: &mut String, rest: &'a str) -> Result<&'a str, AllocError
     Ok(words)
 }
 
-/// Adds the characters beyond ASCII at the front, with single spaces between them, and gives what
-/// stands behind them.
+/// Appends the run of characters beyond ASCII at the front, with the single spaces between them,
+/// and returns the remaining text.
 fn push_letters<'a>(text: &mut String, rest: &'a str) -> Result<&'a str, AllocError>
     ensures words { AddsWords text.old text.new result rest.now }
     ensures shorter { IfOk result (λ after. length after.now ≤ length rest.now) }
@@ -129,7 +133,7 @@ fn push_letters<'a>(text: &mut String, rest: &'a str) -> Result<&'a str, AllocEr
     Ok(&rest[end..])
 }
 
-/// How many bytes they take.
+/// Returns the length of that run in bytes.
 fn letters_len(text: &str) -> usize
     ensures boundary { IsCharBoundary text.now result }
     ensures same { KeepsFront spaced_words text.now result }
@@ -141,7 +145,7 @@ fn letters_len(text: &str) -> usize
     text.len() - left.len()
 }
 
-/// A letter at the front or a space before one, and what stands behind it.
+/// Splits off a letter beyond ASCII, or a space before one, and returns it with the remaining text.
 fn cut_same(text: &str) -> Option<(char, &str)>
     ensures { IfSome result (CutsChar text.now) }
 {
@@ -155,7 +159,8 @@ fn cut_same(text: &str) -> Option<(char, &str)>
     }
 }
 
-/// A character beyond ASCII at the front but whitespace, and what stands behind it.
+/// Splits off a character that is neither ASCII nor whitespace, and returns it with the remaining
+/// text.
 fn cut_letter(text: &str) -> Option<(char, &str)>
     ensures { IfSome result (λ cut. (text.now ≡ encode_utf8 cut.0 ++ cut.1.now)
         × (spaced_words text.now ≡ encode_utf8 cut.0 ++ spaced_words cut.1.now)
@@ -169,8 +174,8 @@ fn cut_letter(text: &str) -> Option<(char, &str)>
     Some((c, chars.as_str()))
 }
 
-/// How many bytes at the front surely stay as they are: visible ASCII, and a space between two such
-/// bytes.
+/// Returns a number of bytes at the front that stay unchanged: visible ASCII, and single spaces
+/// before visible ASCII.
 fn same_len(bytes: &[u8]) -> usize
     ensures within { result ≤ length bytes.now }
     ensures boundary { IsUtf8 bytes.now → IsCharBoundary bytes.now result }
@@ -184,7 +189,7 @@ fn same_len(bytes: &[u8]) -> usize
     bytes.len()
 }
 
-/// Some of them, found 16 at a time.
+/// Finds some of those bytes, 16 at a time.
 fn same_blocks(bytes: &[u8]) -> usize
     ensures within { result ≤ length bytes.now }
     ensures boundary { IsUtf8 bytes.now → IsCharBoundary bytes.now result }
@@ -201,7 +206,7 @@ fn same_blocks(bytes: &[u8]) -> usize
     at
 }
 
-/// How many of the 16 bytes at this place stay, up to the first that doesn't.
+/// Returns how many of the 16 bytes at this index stay unchanged, up to the first that does not.
 fn same_run(bytes: &[u8], at: usize) -> usize
     requires { at + 17 ≤ length bytes.now }
     ensures within { result ≤ 16 }
@@ -211,8 +216,8 @@ fn same_run(bytes: &[u8], at: usize) -> usize
     unmarked_len(not_visible(tested))
 }
 
-/// Marks the lanes that hold no visible ASCII byte: such bytes alone are above 160 once the top bit
-/// is turned.
+/// Marks the lanes that do not contain a visible ASCII byte. With the top bit flipped, exactly the
+/// visible ASCII bytes are greater than 160.
 fn not_visible(v: u8x16) -> u8x16
     ensures { Marks result (λ k. not (is_visible (slice_index_or v k 0))) }
 {
@@ -244,7 +249,7 @@ fn is_visible(byte: u8) -> bool
     b' ' < byte && byte < 128
 }
 
-/// Adds a space where the added text ends in whitespace and the text so far does not.
+/// Appends a space if the added text ends in whitespace and the text so far does not.
 fn add_gap(text: &mut String, added: &str) -> Result<(), AllocError>
     ensures { OnOk result (string_bytes text.new ≡ with_gap added.now (string_bytes text.old)) }
 {
@@ -263,7 +268,7 @@ fn ends_with_whitespace(text: &str) -> bool
     text.trim_end().len() < text.len()
 }
 
-/// Takes the spaces at the end away.
+/// Removes the spaces at the end.
 fn drop_spaces(text: &mut String)
     ensures { string_bytes text.new ≡ drop_spaces (string_bytes text.old) }
 {

@@ -1,4 +1,4 @@
-//! Elements that Markdown has no writing of its own for: blocks, headings, breaks, rules.
+//! Blocks, headings, breaks and rules, and the dispatch to the other kinds of elements.
 
 use crate::context::FormatOpts;
 use crate::serializer::Writer;
@@ -16,7 +16,8 @@ use dom_nodes::node_id::NodeId;
 use dom_trees::node_ref::NodeRef;
 
 impl<'a> Writer<'a> {
-    /// Writes a node and pushes its later siblings. Texts at the front are written at once.
+    /// Writes a node and pushes a task for its later siblings. Text nodes at the front are written
+    /// at once.
     pub(super) fn write_row(&mut self, id: NodeId, opts: FormatOpts) -> Result<(), OutOfMemory> {
         let tree = self.tree;
         let mut at = id;
@@ -39,7 +40,7 @@ impl<'a> Writer<'a> {
         Ok(())
     }
 
-    /// Writes the beginning of a node.
+    /// Writes the beginning of a node, and pushes tasks for the rest of it.
     pub(super) fn open_node(&mut self, id: NodeId, opts: FormatOpts) -> Result<(), OutOfMemory> {
         let tree = self.tree;
         let Some(node) = tree.tree_node(&id) else {
@@ -69,7 +70,7 @@ impl<'a> Writer<'a> {
         self.write_element(id, tag, opts)
     }
 
-    /// Parts an element from what stands before it.
+    /// Separates an element from the text before it and writes its prefix.
     fn begin_block(&mut self, id: NodeId, tag: Tag, opts: FormatOpts) -> Result<(), OutOfMemory> {
         if opts.link_body {
             if tag.is_link_block() {
@@ -88,7 +89,8 @@ impl<'a> Writer<'a> {
         if opts.table_cell {
             return add_cell_break(&mut self.text);
         }
-        // A blank line before a list in an item would part the paragraphs of the outer list.
+        // A blank line before a list in an item would make the outer list loose, with paragraphs in
+        // its items.
         let is_tight = opts.list_item
             && tag.is_list()
             && can_interrupt_paragraph(&NodeRef::new(id, self.tree));
@@ -112,7 +114,7 @@ impl<'a> Writer<'a> {
         }
     }
 
-    /// Pushes what is below an element, and its end, where something may be written for it.
+    /// Pushes tasks for what is below an element, and for its end if that may need text.
     fn push_plain(&mut self, id: NodeId, tag: Tag, opts: FormatOpts) -> Result<(), OutOfMemory> {
         if tag.has_end() {
             self.push(Task::Close { id, opts })?;
@@ -139,7 +141,7 @@ impl<'a> Writer<'a> {
         self.close_block(tag, opts)
     }
 
-    /// Ends an element where no Markdown is written: a break is a space.
+    /// Writes the end of an element where no Markdown is written: a space for a `br`.
     fn close_plain(&mut self, tag: Tag) -> Result<(), OutOfMemory> {
         if tag == Tag::Break && !self.text.as_str().ends_with(' ') {
             self.text.push(' ')?;

@@ -1,4 +1,4 @@
-//! Code: blocks between fences, and spans.
+//! Code: fenced code blocks and code spans.
 
 use crate::context::FormatOpts;
 use crate::fences::fence_len;
@@ -15,7 +15,7 @@ use dom_nodes::node_id::NodeId;
 use dom_trees::node_ref::NodeRef;
 
 impl<'a> Writer<'a> {
-    /// Writes a code block; in the text of a link a span.
+    /// Writes a fenced code block; in the text of a link, a code span between spaces.
     pub(super) fn write_preformatted(
         &mut self,
         id: NodeId,
@@ -42,7 +42,7 @@ impl<'a> Writer<'a> {
         Ok(self.text.push('\n')?)
     }
 
-    /// Begins a code span; code of several lines is a block.
+    /// Begins a code span; code of several lines becomes a code block.
     pub(super) fn begin_code(&mut self, id: NodeId, opts: FormatOpts) -> Result<(), OutOfMemory> {
         if let Some(word) = self.lone_word(id) {
             return push_code(&mut self.text, word);
@@ -62,8 +62,8 @@ impl<'a> Writer<'a> {
         self.begin_text()
     }
 
-    /// The one text below the node, where that has no whitespace and stands in elements alone at
-    /// whose end nothing is written.
+    /// Returns the only text below the node if it has no ASCII whitespace and all elements around
+    /// it are ones for which nothing is written.
     fn lone_word(&self, id: NodeId) -> Option<&'a str> {
         let tree = self.tree;
         let mut at = id;
@@ -94,7 +94,7 @@ impl<'a> Writer<'a> {
     }
 }
 
-/// The text, if no ASCII whitespace stands in it.
+/// Returns the text if it has no ASCII whitespace.
 fn as_word(text: &str) -> Option<&str> {
     for byte in text.as_bytes() {
         if byte.is_ascii_whitespace() {
@@ -104,7 +104,8 @@ fn as_word(text: &str) -> Option<&str> {
     Some(text)
 }
 
-/// The code without the spaces of an indentation: those beside a line feed at an edge of the text.
+/// Returns the code without the spaces that indentation left: at each end of the text that has a
+/// line feed, apart from blanks, the code's spaces are removed.
 fn trimmed_code<'a>(code: &'a str, raw: &str) -> &'a str {
     let front = if raw.trim_end_matches(is_blank).ends_with('\n') {
         code.trim_end_matches(' ')
@@ -122,7 +123,7 @@ fn is_blank(c: char) -> bool {
     c == ' ' || c == '\t'
 }
 
-/// Whether a text below the node has a line feed between other characters.
+/// Whether a text below the node has a line feed other than in the whitespace at its ends.
 fn has_lines(node: &NodeRef<'_>) -> bool {
     for below in node.descendants_it() {
         if let Some(text) = contents(&below) {
@@ -134,7 +135,7 @@ fn has_lines(node: &NodeRef<'_>) -> bool {
     false
 }
 
-/// Adds the content of a block, and a line feed where its last line lacks one.
+/// Appends the content of a code block, and a line feed if its last line lacks one.
 fn push_lines(text: &mut String, content: &str) -> Result<(), OutOfMemory> {
     text.push_str(content)?;
     if !content.is_empty() && !content.ends_with('\n') {
@@ -143,7 +144,7 @@ fn push_lines(text: &mut String, content: &str) -> Result<(), OutOfMemory> {
     Ok(())
 }
 
-/// Adds the words, joined by one space, as a code span.
+/// Appends the words of the content, joined by single spaces, as a code span.
 fn push_words_as_code(text: &mut String, content: &str) -> Result<(), OutOfMemory> {
     let mut code = String::new(*text.allocator());
     for word in content.split_ascii_whitespace() {
@@ -155,12 +156,12 @@ fn push_words_as_code(text: &mut String, content: &str) -> Result<(), OutOfMemor
     push_code(text, code.as_str())
 }
 
-/// Adds a code span.
+/// Appends a code span; nothing for an empty one.
 fn push_code(text: &mut String, code: &str) -> Result<(), OutOfMemory> {
     if code.is_empty() {
         return Ok(());
     }
-    // Two spans side by side would become one.
+    // Two adjacent spans would become one.
     if text.as_str().ends_with('`') {
         text.push(' ')?;
     }
@@ -177,8 +178,8 @@ fn push_code(text: &mut String, code: &str) -> Result<(), OutOfMemory> {
     push_ticks(text, fence)
 }
 
-/// Whether a space stands between fence and code: where a backtick is at an edge, and where spaces
-/// are at both.
+/// Whether spaces are needed between fence and code: if the code begins or ends with a backtick, or
+/// if it begins and ends with a space, since Markdown removes one space at each end.
 fn needs_space(code: &str) -> bool {
     if code.starts_with('`') || code.ends_with('`') {
         return true;
@@ -193,8 +194,9 @@ fn push_ticks(text: &mut String, count: usize) -> Result<(), OutOfMemory> {
     Ok(())
 }
 
-/// The language of a code block: an attribute of it, or of one of three elements round it, or a
-/// class of the first `code` in it.
+/// Returns the language of a code block: the attribute `data-lang` or `data-language` of the
+/// element or of one of its three nearest ancestors, or else the `language-` class of its first
+/// `code` child.
 fn language_of<'a>(node: &NodeRef<'a>) -> Option<&'a str> {
     if let Some(language) = language_at(node) {
         return Some(language);
@@ -212,7 +214,7 @@ fn language_of<'a>(node: &NodeRef<'a>) -> Option<&'a str> {
     None
 }
 
-/// The value of the first attribute that names a language.
+/// Returns the value of the node's first attribute that names a language.
 fn language_at<'a>(node: &NodeRef<'a>) -> Option<&'a str> {
     for attr in node.attrs() {
         let name = attr.name.local().as_str();
@@ -223,7 +225,7 @@ fn language_at<'a>(node: &NodeRef<'a>) -> Option<&'a str> {
     None
 }
 
-/// What follows `language-` in the first class that begins with it.
+/// Returns what follows `language-` in the first class that begins with it.
 fn language_class(classes: &str) -> Option<&str> {
     for class in classes.split_ascii_whitespace() {
         if let Some(language) = class.strip_prefix("language-") {
@@ -233,7 +235,8 @@ fn language_class(classes: &str) -> Option<&str> {
     None
 }
 
-/// Adds what a fence can hold of the first word.
+/// Appends the first word of the language, without the characters that are not allowed there:
+/// letters, digits, `-`, `_`, `+`, `.` and `#` are kept.
 fn push_language(text: &mut String, language: &str) -> Result<(), OutOfMemory> {
     let Some(word) = first_word(language) else {
         return Ok(());

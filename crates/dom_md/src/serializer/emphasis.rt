@@ -1,4 +1,4 @@
-//! Emphasis.
+//! Emphasis: bold and italic text.
 
 use crate::context::{EmphasisScope, FormatOpts};
 use crate::serializer::Writer;
@@ -8,7 +8,7 @@ use dom_nodes::fault::OutOfMemory;
 use dom_nodes::node_id::NodeId;
 
 impl<'a> Writer<'a> {
-    /// Begins an emphasis; one within another of its kind has no marks of its own.
+    /// Begins emphasized text. Within emphasis of the same kind, no markers are written.
     pub(super) fn begin_emphasis(
         &mut self,
         id: NodeId,
@@ -29,7 +29,7 @@ impl<'a> Writer<'a> {
     }
 }
 
-/// Adds a text with marks round it; spaces at its ends stand outside of them.
+/// Appends a text between markers. A space at either end of the text is put outside of them.
 fn push_emphasis(text: &mut String, content: String, marker: &str) -> Result<(), OutOfMemory> {
     if marker.is_empty() && text.as_str().is_empty() {
         *text = content;
@@ -52,7 +52,7 @@ fn push_emphasis(text: &mut String, content: String, marker: &str) -> Result<(),
     push_marked(text, body, marker)
 }
 
-/// Adds a text and its mark, with the mark before a space at its end.
+/// Appends a text and its closing marker; a space at the end of the text follows the marker.
 fn push_marked(text: &mut String, body: &str, marker: &str) -> Result<(), OutOfMemory> {
     match body.strip_suffix(' ') {
         Some(front) => {
@@ -74,7 +74,8 @@ fn without_first_space(content: &str) -> &str {
     }
 }
 
-/// Takes the mark at the end away, but not the space after it, so that two emphases become one.
+/// Removes the marker at the end of the text, but keeps a space after it, so that two adjacent
+/// emphasized texts become one. Returns whether there was a marker.
 fn cut_marker(text: &mut String, marker: &str) -> Result<bool, OutOfMemory> {
     if marker.is_empty() {
         return Ok(false);
@@ -91,7 +92,8 @@ fn cut_marker(text: &mut String, marker: &str) -> Result<bool, OutOfMemory> {
     Ok(true)
 }
 
-/// What stands before such a mark at the end of the text, and at most one space after it.
+/// Returns the text before such a marker at its end, with at most one space after the marker;
+/// `None` if there is no such marker, if it is escaped, or if a `*` is part of a longer run.
 fn before_marker<'a>(text: &'a str, marker: &str) -> Option<&'a str> {
     let body = match text.strip_suffix(' ') {
         Some(front) => front,

@@ -9,7 +9,7 @@ use dom_nodes::node_id::NodeId;
 use dom_trees::node_ref::NodeRef;
 
 impl<'a> Writer<'a> {
-    /// Writes an image; nothing for one without an address.
+    /// Writes an image; nothing for an image without an address.
     pub(super) fn write_image(&mut self, id: NodeId) -> Result<(), OutOfMemory> {
         let node = NodeRef::new(id, self.tree);
         let Some(address) = address_of(&node) else {
@@ -24,7 +24,7 @@ impl<'a> Writer<'a> {
     }
 }
 
-/// The address of an image: `src`, the first of `srcset`, or `data-src`.
+/// Returns the address of an image: `src`, else the first address of `srcset`, else `data-src`.
 fn address_of<'a>(node: &NodeRef<'a>) -> Option<&'a str> {
     if let Some(address) = address_at(node, "src") {
         return Some(address);
@@ -35,7 +35,7 @@ fn address_of<'a>(node: &NodeRef<'a>) -> Option<&'a str> {
     address_at(node, "data-src")
 }
 
-/// The value of the attribute, unless it is blank.
+/// Returns the value of the attribute, unless it is blank.
 fn address_at<'a>(node: &NodeRef<'a>, name: &str) -> Option<&'a str> {
     let address = node.attr(name)?;
     if address.trim().is_empty() {
@@ -44,7 +44,7 @@ fn address_at<'a>(node: &NodeRef<'a>, name: &str) -> Option<&'a str> {
     Some(address)
 }
 
-/// The first word, without commas at its end.
+/// Returns the first word, without commas at its end, if anything is left.
 fn first_address(addresses: &str) -> Option<&str> {
     let address = first_word(addresses)?.trim_end_matches(',');
     if address.is_empty() {
@@ -53,7 +53,7 @@ fn first_address(addresses: &str) -> Option<&str> {
     Some(address)
 }
 
-/// The first word of a text.
+/// Returns the first word of a text, as separated by ASCII whitespace.
 pub(super) fn first_word(text: &str) -> Option<&str> {
     for word in text.split_ascii_whitespace() {
         return Some(word);

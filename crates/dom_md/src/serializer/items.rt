@@ -1,4 +1,4 @@
-//! Items of lists with blocks in them.
+//! List items that contain blocks.
 
 use crate::context::ListContext;
 use crate::serializer::Writer;
@@ -14,7 +14,8 @@ use dom_nodes::node_id::NodeId;
 use dom_trees::node_ref::NodeRef;
 
 impl<'a> Writer<'a> {
-    /// Begins an item with blocks.
+    /// Begins a list item that contains blocks: writes its prefix and pushes tasks for its
+    /// children.
     pub(super) fn begin_item(
         &mut self,
         id: NodeId,
@@ -23,7 +24,8 @@ impl<'a> Writer<'a> {
     ) -> Result<(), OutOfMemory> {
         let indent = context.list_indent_len();
         trim_end_spaces(&mut self.text);
-        // What is written below trims the start of the text, which would move the item's start.
+        // The content trims the start of the text, which would move the place where the item
+        // starts.
         trim_start_space(&mut self.text)?;
         push_spaces(&mut self.text, indent)?;
         self.text.push_str(prefix)?;
@@ -59,7 +61,7 @@ impl<'a> Writer<'a> {
         self.end_line(item.context.opts.table_cell)
     }
 
-    /// Writes a child of an item, and pushes the later ones.
+    /// Writes a child of an item, and pushes a task for the later ones.
     pub(super) fn next_block(&mut self, id: NodeId) -> Result<(), OutOfMemory> {
         let node = NodeRef::new(id, self.tree);
         if let Some(next) = node.next_sibling() {
@@ -118,7 +120,8 @@ impl<'a> Writer<'a> {
         })
     }
 
-    /// Writes a rule in lines of its own; in a cell it only parts what stands round it.
+    /// Writes a rule on a line of its own. In the cell of a table, it becomes a line break between
+    /// what is before and after it.
     fn write_rule(&mut self, item: &mut Item) -> Result<(), OutOfMemory> {
         if item.context.opts.table_cell {
             if self.text.as_str().len() > item.start {
@@ -160,7 +163,8 @@ impl<'a> Writer<'a> {
         self.push_below(id, item.context.opts.list_item())
     }
 
-    /// Begins the line of a block; the first one may stand right behind the mark.
+    /// Begins the line of a block in an item; the first block may directly follow the item's
+    /// prefix.
     fn begin_block_line(&mut self, indented: bool, item: &mut Item) -> Result<(), OutOfMemory> {
         let was_first = item.is_first;
         item.is_first = false;
@@ -190,7 +194,7 @@ impl<'a> Writer<'a> {
         }
     }
 
-    /// Adds the text of a quote or a code block, its lines behind the item's indentation.
+    /// Appends the finished text of a quote or a code block, with each line indented as the item.
     pub(super) fn end_indented(&mut self) -> Result<(), OutOfMemory> {
         let written = self.end_text();
         let Some(item) = self.items.pop() else {
@@ -227,7 +231,7 @@ impl<'a> Writer<'a> {
     }
 }
 
-/// Whether the text ends in a line feed and so many spaces.
+/// Whether the text ends in a line feed and `indent` spaces.
 fn ends_in_indent(text: &str, indent: usize) -> bool {
     let Some((front, spaces)) = text.split_at_checked(text.len().saturating_sub(indent)) else {
         return false;

@@ -17,7 +17,8 @@ use dom_nodes::node_id::NodeId;
 use dom_trees::node_ref::NodeRef;
 
 impl<'a> Writer<'a> {
-    /// Writes a link whose body is text alone, or begins the text of another.
+    /// Writes a link whose body is only text, or begins the body of any other link. For a link
+    /// without `href`, only the body is written.
     pub(super) fn begin_link(&mut self, id: NodeId) -> Result<(), OutOfMemory> {
         let node = NodeRef::new(id, self.tree);
         let opts = FormatOpts::new();
@@ -39,9 +40,9 @@ impl<'a> Writer<'a> {
         self.write_text_link(target, body.as_str())
     }
 
-    /// Writes a link of which the text is not empty.
+    /// Writes a link whose text is not empty.
     fn write_text_link(&mut self, target: Target<'_>, text: &str) -> Result<(), OutOfMemory> {
-        // A link with only whitespace to show still parts the words round it.
+        // A link whose text is only whitespace still separates the words around it.
         if text.trim_ascii().is_empty() {
             return push_text(&mut self.text, text, FormatOpts::new());
         }
@@ -86,7 +87,7 @@ struct Target<'a> {
     title: Option<&'a str>,
 }
 
-/// The first attributes `href` and `title` of the node.
+/// Returns the values of the node's first attributes `href` and `title`.
 fn target_of<'a>(node: &NodeRef<'a>) -> Target<'a>
     ensures address { option_copied result.address
         ≡ node_attr node.now.tree.now node.now.id (codes "href") }
@@ -127,8 +128,8 @@ fn title_in(element: &Element) -> Option<&str>
         .map(|attr| attr.value.as_str())
 }
 
-/// The words of the node's text, where it has one text alone that isn't empty; a space where that
-/// has none.
+/// Returns the text of the node's only child, without whitespace at its start, if that child is a
+/// text that is not empty; a single space if it is all whitespace.
 fn only_text<'a>(node: &NodeRef<'a>) -> Option<&'a str> {
     let first = node.tree.tree_node(&node.id)?.first_child.get()?;
     let child = node.tree.tree_node(&first)?;
@@ -153,7 +154,7 @@ fn has_image(node: &NodeRef<'_>) -> bool {
     false
 }
 
-/// Adds the words of the texts below the node as they are.
+/// Appends the words of all texts below the node, without backslash escapes.
 fn push_texts(text: &mut String, node: &NodeRef<'_>) -> Result<(), OutOfMemory> {
     for below in node.descendants_it() {
         if let Some(words) = contents(&below) {

@@ -1,4 +1,4 @@
-//! Lists, and items without blocks.
+//! Lists, and list items without blocks.
 
 use crate::context::{FormatOpts, ListContext, ListKind};
 use crate::serializer::Writer;
@@ -10,7 +10,7 @@ use dom_nodes::fault::OutOfMemory;
 use dom_nodes::node_id::NodeId;
 use dom_trees::node_ref::NodeRef;
 
-/// The greatest number of an item.
+/// The greatest number of a list item.
 const MAX_LIST_NUMBER: u32 = 999_999_999;
 
 impl<'a> Writer<'a> {
@@ -33,12 +33,12 @@ impl<'a> Writer<'a> {
         }
     }
 
-    /// Without a blank line, a text after the list would go on with its last item.
+    /// Ends a list with a blank line; otherwise a text after it would continue its last item.
     pub(super) fn end_list(&mut self) -> Result<(), OutOfMemory> {
         add_linebreaks(&mut self.text, "\n\n")
     }
 
-    /// Writes a child of a list, and pushes the later ones.
+    /// Writes a child of a list, and pushes a task for the later ones.
     pub(super) fn next_item(&mut self, id: NodeId, list: ListContext) -> Result<(), OutOfMemory> {
         let node = NodeRef::new(id, self.tree);
         let is_item = tag(&node) == Tag::Item;
@@ -67,7 +67,7 @@ impl<'a> Writer<'a> {
         self.write_item(id, after, prefix.as_str())
     }
 
-    /// Writes the beginning of an item; `context` is the list behind it.
+    /// Writes the beginning of an item; `context` is the state of the list after the item's number.
     fn write_item(
         &mut self,
         id: NodeId,
@@ -87,7 +87,7 @@ impl<'a> Writer<'a> {
     }
 }
 
-/// The kind of a list, with the number of its first item.
+/// Returns the kind of a list; an ordered one begins with the number in `start`, or with 1.
 fn kind_of(node: &NodeRef<'_>, tag: Tag) -> ListKind {
     if tag != Tag::OrderedList {
         return ListKind::Ul;
@@ -98,7 +98,7 @@ fn kind_of(node: &NodeRef<'_>, tag: Tag) -> ListKind {
     }
 }
 
-/// The list before an item, which may give its own number.
+/// Returns the state of the list before an item, whose `value` may set its number.
 fn renumbered(context: ListContext, item: &NodeRef<'_>) -> ListContext {
     let mut context = context;
     if let ListKind::Ol(_) = context.kind {
@@ -109,8 +109,8 @@ fn renumbered(context: ListContext, item: &NodeRef<'_>) -> ListContext {
     context
 }
 
-/// The number that an attribute's value begins with: 0 for a negative one, and no greater than the
-/// limit.
+/// Parses the integer at the start of an attribute's value, after ASCII whitespace and an optional
+/// sign. Returns 0 for a negative number, and at most 999,999,999; `None` if there are no digits.
 pub(super) fn parse_list_number(value: &str) -> Option<u32> {
     let value = value.trim_ascii_start();
     if let Some(digits) = value.strip_prefix('-') {
@@ -123,7 +123,7 @@ pub(super) fn parse_list_number(value: &str) -> Option<u32> {
     }
 }
 
-/// The number of the digits that the text begins with, if there are any.
+/// Returns the number in the digits at the start of the text, or `None` if there are none.
 fn number_in(text: &str) -> Option<u32> {
     let mut number: Option<u32> = None;
     for byte in text.as_bytes() {
@@ -135,7 +135,7 @@ fn number_in(text: &str) -> Option<u32> {
     number
 }
 
-/// The number with one digit more.
+/// Returns the number with a digit appended, at most 999,999,999.
 fn with_digit(number: Option<u32>, digit: u8) -> u32 {
     let tens = match number {
         Some(number) => number.saturating_mul(10),

@@ -1,4 +1,4 @@
-//! What Markdown makes of the names of elements.
+//! The kinds of elements that Markdown distinguishes, by their names.
 
 ghost use Rattle.std.specs.Prelude.{◌≡◌, ◌≢◌, codes};
 ghost use Rattle.std.specs.Str.{bytes_eq};
@@ -9,7 +9,8 @@ ghost use Rattle.dom_md.specs.Tags.{inner_numbered, tag_named, tag_numbered};
 
 use dom_nodes::name::LocalRef;
 
-// The numbers of some known names. The proofs hold each to its name.
+// The numbers of some known names, which are stored as a number in place of text. The proofs show
+// that each belongs to its name.
 const HREF: u8 = 71;
 
 const TITLE: u8 = 123;
@@ -92,7 +93,7 @@ pub(super) fn is_title(name: &LocalRef<'_>) -> bool
     }
 }
 
-/// Whether the element is left out where no others are named: `script`, `style`, `meta`, `head`.
+/// Whether elements with this name are left out by default: `script`, `style`, `meta`, `head`.
 pub(super) fn is_default_skipped(name: &LocalRef<'_>) -> bool
     ensures { result ≡ is_among name.now skipped_names }
 {
@@ -115,12 +116,12 @@ fn is_skipped_text(name: &str) -> bool
     matches!(name, "script" | "style" | "meta" | "head")
 }
 
-/// What an element is to Markdown.
+/// The kind of an element for Markdown.
 #[derive(Clone, Copy, PartialEq, Eq, Drop)]
 pub(super) enum Tag {
-    /// A heading, from 1 to 6.
+    /// A heading of this level, from 1 to 6.
     Heading(u8),
-    /// A block with nothing of its own.
+    /// A block without further meaning, such as a paragraph.
     Block,
     Quote,
     Table,
@@ -140,7 +141,8 @@ pub(super) enum Tag {
     Other,
 }
 
-/// What an element of that name is. All names that are more than `Other` are known.
+/// Returns the kind of an element with that name. All names with a kind but `Other` are known
+/// names, so one without a number is `Other`.
 pub(super) fn tag_of(name: &LocalRef<'_>) -> Tag
     ensures { result ≢ Other → result ≡ tag_named name.now }
 {
@@ -150,7 +152,7 @@ pub(super) fn tag_of(name: &LocalRef<'_>) -> Tag
     }
 }
 
-/// What an element is whose name is the known one of this number.
+/// Returns the kind of an element by the number of its known name.
 fn tag_numbered(number: u8) -> Tag
     ensures { result ≡ tag_numbered number }
 {
@@ -178,7 +180,7 @@ fn tag_numbered(number: u8) -> Tag
     inner_numbered(number)
 }
 
-/// The same of an element that doesn't stand in lines of its own.
+/// Returns the kind, by the number of the name, of an element that is not a block.
 fn inner_numbered(number: u8) -> Tag
     ensures { result ≡ inner_numbered number }
 {
@@ -216,7 +218,7 @@ fn inner_numbered(number: u8) -> Tag
 }
 
 impl Tag {
-    /// Whether the element stands in lines of its own.
+    /// Whether the element is a block, on lines of its own.
     pub(super) fn is_block(self) -> bool {
         match self {
             Tag::Heading(_) | Tag::Block | Tag::Quote | Tag::Table | Tag::Rule => true,
@@ -225,7 +227,7 @@ impl Tag {
         }
     }
 
-    /// Whether a space parts the element from others in the text of a link.
+    /// Whether, in the text of a link, spaces separate the element from what is around it.
     pub(super) fn is_link_block(self) -> bool {
         match self {
             Tag::Item | Tag::TableRow | Tag::TableCell => true,
@@ -233,7 +235,7 @@ impl Tag {
         }
     }
 
-    /// Whether something may be written at the end of the element.
+    /// Whether text may be written at the end of the element.
     pub(super) fn has_end(self) -> bool {
         self.is_link_block() || matches!(self, Tag::Break)
     }
@@ -246,7 +248,7 @@ impl Tag {
         matches!(self, Tag::Heading(_))
     }
 
-    /// What stands before the element's text.
+    /// Returns the prefix that is written before the element's content.
     pub(super) fn prefix(self) -> &'static str {
         match self {
             Tag::Heading(level) => heading_prefix(level),

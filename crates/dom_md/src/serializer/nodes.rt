@@ -1,4 +1,4 @@
-//! What is asked of nodes.
+//! Questions about nodes.
 
 ghost use Rattle.std.specs.Prelude.{◌≡◌};
 ghost use Rattle.dom_md.specs.Words.{holds_texts};
@@ -9,7 +9,7 @@ use dom_nodes::name::LocalRef;
 use dom_nodes::node_data::NodeData;
 use dom_trees::node_ref::NodeRef;
 
-/// What the node is to Markdown.
+/// Returns the kind of the node for Markdown; `Other` if it is not an element.
 pub(super) fn tag(node: &NodeRef<'_>) -> Tag {
     match local_name(node) {
         Some(name) => tag_of(&name),
@@ -17,7 +17,7 @@ pub(super) fn tag(node: &NodeRef<'_>) -> Tag {
     }
 }
 
-/// The local name of an element.
+/// Returns the local name of the node if it is an element.
 pub(super) fn local_name<'a>(node: &NodeRef<'a>) -> Option<LocalRef<'a>> {
     match &node.tree.tree_node(&node.id)?.content {
         NodeData::Element(element) => Some(element.name().local()),
@@ -25,7 +25,7 @@ pub(super) fn local_name<'a>(node: &NodeRef<'a>) -> Option<LocalRef<'a>> {
     }
 }
 
-/// The contents of a text.
+/// Returns the contents of the node if it is a text.
 pub(super) fn contents<'a>(node: &NodeRef<'a>) -> Option<&'a str> {
     match &node.tree.tree_node(&node.id)?.content {
         NodeData::Text { contents } => Some(contents.as_str()),
@@ -33,7 +33,7 @@ pub(super) fn contents<'a>(node: &NodeRef<'a>) -> Option<&'a str> {
     }
 }
 
-/// Whether the node may have children, and they are texts alone.
+/// Whether the node may have children, and all its children are texts.
 pub(super) fn holds_texts(node: &NodeRef<'_>) -> bool
     ensures { result ≡ holds_texts node.now.tree.now node.now.id }
 {
@@ -48,7 +48,7 @@ pub(super) fn holds_texts(node: &NodeRef<'_>) -> bool
     true
 }
 
-/// Whether the node is a text without words.
+/// Whether the node is a text of only ASCII whitespace.
 pub(super) fn is_blank_text(node: &NodeRef<'_>) -> bool {
     match contents(node) {
         Some(text) => text.trim_ascii().is_empty(),
@@ -56,7 +56,8 @@ pub(super) fn is_blank_text(node: &NodeRef<'_>) -> bool {
     }
 }
 
-/// Whether the node is a block that stands in lines of its own in an item.
+/// Whether the node is a block that needs lines of its own in an item: any block but a list, or a
+/// `pre`.
 pub(super) fn is_item_block(node: &NodeRef<'_>) -> bool {
     let tag = tag(node);
     if tag.is_list() {
@@ -75,9 +76,11 @@ pub(super) fn has_item_blocks(node: &NodeRef<'_>) -> bool {
     false
 }
 
-/// Whether the node only holds blocks together.
+/// Whether the node only groups blocks: it is a `div`, `section` or `article`, at least one of its
+/// children is a block that needs lines of its own, and the others are such blocks, lists, comments
+/// or blank texts. Tables and rules are not allowed among them.
 pub(super) fn is_block_wrapper(node: &NodeRef<'_>) -> bool {
-    // Those names are of blocks, and most nodes are none.
+    // The three names are of kind `Block`, which few nodes are, so this test comes first.
     if tag(node) != Tag::Block {
         return false;
     }
@@ -103,7 +106,8 @@ fn may_be_wrapped(node: &NodeRef<'_>) -> bool {
     node.is_comment() || is_blank_text(node)
 }
 
-/// Whether the list can follow a text without a blank line.
+/// Whether the list can follow a paragraph without a blank line: its first item begins with text,
+/// and an ordered list begins with the number 1.
 pub(super) fn can_interrupt_paragraph(list: &NodeRef<'_>) -> bool {
     let Some(first) = list.first_element_child() else {
         return false;
@@ -117,7 +121,7 @@ pub(super) fn can_interrupt_paragraph(list: &NodeRef<'_>) -> bool {
     first_number(list, &first) == 1
 }
 
-/// Whether there is a text before the first list in the item.
+/// Whether there is a text before the first list among the item's children.
 fn begins_with_text(item: &NodeRef<'_>) -> bool {
     for child in item.children_it(false) {
         if tag(&child).is_list() {
@@ -130,7 +134,7 @@ fn begins_with_text(item: &NodeRef<'_>) -> bool {
     false
 }
 
-/// Whether there is a character but whitespace in the text of the node.
+/// Whether there is a character other than whitespace in the text of the node.
 fn has_words(node: &NodeRef<'_>) -> bool {
     if let Some(text) = contents(node) {
         return !text.trim().is_empty();
@@ -145,7 +149,7 @@ fn has_words(node: &NodeRef<'_>) -> bool {
     false
 }
 
-/// The number of the first item of a list.
+/// Returns the number of the first item of an ordered list.
 fn first_number(list: &NodeRef<'_>, first: &NodeRef<'_>) -> u32 {
     if let Some(number) = number_at(first, "value") {
         return number;
@@ -156,7 +160,7 @@ fn first_number(list: &NodeRef<'_>, first: &NodeRef<'_>) -> u32 {
     }
 }
 
-/// The number that an attribute gives.
+/// Returns the number in an attribute of the node, as `parse_list_number` reads it.
 pub(super) fn number_at(node: &NodeRef<'_>, name: &str) -> Option<u32> {
     parse_list_number(node.attr(name)?)
 }

@@ -1,4 +1,4 @@
-//! Quotes.
+//! Block quotes.
 
 use crate::context::FormatOpts;
 use crate::serializer::Writer;
@@ -11,8 +11,8 @@ use dom_nodes::node_id::NodeId;
 use dom_trees::node_ref::NodeRef;
 
 impl<'a> Writer<'a> {
-    /// Begins a quote; quotes that hold nothing but a quote are written with it, so that its text
-    /// is copied once.
+    /// Begins a quote. Quotes that contain nothing but a quote are written together with it, so
+    /// that the text is copied only once.
     pub(super) fn begin_quote(&mut self, id: NodeId) -> Result<(), OutOfMemory> {
         let mut inner = id;
         let mut depth: usize = 1;
@@ -28,7 +28,8 @@ impl<'a> Writer<'a> {
         self.begin_text()
     }
 
-    /// Adds the text of a quote, each line behind `> ` for each quote that it stands in.
+    /// Appends the finished text of nested quotes; each line gets one `> ` for each of the `depth`
+    /// quotes.
     pub(super) fn end_quote(&mut self, depth: usize) -> Result<(), OutOfMemory> {
         let quoted = self.end_text();
         if quoted.as_str().is_empty() {
@@ -51,7 +52,7 @@ fn push_marks(text: &mut String, depth: usize) -> Result<(), OutOfMemory> {
     Ok(())
 }
 
-/// The quote that the node holds, where it holds nothing else but comments and blank texts.
+/// Returns the only quote in the node, if its other children are comments and blank texts.
 fn lone_quote(node: &NodeRef<'_>) -> Option<NodeId> {
     let mut found = None;
     for child in node.children_it(false) {

@@ -13,11 +13,11 @@ use std::alloc::Global;
 /// A table that is being written.
 #[derive(Drop)]
 pub(super) struct Table {
-    /// Its cells, the last one that is still to be written first.
+    /// Its cells that remain to be written; the last one is the next.
     cells: Vec<NodeId>,
-    /// What they hold, in order.
+    /// The finished texts of its cells, in document order.
     texts: Vec<String>,
-    /// How many cells each of its rows has, but for empty ones.
+    /// The number of cells in each row that has any.
     rows: Vec<usize>,
     /// Whether the first row is the heading.
     has_heading: bool,
@@ -33,8 +33,9 @@ impl Table {
         }
     }
 
-    /// Notes the rows and cells of a table. Whether it can be written as one: where no table stands
-    /// below it, and all rows but the heading have as many cells.
+    /// Reads the rows and cells of a table. Returns whether it can be written as a Markdown table:
+    /// it has cells, no table is below it, and all its rows except the heading have the same number
+    /// of cells. Rows without cells may only precede those of the body.
     fn read(&mut self, table: &NodeRef<'_>) -> Result<bool, OutOfMemory> {
         self.texts.clear();
         self.cells.clear();
@@ -53,7 +54,8 @@ impl Table {
         Ok(self.has_heading || width > 0)
     }
 
-    /// Notes a row. Whether it has as many cells as those before it.
+    /// Reads a row. Returns whether it has the same number of cells as the rows before it; the
+    /// heading may have any number.
     fn read_row(&mut self, row: &NodeRef<'_>, width: &mut usize) -> Result<bool, OutOfMemory> {
         let before = self.cells.len();
         let mut all_headings = true;
@@ -81,7 +83,8 @@ impl Table {
 }
 
 impl<'a> Writer<'a> {
-    /// Begins a table; what can't be written as one is written as its children.
+    /// Begins a table. If it cannot be written as a Markdown table, only what is below it is
+    /// written.
     pub(super) fn begin_table(&mut self, id: NodeId) -> Result<(), OutOfMemory> {
         let node = NodeRef::new(id, self.tree);
         if !self.table.read(&node)? {
@@ -90,7 +93,7 @@ impl<'a> Writer<'a> {
         self.push(Task::NextCell)
     }
 
-    /// Writes the next cell, or after the last one the table.
+    /// Begins the next cell or, after the last one, appends the table.
     pub(super) fn next_cell(&mut self) -> Result<(), OutOfMemory> {
         let Some(cell) = self.table.cells.pop() else {
             return push_table(&mut self.text, &self.table);
@@ -112,7 +115,7 @@ impl<'a> Writer<'a> {
     }
 }
 
-/// Adds the table.
+/// Appends the table, whose cells are finished.
 fn push_table(text: &mut String, table: &Table) -> Result<(), OutOfMemory> {
     let texts = table.texts.as_slice();
     let rows = table.rows.as_slice();
@@ -136,7 +139,7 @@ fn push_table(text: &mut String, table: &Table) -> Result<(), OutOfMemory> {
     Ok(text.push('\n')?)
 }
 
-/// The first cells, and the rest.
+/// Splits the cells after the first `count`.
 fn split_cells(cells: &[String], count: usize) -> (&[String], &[String]) {
     match cells.split_at_checked(count) {
         Some(parts) => parts,
@@ -144,7 +147,7 @@ fn split_cells(cells: &[String], count: usize) -> (&[String], &[String]) {
     }
 }
 
-/// Adds the headings, with blank ones up to the width.
+/// Appends the row of headings, filled with blank ones up to the width.
 fn push_heading(text: &mut String, cells: &[String], width: usize) -> Result<(), OutOfMemory> {
     for cell in cells {
         push_cell(text, cell.as_str())?;
@@ -155,7 +158,7 @@ fn push_heading(text: &mut String, cells: &[String], width: usize) -> Result<(),
     Ok(text.push_str("|\n")?)
 }
 
-/// Adds the line below the headings.
+/// Appends the line of dashes below the headings.
 fn push_rule(text: &mut String, cells: &[String], width: usize) -> Result<(), OutOfMemory> {
     for cell in cells {
         push_dashes(text, cell.as_str().len())?;
@@ -179,7 +182,7 @@ fn push_cell(text: &mut String, cell: &str) -> Result<(), OutOfMemory> {
     Ok(text.push(' ')?)
 }
 
-/// Adds as many dashes, one at least.
+/// Appends `count` dashes, but at least one, as a cell.
 fn push_dashes(text: &mut String, count: usize) -> Result<(), OutOfMemory> {
     text.push_str("| -")?;
     for _ in 1..count {
@@ -188,7 +191,7 @@ fn push_dashes(text: &mut String, count: usize) -> Result<(), OutOfMemory> {
     Ok(text.push(' ')?)
 }
 
-/// Parts a block from what stands before it in a cell.
+/// Separates a block in a cell from what precedes it, by `<br>`.
 pub(super) fn add_cell_break(text: &mut String) -> Result<(), OutOfMemory> {
     trim_end_spaces(text);
     if !text.as_str().is_empty() && before_break(text.as_str()).is_none() {
@@ -197,7 +200,7 @@ pub(super) fn add_cell_break(text: &mut String) -> Result<(), OutOfMemory> {
     Ok(())
 }
 
-/// Takes the breaks at the end of a cell away.
+/// Removes the breaks at the end of a cell.
 fn trim_cell_breaks(text: &mut String) {
     for _ in 0..text.as_str().len() {
         let Some(front) = before_break(text.as_str()) else {
@@ -208,7 +211,7 @@ fn trim_cell_breaks(text: &mut String) {
     }
 }
 
-/// What stands before a break at the end, unless that is a word with a backslash before it.
+/// Returns the text before a `<br>` at its end; `None` if there is none, or if it is escaped.
 fn before_break(text: &str) -> Option<&str> {
     let front = text.strip_suffix("<br>")?;
     let slashes = front.len() - front.trim_end_matches('\\').len();

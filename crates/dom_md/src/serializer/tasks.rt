@@ -1,48 +1,48 @@
-//! What is still to be written.
+//! The tasks of a serialization: what remains to be written.
 
 use crate::context::{FormatOpts, ListContext};
 use dom_nodes::node_id::NodeId;
 
-/// A part of what is still to be written.
+/// A piece of what remains to be written.
 #[derive(Clone, Copy)]
 pub(super) enum Task {
-    /// The node and its later siblings.
+    /// Writes the node and its later siblings.
     Row { id: NodeId, opts: FormatOpts },
-    /// The node.
+    /// Writes the node.
     Node { id: NodeId, opts: FormatOpts },
-    /// The end of the element.
+    /// Writes the end of the element.
     Close { id: NodeId, opts: FormatOpts },
-    /// The text loses the whitespace at both ends.
+    /// Removes the whitespace at both ends of the current text.
     Trim,
-    /// The line of an item ends.
+    /// Ends the line of an item.
     EndLine { table_cell: bool },
-    /// The text of an emphasis ends; `merged` where it stands in one of the same kind.
+    /// Ends an emphasized text; `merged` says whether it is in emphasis of the same kind.
     EndEmphasis { marker: Marker, merged: bool },
-    /// The text of a link ends.
+    /// Ends the text of a link.
     EndLink { id: NodeId },
-    /// The text of a code span ends.
+    /// Ends the text of a code span.
     EndCode { id: NodeId },
-    /// The text of a quote ends, which stands in so many quotes.
+    /// Ends the text of a quote that is `depth` quotes deep.
     EndQuote { depth: usize },
-    /// A child of a list, and its later siblings.
+    /// Writes a child of a list and its later siblings.
     NextItem { id: NodeId, context: ListContext },
-    /// A list ends.
+    /// Ends a list.
     EndList,
-    /// A child of an item with blocks, and its later siblings.
+    /// Writes a child of an item that contains blocks, and its later siblings.
     NextBlock { id: NodeId },
-    /// A block of an item ends.
+    /// Ends a block in an item.
     EndBlock { heading: bool },
-    /// The text of a quote or a code block in an item ends.
+    /// Ends the text of a quote or a code block in an item.
     EndIndented,
-    /// An item with blocks ends.
+    /// Ends an item that contains blocks.
     EndItem,
-    /// A cell of the table, and the later ones.
+    /// Writes the next cell of the table, and the later ones.
     NextCell,
-    /// The text of a cell ends.
+    /// Ends the text of a cell.
     EndCell,
 }
 
-/// What stands round an emphasis.
+/// The marker on both sides of an emphasized text: `**` or `*`.
 #[derive(Clone, Copy, Drop)]
 pub(super) enum Marker {
     Strong,
@@ -58,17 +58,17 @@ impl Marker {
     }
 }
 
-/// An item with blocks that is being written.
+/// An item that contains blocks and is being written.
 #[derive(Clone, Copy)]
 pub(super) struct Item {
-    /// The list, after the item's number.
+    /// The state of the list after the item's number.
     pub(super) context: ListContext,
-    /// How far its blocks stand from the left.
+    /// The indentation of its blocks, in columns.
     pub(super) indent: usize,
-    /// Where its content begins in the text.
+    /// The index in the text at which its content begins.
     pub(super) start: usize,
-    /// No block was written yet.
+    /// No block has been written yet.
     pub(super) is_first: bool,
-    /// A blank line stands before what comes next.
+    /// A line break is due before the next child that is neither blank nor a `pre`.
     pub(super) is_line_due: bool,
 }

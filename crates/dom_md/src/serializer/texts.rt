@@ -1,18 +1,18 @@
-//! Steps on the text so far.
+//! Changes at the ends of the text so far.
 
 use crate::chunks::is_list_marker;
 use crate::context::FormatOpts;
 use crate::serializer::words::push_words;
 use dom_nodes::fault::OutOfMemory;
 
-/// Keeps what stands before a place where a character begins.
+/// Cuts the text off at an index, if a character begins there.
 pub(super) fn cut_at(text: &mut String, end: usize) {
     if text.is_char_boundary(end) {
         text.truncate(end);
     }
 }
 
-/// Takes the spaces at the end away.
+/// Removes the spaces at the end.
 pub(super) fn trim_end_spaces(text: &mut String) {
     if ends_in_byte(text.as_str(), b' ') {
         let end = text.as_str().trim_end_matches(' ').len();
@@ -20,13 +20,13 @@ pub(super) fn trim_end_spaces(text: &mut String) {
     }
 }
 
-/// Takes the whitespace at the end away.
+/// Removes the ASCII whitespace at the end.
 pub(super) fn trim_end_space(text: &mut String) {
     let end = text.as_str().trim_ascii_end().len();
     cut_at(text, end);
 }
 
-/// Takes the whitespace at the start away.
+/// Removes the ASCII whitespace at the start.
 pub(super) fn trim_start_space(text: &mut String) -> Result<(), OutOfMemory> {
     let rest = text.as_str().trim_ascii_start();
     if rest.len() < text.as_str().len() {
@@ -36,13 +36,13 @@ pub(super) fn trim_start_space(text: &mut String) -> Result<(), OutOfMemory> {
     Ok(())
 }
 
-/// Takes the whitespace at both ends away.
+/// Removes the ASCII whitespace at both ends.
 pub(super) fn trim_space(text: &mut String) -> Result<(), OutOfMemory> {
     trim_end_space(text);
     trim_start_space(text)
 }
 
-/// Adds that many spaces.
+/// Appends `count` spaces.
 pub(super) fn push_spaces(text: &mut String, count: usize) -> Result<(), OutOfMemory> {
     for _ in 0..count {
         text.push(' ')?;
@@ -50,13 +50,14 @@ pub(super) fn push_spaces(text: &mut String, count: usize) -> Result<(), OutOfMe
     Ok(())
 }
 
-/// Adds line feeds until the text, without the spaces at its end, ends in one, or in two.
+/// Removes the spaces at the end, and appends line feeds until the text ends in `end`, which is one
+/// or two line feeds.
 pub(super) fn add_linebreaks(text: &mut String, end: &str) -> Result<(), OutOfMemory> {
     trim_end_spaces(text);
     push_linebreaks(text, end)
 }
 
-/// Adds line feeds until the text ends in one, or in two.
+/// Appends line feeds until the text ends in `end`, which is one or two line feeds.
 pub(super) fn push_linebreaks(text: &mut String, end: &str) -> Result<(), OutOfMemory> {
     for _ in 0..2 {
         if text.as_str().ends_with(end) {
@@ -67,7 +68,7 @@ pub(super) fn push_linebreaks(text: &mut String, end: &str) -> Result<(), OutOfM
     Ok(())
 }
 
-/// Adds a space where the text doesn't end in whitespace.
+/// Appends a space unless the text is empty or ends in whitespace.
 pub(super) fn push_block_space(text: &mut String) -> Result<(), OutOfMemory> {
     if !text.as_str().is_empty() && !ends_in_whitespace(text.as_str()) {
         text.push(' ')?;
@@ -75,7 +76,7 @@ pub(super) fn push_block_space(text: &mut String) -> Result<(), OutOfMemory> {
     Ok(())
 }
 
-/// Puts a backslash before a `!` at the end.
+/// Puts a backslash before a `!` at the end, which would make an image of the link after it.
 pub(super) fn escape_trailing_bang(text: &mut String) -> Result<(), OutOfMemory> {
     if !ends_in_byte(text.as_str(), b'!') {
         return Ok(());
@@ -85,7 +86,8 @@ pub(super) fn escape_trailing_bang(text: &mut String) -> Result<(), OutOfMemory>
     Ok(text.push_str("\\!")?)
 }
 
-/// Puts a backslash before the last `#` signs of a heading, which would be read as its end.
+/// Puts a backslash before the run of `#` at the end of a heading, if a space precedes it: Markdown
+/// would read it as the closing sequence of the heading and leave it out.
 pub(super) fn escape_closing_hashes(text: &mut String) -> Result<(), OutOfMemory> {
     let content = text.as_str().trim_end();
     let stem = content.trim_end_matches('#');
@@ -99,7 +101,7 @@ pub(super) fn escape_closing_hashes(text: &mut String) -> Result<(), OutOfMemory
     Ok(())
 }
 
-/// Adds the words of a text.
+/// Appends the words of a text node, with one space for each run of whitespace.
 pub(super) fn push_text(
     text: &mut String,
     added: &str,
@@ -121,7 +123,7 @@ pub(super) fn push_text(
     Ok(())
 }
 
-/// Whether the text ends in digits that begin a line, or an item of a list.
+/// Whether the text ends in one to nine digits that begin a line or a list item.
 pub(super) fn ends_in_marker_digits(text: &str) -> bool {
     let stem = text.trim_end_matches(|c: char| c.is_ascii_digit());
     let digits = text.len() - stem.len();
@@ -131,7 +133,7 @@ pub(super) fn ends_in_marker_digits(text: &str) -> bool {
     begins_line(before_item_mark(stem).trim_end_matches(' '))
 }
 
-/// What stands before the mark of an item, where the text ends in one; else the text.
+/// Returns the text before a prefix of a list item at its end; the whole text if there is none.
 fn before_item_mark(text: &str) -> &str {
     let Some(marked) = text.strip_suffix(' ') else {
         return text;
@@ -156,8 +158,8 @@ fn ends_in_gap(text: &str) -> bool {
     ends_in_byte(text, b'\n') || ends_in_byte(text, b' ')
 }
 
-/// Whether the last byte of the text is this one. For ASCII that is quicker than to look for the
-/// last character.
+/// Whether the last byte of the text is this one. For ASCII this is faster than decoding the last
+/// character.
 pub(super) fn ends_in_byte(text: &str, byte: u8) -> bool {
     match text.as_bytes().last() {
         Some(last) => *last == byte,

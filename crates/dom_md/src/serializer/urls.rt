@@ -8,7 +8,7 @@ use dom_nodes::escaping::html_escape;
 use dom_nodes::fault::OutOfMemory;
 use std::alloc::AllocError;
 
-/// Adds an address and, where there is one, a title, in parentheses.
+/// Appends, in parentheses, an address and, if there is one, a title.
 pub(super) fn push_target(
     text: &mut String,
     address: &str,
@@ -44,8 +44,9 @@ fn push_address(text: &mut String, address: &str) -> Result<(), OutOfMemory> {
 /// The bit for `&` in `KINDS`.
 const AMPERSAND: u8 = 1;
 
-/// For each byte of an address 0 where it is written as it is: letters, digits and `#`, `%`, `+`,
-/// `,`, `-`, `.`, `/`, `:`, `=`, `?`, `@`, `_`, `~`; `AMPERSAND` for `&`; else 2.
+/// The kind of each byte in an address. It is 0 for a byte that is written unchanged: letters,
+/// digits and `#`, `%`, `+`, `,`, `-`, `.`, `/`, `:`, `=`, `?`, `@`, `_`, `~`. It is `AMPERSAND`
+/// for `&`, and 2 for all others.
 #[rattlefmt::skip]
 static KINDS: [u8; 256] = [
     2, 2, 2, 2, 2, 2, 2, 2, 2, 2, 2, 2, 2, 2, 2, 2, 2, 2, 2, 2, 2, 2, 2, 2, 2, 2, 2, 2, 2, 2, 2, 2,
@@ -58,7 +59,7 @@ static KINDS: [u8; 256] = [
     2, 2, 2, 2, 2, 2, 2, 2, 2, 2, 2, 2, 2, 2, 2, 2, 2, 2, 2, 2, 2, 2, 2, 2, 2, 2, 2, 2, 2, 2, 2, 2,
 ];
 
-/// The bits of all bytes of an address.
+/// Returns the bitwise or of the kinds of all bytes of an address.
 fn kinds_of(address: &[u8]) -> u8 {
     let mut kinds = 0;
     for byte in address {
@@ -67,7 +68,7 @@ fn kinds_of(address: &[u8]) -> u8 {
     kinds
 }
 
-/// Adds the address with `&amp;` for each `&`.
+/// Appends the address with `&amp;` in place of each `&`.
 fn push_ampersands(text: &mut String, address: &str) -> Result<(), AllocError>
     ensures { Adds text.old text.new result (with_ampersands address.now) }
 {
@@ -80,7 +81,8 @@ fn push_ampersands(text: &mut String, address: &str) -> Result<(), AllocError>
     text.push_str(rest)
 }
 
-/// Whether the address can stand without brackets round it.
+/// Whether the address can be written without angle brackets: its parentheses are balanced, and it
+/// has no space, `<` or control character.
 fn is_plain(address: &str) -> bool {
     let mut open: usize = 0;
     for byte in address.as_bytes() {
@@ -109,7 +111,7 @@ fn push_plain(text: &mut String, address: &str) -> Result<(), OutOfMemory> {
     Ok(())
 }
 
-/// Adds a character of an address in brackets.
+/// Appends a character of an address that is in angle brackets.
 fn push_enclosed(text: &mut String, c: char) -> Result<(), OutOfMemory> {
     match c {
         '\\' => text.push_str("\\\\")?,

@@ -1,4 +1,4 @@
-//! The words of a text, as they are written.
+//! Writing of the words of a text. Start at `push_words`.
 
 ghost use Rattle.std.specs.Prelude.{◌≡◌, ◌||◌, ◌+◌, ◌<◌, ◌≤◌, OnOk, MatchOption, codes};
 ghost use Rattle.std.specs.Prelude.{drop, false, length, slice_index_or, string_bytes, true};
@@ -19,7 +19,8 @@ use dom_nodes::fault::OutOfMemory;
 use std::alloc::AllocError;
 use std::simd::prelude::*;
 
-/// Adds the words of a text, one space between any two, and one before them if they are `parted`.
+/// Appends the words of a text with one space between each two, and one before them if `parted`.
+/// Marks are escaped unless `skip_escape` is on. Fails only when memory runs out.
 pub(super) fn push_words(
     text: &mut String,
     added: &str,
@@ -40,7 +41,7 @@ pub(super) fn push_words(
     push_row(text, row, !opts.skip_escape, line_start)
 }
 
-/// Adds the words of a text that begins with one.
+/// Appends the words of a text that begins with a word.
 fn push_row(text: &mut String, row: &str, escape: bool, line_start: bool) -> Result<(), OutOfMemory>
     ensures { OnOk result (escape ≡ true → ReadsIn text.old text.new (written false row.now)) }
 {
@@ -59,7 +60,7 @@ fn begins_with_stop(row: &str) -> bool {
     }
 }
 
-/// The length of the word at the front.
+/// Returns the length in bytes of the word at the front.
 fn word_len(bytes: &[u8]) -> usize
     ensures within { result ≤ length bytes.now }
     ensures ascii { result < length bytes.now → slice_index_or bytes.now result 0 < 128 }
@@ -73,8 +74,8 @@ fn word_len(bytes: &[u8]) -> usize
     bytes.len()
 }
 
-/// Adds a word; a backslash stands before one that would make a list's mark of the digits before
-/// it.
+/// Appends a word that may begin a line. A lone `.` or `)` gets a backslash if it would make the
+/// number of a list item of the digits before it.
 fn push_first_word(text: &mut String, word: &str, line_start: bool) -> Result<(), OutOfMemory>
     ensures { OnOk result (ReadsIn text.old text.new word.now) }
 {
@@ -91,8 +92,8 @@ fn is_stop_word(word: &str) -> bool
     word == "." || word == ")"
 }
 
-/// Adds a text with one space for whitespace before a word and none at its end; with `escape`, a
-/// backslash stands before each mark.
+/// Appends a text with one space for each run of whitespace before a word and none at its end; with
+/// `escape`, a backslash is put before each mark.
 pub(crate) fn push_written(text: &mut String, added: &str, escape: bool) -> Result<(), AllocError>
     ensures { Adds text.old text.new result (written escape added.now) }
 {
@@ -105,7 +106,7 @@ pub(crate) fn push_written(text: &mut String, added: &str, escape: bool) -> Resu
     text.push_str(rest)
 }
 
-/// A byte that isn't written as it is, the text before it and the text after it.
+/// A byte that is not written unchanged, with the text before and after it.
 #[derive(Clone, Copy)]
 struct Change<'a> {
     before: &'a str,
@@ -113,7 +114,7 @@ struct Change<'a> {
     after: &'a str,
 }
 
-/// The first such byte.
+/// Splits a text at the first such byte; returns `None` if there is none.
 fn cut_change(text: &str, escape: bool) -> Option<Change<'_>>
     ensures { CutsFirstChange escape text.now result }
 {
@@ -125,7 +126,7 @@ fn cut_change(text: &str, escape: bool) -> Option<Change<'_>>
     })
 }
 
-/// The place of the first such byte.
+/// Returns the index of the first such byte.
 fn find_change(bytes: &[u8], escape: bool) -> Option<usize>
     ensures { MatchOption result (written escape bytes.now ≡ bytes.now)
         (IsFirstChange escape bytes.now) }
@@ -138,7 +139,7 @@ fn find_change(bytes: &[u8], escape: bool) -> Option<usize>
     None
 }
 
-/// A place up to which all is written as it is, found 16 bytes at a time.
+/// Returns an index up to which all bytes are written unchanged, found 16 bytes at a time.
 fn same_blocks(bytes: &[u8], escape: bool) -> usize
     ensures within { result ≤ length bytes.now }
     ensures same { KeepsFront (written escape) bytes.now result }
@@ -154,8 +155,8 @@ fn same_blocks(bytes: &[u8], escape: bool) -> usize
     at
 }
 
-/// How many of the 16 bytes at this place are surely written as they are, up to the first that may
-/// not be.
+/// Returns how many of the 16 bytes at this index are surely written unchanged, up to the first
+/// that may not be.
 fn same_run(bytes: &[u8], at: usize, escape: bool) -> usize
     requires { at + 17 ≤ length bytes.now }
     ensures within { result ≤ 16 }
@@ -169,7 +170,7 @@ fn same_run(bytes: &[u8], at: usize, escape: bool) -> usize
     unmarked_len(gaps)
 }
 
-/// Marks the lanes that hold a mark, a `!` or one of a few bytes beside them.
+/// Marks the lanes that contain a mark, a `!` or one of a few other bytes.
 fn special(v: u8x16) -> u8x16
     ensures { Marks result (λ k. is_special (slice_index_or v k 0)) }
 {
@@ -180,7 +181,7 @@ fn special(v: u8x16) -> u8x16
     either(brackets, either(quotes, signs))
 }
 
-/// 1 for each byte that is written as it is, whatever follows it: no whitespace, no mark and no
+/// 1 for each byte that is written unchanged whatever follows it: it is not whitespace, a mark or
 /// `!`.
 #[rattlefmt::skip]
 static PLAIN: [u8; 256] = [
@@ -194,13 +195,13 @@ static PLAIN: [u8; 256] = [
     1, 1, 1, 1, 1, 1, 1, 1, 1, 1, 1, 1, 1, 1, 1, 1, 1, 1, 1, 1, 1, 1, 1, 1, 1, 1, 1, 1, 1, 1, 1, 1,
 ];
 
-/// Whether the byte at this place isn't written as it is.
+/// Whether the byte at this index is not written unchanged.
 fn is_changed(bytes: &[u8], at: usize, escape: bool) -> bool
     requires { at < length bytes.now }
     ensures { result
         ≡ is_changed escape (slice_index_or bytes.now at 0) (drop (at + 1) bytes.now) }
 {
-    // Most bytes of most texts.
+    // This is the case for most bytes of most texts.
     if PLAIN[bytes[at] as usize] == 1 {
         return false;
     }
@@ -225,7 +226,7 @@ fn begins_word(bytes: &[u8]) -> bool
     }
 }
 
-/// Adds what is written for such a byte.
+/// Appends what is written for such a byte.
 fn push_change(text: &mut String, changed: &str, after: &str) -> Result<(), AllocError>
     ensures { Adds text.old text.new result (change_of changed.now after.now) }
 {

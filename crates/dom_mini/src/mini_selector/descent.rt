@@ -1,5 +1,5 @@
-//! Paths of descendant steps alone: one traversal holds for each node how many of the steps are
-//! matched above it, each below the one before. A node is tested for one step.
+//! Paths of descendant combinators alone. One traversal keeps for each node how many steps are
+//! matched above it, one below the other, so a node is tested for one step.
 
 ghost use Rattle.std.specs.Prelude.{◌≡◌, ◌<◌, ◌++◌, None, [], false, length, true, IfOk, OnOk};
 ghost use Rattle.dom_links.specs.Forest.{forest_of};
@@ -19,17 +19,17 @@ use dom_selectors::mini_selector::selector::MiniSelector;
 use std::alloc::Global;
 
 /// A node that is still to be visited, and how many steps are matched above it.
-type Waiting = (NodeId, usize);
+type PendingNode = (NodeId, usize);
 
-/// Whether each step is a descendant step.
+/// Returns whether each step has the descendant combinator.
 pub(crate) fn goes_down(path: &[MiniSelector<'_>]) -> bool
     ensures { result ≡ goes_down path.now }
 {
     path.iter().all(|mini| is_deep(mini.combinator()))
 }
 
-/// How many steps are matched at the node or above it, but for the last step; `passed` are above
-/// it. A node that the last step matches then is added.
+/// Returns how many steps, apart from the last, are matched at or above the node; `passed` are
+/// matched above it. If the last step matches the node, the node is added to `found`.
 #[inline(always)]
 fn count_passed(
     path: &[MiniSelector<'_>],
@@ -54,14 +54,14 @@ fn count_passed(
     Ok(passed)
 }
 
-/// The node that is visited after one of these links: its first child, at which `below` steps are
-/// passed, or its next sibling, or the last one that waits; a sibling waits where there is a child.
+/// Returns the node to be visited next: the first child, at which `below` steps are passed, or the
+/// next sibling, or the last pending node. If there is a child, the sibling becomes pending.
 #[inline(always)]
 fn go_on(
     node: &TreeNode,
     below: usize,
     passed: &mut usize,
-    pending: &mut Vec<Waiting>,
+    pending: &mut Vec<PendingNode>,
 ) -> Result<Option<NodeId>, OutOfMemory>
     ensures waits { IfOk result (λ next. pending.new.items ++ waiting next passed.new
         ≡ (pending.old.items ++ waiting node.now.next_sibling passed.old)
@@ -85,7 +85,8 @@ fn go_on(
     Ok(Some(id))
 }
 
-/// The nodes that a path of descendant steps finds below a node.
+/// Returns the nodes that a path of descendant steps reaches from a node. Fails only when memory
+/// runs out.
 pub(crate) fn follow_down(
     alloc: Global,
     nodes: &[TreeNode],
@@ -97,6 +98,7 @@ pub(crate) fn follow_down(
     requires some { 0 < length path.now }
     ensures { IfOk result (λ found. IsFound path.now (forest_of nodes.now) start found.items) }
 {
+    // Laws, called for their contracts alone.
     lines_of_a_forest();
     trees_of_a_forest();
     let mut found = Vec::new(alloc);

@@ -1,4 +1,5 @@
-//! Nodes that are asked for mini selectors and for paths of them.
+//! Questions to one node with mini selectors and with paths of them: methods of `NodeRef` in the
+//! crate dom_query.
 
 ghost use Rattle.std.specs.Prelude.{◌≡◌, ◌⊎◌, [], IfOk, MatchBool, MatchResult};
 ghost use Rattle.dom_trees.specs.Views.{refs_to};
@@ -18,30 +19,33 @@ use dom_selectors::mini_selector::selector::MiniSelector;
 use dom_trees::node_ref::NodeRef;
 use dom_trees::tree::Tree;
 
-/// A node that mini selectors, and paths of them or of names, are asked of.
+/// A node against which mini selectors and paths are matched.
 pub trait MiniSelect<'a> {
-    /// The nodes that names reach, each of a descendant of the one before: each node once, in
-    /// document order. No name reaches the node itself, and nothing where it is unknown.
+    /// Returns the elements that a path of local names reaches: descendants of the node with the
+    /// first name, their descendants with the next name, and so on. Each is returned once, in
+    /// document order. An empty path reaches the node itself; if the tree has no such node, nothing
+    /// is reached. Fails only when memory runs out.
     fn find(&self, path: &[&str]) -> Result<Vec<NodeRef<'a>>, OutOfMemory>;
 
-    /// The nodes that the path reaches, each once, in document order. One of which nothing can be
-    /// read reaches the node itself, and nothing where it is unknown; one with a bad value in
-    /// quotes reaches nothing.
+    /// Returns the nodes that a path of mini selectors reaches from the node, each once, in
+    /// document order. A text that starts with no mini selector reaches the node itself, if the
+    /// tree has it; a text with a malformed quoted value reaches nothing. Fails only when memory
+    /// runs out.
     fn find_descendants(&self, path: &str) -> Result<Vec<NodeRef<'a>>, OutOfMemory>;
 
-    /// The nodes that the path reaches; `BadQuotedValue` where one of its values begins with a
-    /// quote and is empty, or isn't closed by that quote.
+    /// Returns the nodes that a path of mini selectors reaches, like `find_descendants`. Fails with
+    /// `BadQuotedValue` if a quoted value is empty or not closed, and with `Memory`.
     fn try_find_descendants(&self, path: &str) -> Result<Vec<NodeRef<'a>>, MiniFault>;
 
-    /// Whether the mini selector at the front of the text is true of the node; false where there is
-    /// none.
+    /// Returns whether the mini selector at the start of the text matches the node; `false` if
+    /// there is none. It parses the text on every call. Fails only when memory runs out.
     fn mini_is(&self, selector: &str) -> Result<bool, OutOfMemory>;
 
-    /// Whether the mini selector is true of the node. It takes no memory.
+    /// Returns whether the mini selector matches the node. It allocates no memory.
     fn mini_match(&self, selector: &MiniSelector<'_>) -> bool;
 }
 
-/// The nodes of these numbers.
+/// Returns references to the nodes with these ids.
 fn refs<'a>(tree: &'a Tree, ids: &[NodeId]) -> Result<Vec<NodeRef<'a>>, OutOfMemory>
     ensures { IfOk result (λ refs. refs.items ≡ refs_to tree.entry ids.now) }
 {

@@ -1,5 +1,5 @@
-//! What a path of mini selectors reaches from a node: one traversal, which has for each step a
-//! flag at each node that is still to be visited, and goes on only where a flag is set.
+//! Paths with any combinators. One traversal keeps a flag for each step at each node that is still
+//! to be visited, and goes on only where a flag is set.
 
 ghost use Rattle.std.specs.Prelude.{◌≡◌, ◌≤◌, ◌<◌, ◌++◌, length, take, drop, map, IfOk, OnOk};
 ghost use Rattle.dom_links.specs.Forest.{children_of, forest_of, siblings};
@@ -24,9 +24,9 @@ use dom_selectors::mini_selector::selector::MiniSelector;
 use dom_selectors::syntax::Combinator;
 use std::alloc::Global;
 
-/// A traversal under way: the nodes that are still to be visited, the last of them next, and the
-/// flags of each, one a step. Such a flag is set where a node that the steps before reach stands
-/// to the node as the step's combinator says.
+/// A traversal in progress: the nodes to be visited, the last of them next, and the flags of each,
+/// one for each step. A flag is set if the step's combinator relates the node to one that the steps
+/// before reach.
 #[derive(Drop)]
 pub(crate) struct PathSearch {
     pending: Vec<NodeId>,
@@ -35,8 +35,8 @@ pub(crate) struct PathSearch {
     found: Vec<NodeId>,
 }
 
-/// The flag at a node, by the next one to the left of it: `here` states that the steps before
-/// reach that one, and `on` is its flag.
+/// Returns the flag at a node, computed from the next node to its left: `here` says that the steps
+/// before reach that node, and `on` is its flag.
 #[inline(always)]
 fn passed_on(combinator: Combinator, is_element: bool, here: bool, on: bool) -> bool
     ensures { result ≡ passed_on combinator is_element here on }
@@ -48,7 +48,7 @@ fn passed_on(combinator: Combinator, is_element: bool, here: bool, on: bool) -> 
     }
 }
 
-/// The flag at the first child.
+/// Returns the flag at the first child.
 #[inline(always)]
 fn flag_below(combinator: Combinator, is_element: bool, here: bool, on: bool) -> bool
     ensures { result ≡ flag_below combinator is_element here on }
@@ -59,7 +59,7 @@ fn flag_below(combinator: Combinator, is_element: bool, here: bool, on: bool) ->
     passed_on(combinator, is_element, here, on)
 }
 
-/// The flag at the next sibling.
+/// Returns the flag at the next sibling.
 #[inline(always)]
 fn flag_beside(combinator: Combinator, is_element: bool, here: bool, on: bool) -> bool
     ensures { result ≡ flag_beside combinator is_element here on }
@@ -70,7 +70,7 @@ fn flag_beside(combinator: Combinator, is_element: bool, here: bool, on: bool) -
     on
 }
 
-/// Whether the path reaches the node with these flags, where `is_start` states that it is the
+/// Returns whether the path reaches the node with these flags; `is_start` says that it is the
 /// start. The flags become those of its next sibling, and `below` those of its first child.
 fn step_flags(
     path: &[MiniSelector<'_>],
@@ -99,7 +99,7 @@ fn step_flags(
 }
 
 impl PathSearch {
-    /// The same for the last flags of the traversal; those before them stay.
+    /// Calls `step_flags` for the last flags of the traversal; the flags before them are unchanged.
     fn step_last(&mut self, path: &[MiniSelector<'_>], node: &NodeData, is_start: bool) -> bool
         requires room { length path.now ≤ length self.old.flags.items }
         requires below { length self.old.below.items ≡ length path.now }
@@ -113,7 +113,7 @@ impl PathSearch {
     }
 }
 
-/// Whether one of the flags is set.
+/// Returns whether one of the flags is set.
 fn is_any(flags: &[bool]) -> bool
     ensures { result ≡ is_any flags.now }
 {
@@ -130,8 +130,8 @@ fn push_if(found: &mut Vec<NodeId>, id: NodeId, passes: bool) -> Result<(), OutO
     Ok(())
 }
 
-/// Visits a node, whose flags stand behind those of the nodes to be visited: it is found, where the
-/// path reaches it, and its next sibling and first child are to be visited, where a flag is set.
+/// Visits a node, whose flags follow those of the pending nodes. The node is found if the path
+/// reaches it, and its next sibling and first child become pending if one of their flags is set.
 fn visit(
     nodes: &[TreeNode],
     path: &[MiniSelector<'_>],
@@ -145,6 +145,7 @@ fn visit(
     ensures { OnOk result
         (IsVisited (forest_of nodes.now) path.now id is_start search.old search.new) }
 {
+    // Laws, called for their contracts alone.
     lines_of_a_forest();
     trees_of_a_forest();
     let Some(node) = find_node(nodes, id) else {
@@ -157,7 +158,7 @@ fn visit(
     wait_below(nodes, id, search)
 }
 
-/// The next sibling is to be visited, where one of its flags is set; else they are left.
+/// Makes the next sibling pending if one of its flags is set, and drops its flags otherwise.
 fn wait_beside(
     nodes: &[TreeNode],
     id: NodeId,
@@ -179,7 +180,7 @@ fn wait_beside(
     Ok(())
 }
 
-/// The first child is to be visited, where one of its flags is set.
+/// Makes the first child pending if one of its flags is set.
 fn wait_below(nodes: &[TreeNode], id: NodeId, search: &mut PathSearch) -> Result<(), OutOfMemory>
     requires { IsSoundArena nodes.now }
     ensures { OnOk result (IsWaiting (first (children_of (forest_of nodes.now) id))
@@ -194,7 +195,7 @@ fn wait_below(nodes: &[TreeNode], id: NodeId, search: &mut PathSearch) -> Result
     Ok(())
 }
 
-/// What a path reaches from a node.
+/// Returns the nodes that a path reaches from a node. Fails only when memory runs out.
 pub(crate) fn follow(
     alloc: Global,
     nodes: &[TreeNode],
@@ -225,7 +226,7 @@ pub(crate) fn follow(
     Ok(search.found)
 }
 
-/// The path of names alone.
+/// Returns the path for a list of names.
 pub(crate) fn path_of<'a>(
     alloc: Global,
     names: &[&'a str],

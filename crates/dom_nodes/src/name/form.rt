@@ -1,4 +1,5 @@
-//! A name in 16 bytes, with room for what an element holds beside its name and its attributes.
+//! The storage of a name in 16 bytes, with room for two parts of an element: its flag and its
+//! template contents.
 
 ghost use Rattle.std.specs.Prelude.{◌≡◌, IfOk, IfSome, MatchOption, None};
 ghost use Rattle.std.specs.Option.{option_copied};
@@ -12,22 +13,24 @@ use crate::fault::OutOfMemory;
 use crate::link::Link;
 use crate::text::RareText;
 
-/// A name, and beside it a flag and the contents of a template, which elements alone have.
+/// A name, and beside it the flag and the template contents of an element. In the name of an
+/// attribute these two are false and empty.
 #[derive(Drop)]
 pub(crate) enum NameForm {
-    /// A known name in the HTML namespace, without prefix.
+    /// A known name, by its table index, in the HTML namespace, without prefix.
     Html(bool, u8, Link),
-    /// A known name in no namespace, without prefix.
+    /// A known name, by its table index, in no namespace, without prefix.
     Plain(bool, u8, Link),
-    /// A name that isn't known, in the HTML namespace, without prefix.
+    /// A name that isn't in the table, in the HTML namespace, without prefix.
     OwnHtml(bool, Link, RareText),
-    /// A name that isn't known, in no namespace, without prefix.
+    /// A name that isn't in the table, in no namespace, without prefix.
     OwnPlain(bool, Link, RareText),
+    /// Any other name.
     Other(bool, Link, Box<NameParts>),
 }
 
 impl NameForm {
-    /// The name in the HTML namespace, without prefix.
+    /// Returns the name in the HTML namespace, without prefix, with this flag and these contents.
     #[inline(always)]
     pub(crate) fn html(flag: bool, contents: Link, local: LocalName) -> NameForm
         ensures name { form_name result ≡ html_name local }
@@ -41,7 +44,7 @@ impl NameForm {
         }
     }
 
-    /// The name in no namespace, without prefix.
+    /// Returns the name in no namespace, without prefix, with this flag and these contents.
     #[inline(always)]
     pub(crate) fn plain(flag: bool, contents: Link, local: LocalName) -> NameForm
         ensures name { form_name result ≡ plain_name local }
@@ -55,7 +58,7 @@ impl NameForm {
         }
     }
 
-    /// The name with another local name; all else stays.
+    /// Returns the name with its local name replaced; all else stays.
     pub(crate) fn with_local(self, name: LocalName) -> NameForm
         ensures name { form_name result ≡ record (form_name self) { local = name } }
         ensures flag { form_flag result ≡ form_flag self }
@@ -74,7 +77,7 @@ impl NameForm {
         }
     }
 
-    /// The same name with another flag and other contents.
+    /// Returns the same name with another flag and other contents.
     #[inline(always)]
     pub(crate) fn beside(self, flag: bool, contents: Link) -> NameForm
         ensures name { form_name result ≡ form_name self }
@@ -91,7 +94,7 @@ impl NameForm {
         }
     }
 
-    /// The local name.
+    /// Returns the local name.
     #[inline(always)]
     pub(crate) fn local(&self) -> LocalRef<'_>
         requires { IsCanonicalName self.now }
@@ -106,7 +109,8 @@ impl NameForm {
         }
     }
 
-    /// The number of the name, where it is a known one in the HTML namespace.
+    /// Returns the index of the local name in the table of known names, if the name is in the HTML
+    /// namespace and in the table; `None` otherwise.
     #[inline(always)]
     pub(crate) fn html_number(&self) -> Option<u8>
         requires { IsCanonicalName self.now }
@@ -120,7 +124,7 @@ impl NameForm {
         }
     }
 
-    /// The namespace.
+    /// Returns the namespace.
     #[inline(always)]
     pub(crate) fn ns(&self) -> NamespaceRef<'_>
         ensures { namespace_of result ≡ (form_name self.now).ns }
@@ -133,7 +137,7 @@ impl NameForm {
         }
     }
 
-    /// The prefix.
+    /// Returns the prefix, or `None` when there is none.
     pub(crate) fn prefix(&self) -> Option<&str>
         ensures { option_copied result ≡ (form_name self.now).prefix }
     {
@@ -143,7 +147,7 @@ impl NameForm {
         }
     }
 
-    /// The flag beside the name.
+    /// Returns the flag beside the name.
     #[inline(always)]
     pub(crate) fn flag(&self) -> bool
         ensures { result ≡ form_flag self.now }
@@ -157,7 +161,7 @@ impl NameForm {
         }
     }
 
-    /// The contents beside the name.
+    /// Returns the template contents beside the name.
     #[inline(always)]
     pub(crate) fn contents(&self) -> Link
         ensures { result ≡ form_contents self.now }
@@ -171,7 +175,8 @@ impl NameForm {
         }
     }
 
-    /// The same, where the name needs no memory of its own.
+    /// Returns a copy if the name is stored as a table index and needs no memory, and `None`
+    /// otherwise.
     #[inline(always)]
     pub(crate) fn known_copy(&self) -> Option<NameForm>
         ensures { IfSome result (λ made. made ≡ self.now) }
@@ -187,7 +192,7 @@ impl NameForm {
         }
     }
 
-    /// The same name, flag and contents.
+    /// Returns a copy of name, flag and contents, or `OutOfMemory`.
     pub(crate) fn try_clone(&self) -> Result<NameForm, OutOfMemory>
         ensures name { IfOk result (λ made. form_name made ≡ form_name self.now) }
         ensures flag { IfOk result (λ made. form_flag made ≡ form_flag self.now) }
@@ -213,7 +218,8 @@ impl NameForm {
 }
 
 impl NameParts {
-    /// The number of the name, where it is a known one in the HTML namespace.
+    /// Returns the index of the local name in the table of known names, if the namespace is HTML's
+    /// and the name is in the table; `None` otherwise.
     #[cold]
     fn html_number(&self) -> Option<u8>
         ensures { MatchOption result (HasNoHtmlNumber self.now) (HasHtmlNumber self.now) }

@@ -1,4 +1,6 @@
-//! The names that need no memory: those of HTML's elements and of its common attributes.
+//! The table of known names: the elements of HTML and its common attributes. A name in the table is
+//! stored as its index, a byte, and needs no memory. It is found by a perfect hash: a name's length
+//! and three of its letters determine the one slot of the hash table in which it can be.
 
 ghost use Rattle.std.specs.Prelude.{◌≡◌, ◌<◌, ℕ, MatchOption};
 ghost use Rattle.std.specs.Str.{bytes_eq};
@@ -7,10 +9,10 @@ ghost use Rattle.dom_nodes.specs.KnownNames.{known_name, slot, HasNumber, IsUnkn
 use crate::words::is_same_word;
 use std::str::from_utf8_unchecked;
 
-/// The number of the empty name.
+/// The index of the empty name.
 pub(crate) const EMPTY: u8 = 0;
 
-/// The known names one after the other, shorter ones first, those of one length in their order.
+/// All known names one after another, ordered by length and within a length alphabetically.
 #[rattlefmt::skip]
 static LETTERS: [u8; 1377] = *b"\
 abdipqsubrdddldtemh1h2h3h4h5h6hridliolrprttdthtrttulaltbdibdobigcoldeldfndirdivforimginskb\
@@ -30,7 +32,7 @@ tefigcaptionhttp-equivnovalidatespellcheckaria-hiddencellpaddingcellspacingcross
 eholderaria-currentautocompletearia-controlsaria-expandedreferrerpolicyaria-labelledbycont\
 enteditablearia-describedby";
 
-/// Where the name of each number begins; the next one begins where it ends.
+/// The offset in `LETTERS` at which each name begins. The name ends where the next one begins.
 #[rattlefmt::skip]
 static STARTS: [u16; 248] = [
     0, 0, 1, 2, 3, 4, 5, 6, 7, 8, 10, 12, 14, 16, 18, 20, 22, 24, 26, 28, 30, 32, 34, 36, 38, 40,
@@ -48,7 +50,8 @@ static STARTS: [u16; 248] = [
     1212, 1223, 1234, 1245, 1256, 1267, 1279, 1291, 1304, 1317, 1331, 1346, 1361, 1377,
 ];
 
-/// How far the names of a group are moved on, so that no two names have one place.
+/// The displacement of each of the 128 groups in the hash table, chosen so that no two names have
+/// the same slot.
 #[rattlefmt::skip]
 static MOVES: [u8; 128] = [
     0, 0, 0, 0, 0, 0, 0, 2, 4, 2, 7, 3, 29, 20, 81, 82, 29, 16, 5, 1, 16, 17, 2, 13, 34, 28, 0, 53,
@@ -58,7 +61,8 @@ static MOVES: [u8; 128] = [
     0, 0, 0, 0, 0, 0, 0, 0, 0, 0, 0, 0, 0, 0, 0, 0, 0, 0, 0, 0, 0, 0, 0, 0, 0,
 ];
 
-/// The number of the one name that may have that place.
+/// For each slot of the hash table, the index of the one name that can be there; 0 for an unused
+/// slot.
 #[rattlefmt::skip]
 static PLACES: [u8; 512] = [
     234, 142, 28, 20, 41, 172, 167, 174, 136, 9, 187, 243, 159, 231, 53, 171, 194, 66, 123, 195, 29,
@@ -84,7 +88,7 @@ static PLACES: [u8; 512] = [
     188,
 ];
 
-/// The number of a name; None where it isn't known.
+/// Returns the index of a name in the table, or `None` when it isn't in the table.
 #[inline(always)]
 pub(crate) fn number_of(name: &str) -> Option<u8>
     ensures { MatchOption result (IsUnknown name.now) (HasNumber name.now) }
@@ -106,7 +110,7 @@ pub(crate) fn number_of(name: &str) -> Option<u8>
     None
 }
 
-/// The place of a name, by its length and three of its letters.
+/// Returns the hash slot of a name, from its length and its first, middle and last letter.
 #[inline(always)]
 fn slot_of(length: usize, first: usize, middle: usize, last: usize) -> usize
     requires length { length < 128 }
@@ -120,7 +124,7 @@ fn slot_of(length: usize, first: usize, middle: usize, last: usize) -> usize
     (8 * middle + last + MOVES[group] as usize) % 512
 }
 
-/// The name of that number.
+/// Returns the name at this index.
 #[inline(always)]
 pub(crate) fn name_of(number: u8) -> &'static str
     requires { number < 247 }
@@ -132,7 +136,8 @@ pub(crate) fn name_of(number: u8) -> &'static str
     unsafe { from_utf8_unchecked(&LETTERS[start..end]) }
 }
 
-/// Whether two known names are the same: no name has two numbers.
+/// Returns whether the names at two indexes are equal. Each name is in the table once, so the
+/// indexes are compared.
 #[inline(always)]
 pub(crate) fn is_same(number: u8, other: u8) -> bool
     requires number { number < 247 }

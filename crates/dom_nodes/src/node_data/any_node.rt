@@ -1,4 +1,4 @@
-//! What a node is, and the calls on elements for any node: no element, nothing happens.
+//! Queries on nodes of any kind.
 
 ghost use Rattle.std.specs.Prelude.{◌≡◌, false};
 ghost use Rattle.std.specs.Option.{option_copied, option_map_or};
@@ -11,42 +11,43 @@ impl NodeData {
     ghost use Rattle.dom_nodes.specs.Kinds.{is_doctype};
     ghost use Rattle.dom_nodes.specs.Changes.{is_link};
 
-    /// Whether the node is a document.
+    /// Returns whether the node is a document.
     pub fn is_document(&self) -> bool
         ensures { result ≡ is_document self.now }
     {
         matches!(self, NodeData::Document)
     }
 
-    /// Whether the node is an element.
+    /// Returns whether the node is an element.
     pub fn is_element(&self) -> bool
         ensures { result ≡ is_element self.now }
     {
         matches!(self, NodeData::Element(_))
     }
 
-    /// Whether the node is a text.
+    /// Returns whether the node is a text.
     pub fn is_text(&self) -> bool
         ensures { result ≡ is_text self.now }
     {
         matches!(self, NodeData::Text { .. })
     }
 
-    /// Whether the node is a comment.
+    /// Returns whether the node is a comment.
     pub fn is_comment(&self) -> bool
         ensures { result ≡ is_comment self.now }
     {
         matches!(self, NodeData::Comment { .. })
     }
 
-    /// Whether the node is a doctype.
+    /// Returns whether the node is a doctype.
     pub fn is_doctype(&self) -> bool
         ensures { result ≡ is_doctype self.now }
     {
         matches!(self, NodeData::Doctype { .. })
     }
 
-    /// Whether the node is a link: an `a`, `area` or `link` with an attribute `href`.
+    /// Returns whether the node is a link: an `a`, `area` or `link` element with an attribute
+    /// `href`.
     pub fn is_link(&self) -> bool
         ensures { result ≡ option_map_or is_link (element_of self.now) false }
     {
@@ -63,63 +64,65 @@ impl TreeNode {
     ghost use Rattle.dom_nodes.specs.Kinds.{is_doctype, is_fragment, children_allowed};
     ghost use Rattle.dom_nodes.specs.Changes.{is_link};
 
-    /// Whether the node is a document.
+    /// Returns whether the node is a document.
     pub fn is_document(&self) -> bool
         ensures { result ≡ is_document self.now.content }
     {
         self.content.is_document()
     }
 
-    /// Whether the node is an element.
+    /// Returns whether the node is an element.
     pub fn is_element(&self) -> bool
         ensures { result ≡ is_element self.now.content }
     {
         self.content.is_element()
     }
 
-    /// Whether the node is a text.
+    /// Returns whether the node is a text.
     pub fn is_text(&self) -> bool
         ensures { result ≡ is_text self.now.content }
     {
         self.content.is_text()
     }
 
-    /// Whether the node is a comment.
+    /// Returns whether the node is a comment.
     pub fn is_comment(&self) -> bool
         ensures { result ≡ is_comment self.now.content }
     {
         self.content.is_comment()
     }
 
-    /// Whether the node is a doctype.
+    /// Returns whether the node is a doctype.
     pub fn is_doctype(&self) -> bool
         ensures { result ≡ is_doctype self.now.content }
     {
         self.content.is_doctype()
     }
 
-    /// Whether the node is a fragment.
+    /// Returns whether the node is a fragment.
     pub fn is_fragment(&self) -> bool
         ensures { result ≡ is_fragment self.now.content }
     {
         self.content.is_fragment()
     }
 
-    /// A document, a fragment or an element may.
+    /// Returns whether the node is of a kind that may have children: a document, a fragment or an
+    /// element.
     pub fn may_have_children(&self) -> bool
         ensures { result ≡ children_allowed self.now.content }
     {
         self.content.may_have_children()
     }
 
-    /// The element that the node is.
+    /// Returns the element's data, or `None` when the node is no element.
     pub fn as_element(&self) -> Option<&Element>
         ensures { option_copied result ≡ element_of self.now.content }
     {
         self.content.as_element()
     }
 
-    /// Whether the node is a link: an `a`, `area` or `link` with an attribute `href`.
+    /// Returns whether the node is a link: an `a`, `area` or `link` element with an attribute
+    /// `href`.
     pub fn is_link(&self) -> bool
         ensures { result ≡ option_map_or is_link (element_of self.now.content) false }
     {

@@ -1,4 +1,7 @@
-//! An element's attributes by local name: reading, setting and removing.
+//! Reading, setting and removing attributes by local name.
+//!
+//! Names are compared byte by byte, and the prefix and the namespace of an attribute are ignored.
+//! Calls that read or set look at the first attribute with the name; removals take every one.
 
 ghost use Rattle.std.specs.Prelude.{◌≡◌, map, is_some, position, OnErr, OnOk, IfOk};
 ghost use Rattle.dom_nodes.specs.Changes.{is_attr_named, is_link_name, plain_attr, with_attr};
@@ -16,13 +19,14 @@ impl Attrs {
     ghost use Rattle.dom_nodes.specs.Kept.{keeps};
     ghost use Rattle.dom_nodes.specs.Changes.{without_name, without_names, only_names};
 
-    /// The allocator of the list.
+    /// Returns the allocator of the list.
     pub(crate) fn allocator(&self) -> Global {
         self.alloc
     }
 
-    /// Gives the first attribute of that local name the value, or adds one at the end, without
-    /// prefix and namespace. The list is unchanged after a refusal.
+    /// Sets the value of the first attribute with this local name. When there is none, it appends
+    /// an attribute without prefix and namespace. When memory is refused, it fails with
+    /// `OutOfMemory` and the list is unchanged.
     pub fn set(&mut self, name: &str, value: Text) -> Result<(), OutOfMemory>
         ensures ok { OnOk result (self.new ≡ with_attr name.now value self.old) }
         ensures err { OnErr result (self.new ≡ self.old) }
@@ -38,7 +42,7 @@ impl Attrs {
         Ok(())
     }
 
-    /// Keeps some of the attributes. Asks for no memory.
+    /// Removes every attribute that `kept` doesn't keep. It allocates no memory.
     pub(super) fn retain(&mut self, kept: Kept)
         ensures { self.new ≡ filter (keeps kept.entry) self.old }
     {
@@ -46,28 +50,28 @@ impl Attrs {
         self.form = form.retained(kept);
     }
 
-    /// Removes every attribute of that local name.
+    /// Removes every attribute with this local name. It allocates no memory.
     pub fn remove(&mut self, name: &str)
         ensures { self.new ≡ without_name name.now self.old }
     {
         self.retain(Kept::AllBut(name));
     }
 
-    /// Removes every attribute whose local name is one of the names.
+    /// Removes every attribute whose local name is in `names`. It allocates no memory.
     pub fn remove_all_of(&mut self, names: &[&str])
         ensures { self.new ≡ without_names (map (λ name. name.now) names.now) self.old }
     {
         self.retain(Kept::NoneOf(names));
     }
 
-    /// Removes every attribute whose local name is none of the names.
+    /// Removes every attribute whose local name isn't in `names`. It allocates no memory.
     pub fn retain_all_of(&mut self, names: &[&str])
         ensures { self.new ≡ only_names (map (λ name. name.now) names.now) self.old }
     {
         self.retain(Kept::OneOf(names));
     }
 
-    /// Removes every attribute.
+    /// Removes every attribute. It allocates no memory.
     pub fn clear(&mut self)
         ensures { self.new ≡ [] }
     {
@@ -82,29 +86,31 @@ impl Element {
     ghost use Rattle.dom_nodes.specs.Changes.{with_attr, without_name, without_names, only_names};
     ghost use Rattle.dom_nodes.specs.Changes.{is_link, renamed};
 
-    /// The value of the first attribute of that local name.
+    /// Returns the value of the first attribute with this local name, or `None` when there is none.
     pub fn attr_ref(&self, name: &str) -> Option<&str>
         ensures { option_copied result ≡ attr_of self.now.attrs name.now }
     {
         self.attr(name)
     }
 
-    /// Whether an attribute has that local name.
+    /// Returns whether an attribute has this local name.
     pub fn has_attr(&self, name: &str) -> bool
         ensures { result ≡ is_some (attr_of self.now.attrs name.now) }
     {
         self.attr_ref(name).is_some()
     }
 
-    /// Whether the element is an `a`, `area` or `link` with an attribute `href`.
+    /// Returns whether the element is a link: an `a`, `area` or `link` element with an attribute
+    /// `href`.
     pub fn is_link(&self) -> bool
         ensures { result ≡ is_link self.now }
     {
         is_link_name(self.node_name()) && self.has_attr("href")
     }
 
-    /// Gives the first attribute of that local name the value, or adds one at the end, without
-    /// prefix and namespace. The element is unchanged after a refusal.
+    /// Sets the value of the first attribute with this local name. When there is none, it appends
+    /// an attribute without prefix and namespace. When memory is refused, it fails with
+    /// `OutOfMemory` and the element is unchanged.
     pub fn set_attr(&mut self, name: &str, value: &str) -> Result<(), OutOfMemory>
         ensures ok { OnOk result (self.new ≡ record self.old {
           attrs = with_attr name.now value.now self.old.attrs;
@@ -115,14 +121,14 @@ impl Element {
         self.attrs.set(name, value)
     }
 
-    /// Removes every attribute of that local name.
+    /// Removes every attribute with this local name. It allocates no memory.
     pub fn remove_attr(&mut self, name: &str)
         ensures { self.new ≡ record self.old { attrs = without_name name.now self.old.attrs } }
     {
         self.attrs.remove(name);
     }
 
-    /// Removes every attribute whose local name is one of the names.
+    /// Removes every attribute whose local name is in `names`. It allocates no memory.
     pub fn remove_attrs(&mut self, names: &[&str])
         ensures { self.new ≡ record self.old {
           attrs = without_names (map (λ name. name.now) names.now) self.old.attrs;
@@ -131,7 +137,7 @@ impl Element {
         self.attrs.remove_all_of(names);
     }
 
-    /// Removes every attribute whose local name is none of the names.
+    /// Removes every attribute whose local name isn't in `names`. It allocates no memory.
     pub fn retain_attrs(&mut self, names: &[&str])
         ensures { self.new ≡ record self.old {
           attrs = only_names (map (λ name. name.now) names.now) self.old.attrs;
@@ -140,14 +146,15 @@ impl Element {
         self.attrs.retain_all_of(names);
     }
 
-    /// Removes every attribute.
+    /// Removes every attribute. It allocates no memory.
     pub fn remove_all_attrs(&mut self)
         ensures { self.new ≡ record self.old { attrs = [] } }
     {
         self.attrs.clear();
     }
 
-    /// Changes the local name alone. The element is unchanged after a refusal.
+    /// Changes the element's local name; its prefix and its namespace stay. When memory is refused,
+    /// it fails with `OutOfMemory` and the element is unchanged.
     pub fn rename(&mut self, name: &str) -> Result<(), OutOfMemory>
         ensures ok { OnOk result (self.new ≡ renamed name.now self.old) }
         ensures err { OnErr result (self.new ≡ self.old) }
@@ -158,8 +165,8 @@ impl Element {
     }
 }
 
-/// Gives the first attribute of that local name the value, or adds one at the end. The list is
-/// unchanged after a refusal.
+/// Sets the value of the first attribute with this local name, or appends a new attribute. On a
+/// refusal the vector is unchanged.
 fn set_in(items: &mut Vec<Attr>, alloc: Global, name: &str, value: Text) -> Result<(), OutOfMemory>
     ensures ok { OnOk result (items.new.items ≡ with_attr name.now value items.old.items) }
     ensures err { OnErr result (items.new.items ≡ items.old.items) }
@@ -176,7 +183,7 @@ fn set_in(items: &mut Vec<Attr>, alloc: Global, name: &str, value: Text) -> Resu
     }
 }
 
-/// The place of the first attribute of that local name.
+/// Returns the index of the first attribute with this local name, or `None` when there is none.
 pub(super) fn attr_position(attrs: &[Attr], name: &str) -> Option<usize>
     ensures { result ≡ position (is_attr_named name.now) attrs.now }
 {
@@ -185,7 +192,7 @@ pub(super) fn attr_position(attrs: &[Attr], name: &str) -> Option<usize>
         .position(|attr| attr.name.local().as_str() == name)
 }
 
-/// An attribute without prefix and namespace.
+/// Returns an attribute with this local name and value, without prefix and namespace.
 pub(super) fn plain_attr(alloc: Global, name: &str, value: Text) -> Result<Attr, OutOfMemory>
     ensures { IfOk result (λ made. made ≡ plain_attr name.now value) }
 {
@@ -196,6 +203,7 @@ pub(super) fn plain_attr(alloc: Global, name: &str, value: Text) -> Result<Attr,
     })
 }
 
+/// Returns whether elements of this local name are links when they have an attribute `href`.
 fn is_link_name(name: &str) -> bool
     ensures { result ≡ is_link_name name.now }
 {

@@ -1,6 +1,6 @@
-//! Where an element's attributes lie. Most elements have one or two, in a counted block that copies
-//! of the element share, or in a list that holds those of many elements. Three lie in a block of
-//! their own.
+//! The storage of an element's attributes. Most elements have one or two, which lie in a reference
+//! counted block that copies of the element share, or inside one list that holds the attributes of
+//! many elements. Three lie in a block of their own, and more in a vector.
 
 ghost use Rattle.std.specs.Prelude.{◌≡◌, ◌<◌, ◌≤◌, ◌∷◌, ◌++◌, [], IfOk, IfSome, OnErr, OnOk, None};
 ghost use Rattle.std.specs.Prelude.{Some};
@@ -23,7 +23,7 @@ use std::alloc::Global;
 use std::mem;
 use std::rc::Rc;
 
-/// Where the attributes of an element lie.
+/// How the attributes of an element are stored.
 #[derive(Drop)]
 pub(super) enum AttrsForm {
     None,
@@ -31,28 +31,29 @@ pub(super) enum AttrsForm {
     Two(Rc<[Attr; 2]>),
     /// No attribute yet, but room for two.
     Room(Rc<[Attr; 2]>),
-    /// The first of two: what a removal leaves of them, or what was put into room for two.
+    /// The first attribute of the block. It is left when the second is removed, or it was put into
+    /// `Room`.
     First(Rc<[Attr; 2]>),
-    /// What a removal leaves of two: the second.
+    /// The second attribute of the block. It is left when the first is removed.
     Second(Rc<[Attr; 2]>),
-    /// The one at this place of a list that others share. A place here has more bits than where
-    /// two begin, so that the second of any two has one.
+    /// The one attribute at this index of a shared list. The index has more bits here than in
+    /// `TwoOf`, so that the second of any such two has one.
     OneOf(u32, Rc<Vec<Attr>>),
-    /// The two that begin at this place of a list that others share.
+    /// The two attributes from this index on in a shared list.
     TwoOf(u16, Rc<Vec<Attr>>),
-    /// The first so many of three, which nothing shares.
+    /// The first attributes of a block of three that nothing else shares. The integer counts them.
     Few(u32, Three),
-    /// Any other list, which nothing shares. It lies behind a pointer, so that the other forms
-    /// take no more room than they need.
+    /// A list of any other length, which nothing else shares. It lies behind a pointer, so that the
+    /// enum is no larger than its other variants need.
     Own(Box<Vec<Attr>>),
 }
 
-/// Three attributes in a block of their own.
+/// A block of three attributes.
 pub(super) struct Three {
     items: Box<[Attr; 3]>,
 }
 
-/// Written out, so that what drops the other forms takes fewer steps.
+/// Destructures by hand, so that dropping the other storage forms takes fewer steps.
 impl Drop for Three {
     #[inline(never)]
     fn drop(self) {
@@ -61,22 +62,22 @@ impl Drop for Three {
     }
 }
 
-/// The last place that the form of one attribute of a list can name.
+/// The largest index that `OneOf` can store.
 const MOST_ONE: usize = 4294967295;
 
-/// The last place that the form of two attributes of a list can name.
+/// The largest index that `TwoOf` can store.
 const MOST_TWO: usize = 65535;
 
-/// Which attributes a removal keeps.
+/// Which attributes a removal keeps. Names of `&str` are local names.
 #[derive(Clone, Copy)]
 pub(super) enum Kept<'a> {
-    /// Those of other local names.
+    /// Keeps the attributes that don't have this local name.
     AllBut(&'a str),
-    /// Those whose local name is none of the names.
+    /// Keeps the attributes whose local name isn't in the list.
     NoneOf(&'a [&'a str]),
-    /// Those whose local name is one of the names.
+    /// Keeps the attributes whose local name is in the list.
     OneOf(&'a [&'a str]),
-    /// Those whose name none of these has.
+    /// Keeps the attributes whose name (prefix, namespace and local name) none of these has.
     MissingIn(&'a [Attr]),
 }
 
@@ -92,7 +93,7 @@ impl Kept<'_> {
         }
     }
 
-    /// Whether the removal keeps one of the attributes.
+    /// Returns whether at least one of the attributes is kept.
     fn keeps_any(&self, attrs: &[Attr]) -> bool
         ensures { result ≡ list_any (keeps self.now) attrs.now }
     {
@@ -101,7 +102,7 @@ impl Kept<'_> {
 }
 
 impl AttrsForm {
-    /// A list of one attribute.
+    /// Returns the storage of one attribute.
     #[inline(always)]
     pub(super) fn one(alloc: Global, attr: Attr) -> Result<AttrsForm, OutOfMemory>
         ensures { IfOk result (λ form. form_attrs form ≡ attr ∷ []) }
@@ -109,14 +110,14 @@ impl AttrsForm {
         Ok(AttrsForm::One(Rc::new(alloc, [attr])?))
     }
 
-    /// A list of two attributes.
+    /// Returns the storage of two attributes.
     fn two(alloc: Global, first: Attr, second: Attr) -> Result<AttrsForm, OutOfMemory>
         ensures { IfOk result (λ form. form_attrs form ≡ first ∷ second ∷ []) }
     {
         Ok(AttrsForm::Two(Rc::new(alloc, [first, second])?))
     }
 
-    /// A list of three attributes.
+    /// Returns the storage of three attributes.
     #[inline(always)]
     fn three(alloc: Global, items: [Attr; 3]) -> Result<AttrsForm, OutOfMemory>
         ensures { IfOk result (λ form. form_attrs form ≡ items) }
@@ -125,7 +126,8 @@ impl AttrsForm {
         Ok(AttrsForm::Few(3, Three { items }))
     }
 
-    /// Takes all attributes out of a vector of at most three, which keeps its memory.
+    /// Moves all attributes out of a vector of at most three. The vector keeps its memory and is
+    /// empty after an error too; the attributes are then dropped.
     pub(super) fn popped(alloc: Global, items: &mut Vec<Attr>) -> Result<AttrsForm, OutOfMemory>
         requires { length items.old.items ≤ 3 }
         ensures taken { IfOk result (λ form. form_attrs form ≡ items.old.items) }
@@ -143,15 +145,15 @@ impl AttrsForm {
         AttrsForm::three(alloc, [first, second, third])
     }
 
-    /// No attributes, and room for two.
+    /// Returns an empty list with room for two attributes.
     pub(super) fn room(alloc: Global) -> Result<AttrsForm, OutOfMemory>
         ensures { IfOk result (λ form. form_attrs form ≡ []) }
     {
         Ok(AttrsForm::Room(Rc::new(alloc, [empty(alloc), empty(alloc)])?))
     }
 
-    /// Adds an attribute at the end, where there is room for it in a pair that nothing shares.
-    /// Otherwise it is handed back.
+    /// Appends the attribute if the storage has a free place in a block of two that nothing else
+    /// shares, and returns `None`. Otherwise it returns the attribute, and the list is unchanged.
     #[inline(always)]
     pub(super) fn fill(&mut self, attr: Attr) -> Option<Attr>
         ensures put { result ≡ None → form_attrs self.new ≡ form_attrs self.old ++ attr ∷ [] }
@@ -182,8 +184,8 @@ impl AttrsForm {
         }
     }
 
-    /// Part of a list, from one place up to another. One or two are shared with the list, more are
-    /// copied.
+    /// Returns the attributes of `list` from index `from` up to, but not including, `to`. One or
+    /// two are shared with `list` where the index fits; more are copied.
     pub(super) fn part_of(
         alloc: Global,
         list: &Rc<Vec<Attr>>,
@@ -206,14 +208,14 @@ impl AttrsForm {
         AttrsForm::with_room(alloc, stretch(list.as_slice(), from, count), 0)
     }
 
-    /// A list that nothing shares.
+    /// Returns the storage of a vector of attributes, which nothing else shares.
     pub(super) fn own(alloc: Global, items: Vec<Attr>) -> Result<AttrsForm, OutOfMemory>
         ensures { IfOk result (λ form. form_attrs form ≡ items.items) }
     {
         Ok(AttrsForm::Own(Box::new(alloc, items)?))
     }
 
-    /// The attributes, in order.
+    /// Returns the attributes, in order.
     #[inline(always)]
     pub(super) fn as_slice(&self) -> &[Attr]
         ensures { result.now ≡ form_attrs self.now }
@@ -235,7 +237,8 @@ impl AttrsForm {
         }
     }
 
-    /// The same attributes: a list of one or two is shared, any other one copied.
+    /// Returns a copy. A block of two places and a place in a shared list are shared; other lists
+    /// are copied.
     #[inline(always)]
     pub(super) fn try_clone(&self, alloc: Global) -> Result<AttrsForm, OutOfMemory>
         ensures { IfOk result (λ form. form_attrs form ≡ form_attrs self.now) }
@@ -251,7 +254,8 @@ impl AttrsForm {
         }
     }
 
-    /// The same of the forms that few lists have.
+    /// Returns a copy of a list in one of the rare storage forms, those that `try_clone` has no
+    /// case for.
     fn clone_of_rare(&self, alloc: Global) -> Result<AttrsForm, OutOfMemory>
         ensures { IfOk result (λ form. form_attrs form ≡ form_attrs self.now) }
     {
@@ -262,7 +266,8 @@ impl AttrsForm {
         }
     }
 
-    /// A list of copies that nothing shares, with room for so many more.
+    /// Returns copies of the attributes in storage that nothing else shares, with room for
+    /// `additional` more.
     pub(super) fn with_room(
         alloc: Global,
         attrs: &[Attr],
@@ -276,7 +281,7 @@ impl AttrsForm {
         AttrsForm::own(alloc, copied(alloc, attrs, additional)?)
     }
 
-    /// Copies of three attributes.
+    /// Returns copies of three attributes in a block of their own.
     #[inline(never)]
     fn three_copies(alloc: Global, attrs: &[Attr]) -> Result<AttrsForm, OutOfMemory>
         requires { length attrs.now ≡ 3 }
@@ -290,7 +295,7 @@ impl AttrsForm {
         AttrsForm::three(alloc, items)
     }
 
-    /// Copies of attributes and one more behind them.
+    /// Returns copies of the attributes with `attr` appended.
     pub(super) fn lengthened(
         alloc: Global,
         attrs: &[Attr],
@@ -309,8 +314,8 @@ impl AttrsForm {
         AttrsForm::own(alloc, items)
     }
 
-    /// Copies of attributes, but the first of that local name has the value; where there is none,
-    /// one is added at the end, without prefix and namespace.
+    /// Returns copies of the attributes in which the first one with this local name has the value.
+    /// When there is none, an attribute without prefix and namespace is appended.
     pub(super) fn with_attr(
         alloc: Global,
         attrs: &[Attr],
@@ -325,8 +330,9 @@ impl AttrsForm {
         }
     }
 
-    /// Gives the first attribute of that local name the value, where it is one of the first of
-    /// three. Otherwise the value is handed back.
+    /// Sets the value of the first attribute with this local name and returns `None`, if the list
+    /// is in a block of three and has such an attribute. Otherwise it returns the value, and the
+    /// list is unchanged.
     pub(super) fn set_few(&mut self, name: &str, value: Text) -> Option<Text>
         ensures put { result ≡ None
             → form_attrs self.new ≡ with_attr name.now value (form_attrs self.old) }
@@ -343,7 +349,7 @@ impl AttrsForm {
         None
     }
 
-    /// Copies of attributes, but with the value at the place.
+    /// Returns copies of the attributes in which the one at index `place` has the value.
     fn with_value(
         alloc: Global,
         attrs: &[Attr],
@@ -371,8 +377,9 @@ impl AttrsForm {
         }
     }
 
-    /// Gives back the memory past the last attribute, but for the second place of a pair, the
-    /// places of three and a list that others share.
+    /// Releases memory behind the last attribute: the spare capacity of a vector, and a block of
+    /// two that holds none. Blocks of two or three with a free place, and shared lists, are left
+    /// alone.
     pub(super) fn shrink_to_fit(&mut self)
         ensures { form_attrs self.new ≡ form_attrs self.old }
     {
@@ -383,7 +390,7 @@ impl AttrsForm {
         }
     }
 
-    /// What a removal leaves. Asks for no memory.
+    /// Returns the list without the attributes that `kept` doesn't keep. It allocates no memory.
     pub(super) fn retained(self, kept: Kept) -> AttrsForm
         ensures { form_attrs result ≡ filter (keeps kept.entry) (form_attrs self) }
     {
@@ -423,7 +430,7 @@ impl AttrsForm {
     }
 }
 
-/// What a removal leaves of two attributes.
+/// Returns what a removal leaves of two attributes.
 fn part(list: Rc<[Attr; 2]>, kept: Kept) -> AttrsForm
     ensures { form_attrs result ≡ filter (keeps kept.entry) (form_attrs (AttrsForm.Two list)) }
 {
@@ -440,7 +447,7 @@ fn part(list: Rc<[Attr; 2]>, kept: Kept) -> AttrsForm
     }
 }
 
-/// What a removal leaves of the one attribute at this place of a list.
+/// Returns what a removal leaves of the one attribute at index `place` of a shared list.
 fn left_of_one(place: u32, list: Rc<Vec<Attr>>, kept: Kept) -> AttrsForm
     ensures { form_attrs result
         ≡ filter (keeps kept.entry) (form_attrs (AttrsForm.OneOf place list)) }
@@ -452,7 +459,7 @@ fn left_of_one(place: u32, list: Rc<Vec<Attr>>, kept: Kept) -> AttrsForm
     }
 }
 
-/// What a removal leaves of the two attributes that begin at this place of a list.
+/// Returns what a removal leaves of the two attributes from index `place` on of a shared list.
 fn left_of_two(place: u16, list: Rc<Vec<Attr>>, kept: Kept) -> AttrsForm
     ensures { form_attrs result
         ≡ filter (keeps kept.entry) (form_attrs (AttrsForm.TwoOf place list)) }
@@ -472,7 +479,7 @@ fn left_of_two(place: u16, list: Rc<Vec<Attr>>, kept: Kept) -> AttrsForm
     }
 }
 
-/// What a removal leaves of the first so many of three attributes.
+/// Returns what a removal leaves of the first `count` attributes of a block of three.
 fn left_of_few(count: u32, mut list: Three, kept: Kept) -> AttrsForm
     ensures { form_attrs result
         ≡ filter (keeps kept.entry) (form_attrs (AttrsForm.Few count list)) }
@@ -485,8 +492,8 @@ fn left_of_few(count: u32, mut list: Three, kept: Kept) -> AttrsForm
     }
 }
 
-/// Moves those that a removal keeps of the first so many attributes to the front, in order, and
-/// counts them.
+/// Moves the kept ones of the first `count` attributes to the front, in order, and returns how many
+/// they are.
 fn keep_in_front(list: &mut [Attr; 3], count: usize, kept: Kept) -> usize
     ensures front { take result list.new ≡ filter (keeps kept.entry) (take count list.old) }
     ensures fewer { result ≤ count }
@@ -501,7 +508,7 @@ fn keep_in_front(list: &mut [Attr; 3], count: usize, kept: Kept) -> usize
     left
 }
 
-/// So many attributes as stand from a place on, or fewer where the list ends before.
+/// Returns the `count` attributes from index `from` on, or fewer when the slice ends before.
 #[inline(always)]
 fn stretch(attrs: &[Attr], from: usize, count: usize) -> &[Attr]
     ensures { result.now ≡ take count (drop from attrs.now) }
@@ -512,7 +519,8 @@ fn stretch(attrs: &[Attr], from: usize, count: usize) -> &[Attr]
     last_stretch(attrs, from, count)
 }
 
-/// The same, where the list ends before.
+/// Returns the attributes from index `from` on, for a slice that ends before `from + count`. It is
+/// a function of its own so that `stretch` stays small.
 fn last_stretch(attrs: &[Attr], from: usize, count: usize) -> &[Attr]
     requires { length attrs.now < from + count }
     ensures { result.now ≡ take count (drop from attrs.now) }
@@ -524,7 +532,8 @@ fn last_stretch(attrs: &[Attr], from: usize, count: usize) -> &[Attr]
     }
 }
 
-/// Puts an attribute into a pair that nothing shares; otherwise it is handed back.
+/// Puts the attribute at index `place` of a block that nothing else shares, and returns `None`.
+/// When the block is shared, it returns the attribute and changes nothing.
 #[inline(always)]
 fn put(list: &mut Rc<[Attr; 2]>, place: usize, attr: Attr) -> Option<Attr>
     requires { place < 2 }
@@ -543,7 +552,7 @@ fn put(list: &mut Rc<[Attr; 2]>, place: usize, attr: Attr) -> Option<Attr>
     }
 }
 
-/// What stands where an attribute has room. Allocates no memory.
+/// Returns the attribute that fills a free place. It allocates no memory.
 fn empty(alloc: Global) -> Attr {
     Attr {
         name: QualName::plain(LocalName::empty()),
@@ -551,7 +560,7 @@ fn empty(alloc: Global) -> Attr {
     }
 }
 
-/// Copies of attributes, and room for so many more.
+/// Returns a vector of copies of the attributes, with room for `additional` more.
 fn copied(alloc: Global, attrs: &[Attr], additional: usize) -> Result<Vec<Attr>, OutOfMemory>
     ensures { IfOk result (λ made. made.items ≡ attrs.now) }
 {

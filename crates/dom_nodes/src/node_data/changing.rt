@@ -1,11 +1,13 @@
-//! One change of an element as a value, and the calls that make it.
+//! One change of an element as a value, and the methods that apply it.
 
 ghost use Rattle.std.specs.Prelude.{◌≡◌, ◌&&◌, false, true, IsOk, OnErr, OnOk, map, []};
 
 use super::{Element, NodeData, TreeNode};
 use crate::fault::OutOfMemory;
 
-/// A change of an element's local name, attributes or classes. `Element` says what each does.
+/// A change of an element's local name, attributes or classes. Each variant does what the method of
+/// `Element` with the same name in snake case does: `Change::SetAttr` is `Element::set_attr`, and
+/// so on.
 #[derive(Clone, Copy)]
 pub enum Change<'a> {
     SetAttr { name: &'a str, value: &'a str },
@@ -21,7 +23,8 @@ pub enum Change<'a> {
 impl Element {
     ghost use Rattle.dom_nodes.specs.Change.{Tried, may_allocate_of, changed};
 
-    /// Makes the change. Removals of attributes allocate no memory.
+    /// Applies the change. Removals of attributes allocate no memory and never fail. When memory is
+    /// refused for another change, it fails with `OutOfMemory` and the element is unchanged.
     pub fn change(&mut self, change: Change) -> Result<(), OutOfMemory>
         ensures { Tried result (NodeData.Element self.old) (NodeData.Element self.new)
             (changed change.entry (NodeData.Element self.old))
@@ -44,7 +47,9 @@ impl Element {
 impl NodeData {
     ghost use Rattle.dom_nodes.specs.Change.{Tried, may_allocate_of, changed};
 
-    /// Makes the change; a node that is no element stays, and no memory is allocated.
+    /// Applies the change to an element. A node of another kind is unchanged, no memory is
+    /// allocated, and the result is `Ok`. When memory is refused, it fails with `OutOfMemory` and
+    /// the node is unchanged.
     pub fn change(&mut self, change: Change) -> Result<(), OutOfMemory>
         ensures { Tried result self.old self.new (changed change.entry self.old)
             (may_allocate_of change.entry self.old) }
@@ -65,7 +70,9 @@ impl TreeNode {
     ghost use Rattle.dom_nodes.specs.Changes.{with_attrs, without_name, without_names};
     ghost use Rattle.dom_nodes.specs.Classes.{is_blank, with_classes, without_classes};
 
-    /// As `NodeData::change`.
+    /// Applies the change to an element; the id and the links stay. A node of another kind is
+    /// unchanged, and the result is `Ok`. When memory is refused, it fails with `OutOfMemory` and
+    /// the node is unchanged.
     pub fn change(&mut self, change: Change) -> Result<(), OutOfMemory>
         ensures { Tried result self.old self.new
             (record self.old { content = changed change.entry self.old.content })
@@ -74,7 +81,9 @@ impl TreeNode {
         self.content.change(change)
     }
 
-    /// As `Element::set_attr`.
+    /// Sets an attribute of an element, as `Element::set_attr` does. A node of another kind is
+    /// unchanged, and the result is `Ok`. When memory is refused, it fails with `OutOfMemory` and
+    /// the node is unchanged.
     pub fn set_attr(&mut self, name: &str, value: &str) -> Result<(), OutOfMemory>
         ensures ok { OnOk result
             (self.new ≡ record self.old {
@@ -87,7 +96,8 @@ impl TreeNode {
         self.change(Change::SetAttr { name, value })
     }
 
-    /// As `Element::remove_attr`.
+    /// Removes every attribute with this local name from an element. A node of another kind is
+    /// unchanged. It allocates no memory.
     pub fn remove_attr(&mut self, name: &str)
         ensures { self.new
             ≡ record self.old { content = with_attrs (without_name name.now) self.old.content } }
@@ -95,7 +105,8 @@ impl TreeNode {
         let _ = self.change(Change::RemoveAttr(name));
     }
 
-    /// As `Element::remove_attrs`.
+    /// Removes every attribute of an element whose local name is in `names`. A node of another kind
+    /// is unchanged. It allocates no memory.
     pub fn remove_attrs(&mut self, names: &[&str])
         ensures { self.new ≡ record
             self.old {
@@ -106,7 +117,8 @@ impl TreeNode {
         let _ = self.change(Change::RemoveAttrs(names));
     }
 
-    /// As `Element::retain_attrs`.
+    /// Removes every attribute of an element whose local name isn't in `names`. A node of another
+    /// kind is unchanged. It allocates no memory.
     pub fn retain_attrs(&mut self, names: &[&str])
         ensures { self.new ≡ record
             self.old {
@@ -117,14 +129,17 @@ impl TreeNode {
         let _ = self.change(Change::RetainAttrs(names));
     }
 
-    /// As `Element::remove_all_attrs`.
+    /// Removes every attribute of an element. A node of another kind is unchanged. It allocates no
+    /// memory.
     pub fn remove_all_attrs(&mut self)
         ensures { self.new ≡ record self.old { content = with_attrs (λ _. []) self.old.content } }
     {
         let _ = self.change(Change::RemoveAllAttrs);
     }
 
-    /// As `Element::add_class`.
+    /// Adds classes to an element, as `Element::add_class` does. The result is `Ok` and nothing
+    /// changes when the node is no element or `classes` is blank. When memory is refused, it fails
+    /// with `OutOfMemory` and the node is unchanged.
     pub fn add_class(&mut self, classes: &str) -> Result<(), OutOfMemory>
         ensures ok { OnOk result
             (self.new ≡ record self.old {
@@ -138,7 +153,9 @@ impl TreeNode {
         self.change(Change::AddClass(classes))
     }
 
-    /// As `Element::remove_class`.
+    /// Removes classes from an element, as `Element::remove_class` does. The result is `Ok` and
+    /// nothing changes when the node is no element, has no attribute `class`, or `classes` is
+    /// blank. When memory is refused, it fails with `OutOfMemory` and the node is unchanged.
     pub fn remove_class(&mut self, classes: &str) -> Result<(), OutOfMemory>
         ensures ok { OnOk result
             (self.new ≡ record self.old {
@@ -154,7 +171,9 @@ impl TreeNode {
         self.change(Change::RemoveClass(classes))
     }
 
-    /// As `Element::rename`.
+    /// Changes the local name of an element; its prefix and its namespace stay. A node of another
+    /// kind is unchanged, and the result is `Ok`. When memory is refused, it fails with
+    /// `OutOfMemory` and the node is unchanged.
     pub fn rename(&mut self, name: &str) -> Result<(), OutOfMemory>
         ensures ok { OnOk result
             (self.new ≡ record self.old {

@@ -1,4 +1,5 @@
-//! An element's classes: the words of its attribute `class`.
+//! An element's classes: the words of its first attribute `class`, separated by ASCII whitespace
+//! (HTML Standard, 3.2.6, global attributes).
 
 ghost use Rattle.std.specs.Prelude.{◌≡◌, string_bytes, codes, true, IsOk, None, OnErr, OnOk, IfOk};
 ghost use Rattle.dom_nodes.specs.Words.{class_words, words_of};
@@ -16,16 +17,18 @@ impl Element {
     ghost use Rattle.dom_nodes.specs.Attrs.{attr_of};
     ghost use Rattle.dom_nodes.specs.Classes.{with_classes, without_classes};
 
-    /// Whether the name is a word of the first attribute `class`. An empty name isn't.
+    /// Returns whether `name` is one of the words of the first attribute `class`, compared with or
+    /// without the case of ASCII letters. For an empty name the answer is false.
     pub fn has_class_bytes(&self, name: &[u8], case_sensitivity: CaseSensitivity) -> bool
         ensures { result ≡ is_among_by case_sensitivity name.now (class_words self.now.attrs) }
     {
         has_word_by(self.class_text(), name, case_sensitivity)
     }
 
-    /// Adds the words of the text that aren't classes yet at the end of the first attribute
-    /// `class`, or of one at the end; the words are then joined by one space. A text that is empty
-    /// or white changes nothing, nor does a refusal.
+    /// Adds the words of `classes` that the element doesn't have yet, each once, behind the words
+    /// of the first attribute `class`; when there is no such attribute, one is appended. The words
+    /// in the new value are joined by one space. A blank `classes` changes nothing. When memory is
+    /// refused, it fails with `OutOfMemory` and the element is unchanged.
     pub fn add_class(&mut self, classes: &str) -> Result<(), OutOfMemory>
         ensures ok { OnOk result (self.new ≡ record self.old {
           attrs = with_classes classes.now self.old.attrs;
@@ -40,8 +43,9 @@ impl Element {
         self.attrs.set("class", Text::from(value))
     }
 
-    /// Takes the words of the text out of the first attribute `class`; the words that stay are
-    /// then joined by one space. A text that is empty or white changes nothing, nor does a refusal.
+    /// Removes the words of `classes` from the first attribute `class`; the words that stay are
+    /// joined by one space. Nothing changes when `classes` is blank or the element has no attribute
+    /// `class`. When memory is refused, it fails with `OutOfMemory` and the element is unchanged.
     pub fn remove_class(&mut self, classes: &str) -> Result<(), OutOfMemory>
         ensures ok { OnOk result (self.new ≡ record self.old {
           attrs = without_classes classes.now self.old.attrs;
@@ -60,7 +64,7 @@ impl Element {
         self.attrs.set("class", Text::from(value))
     }
 
-    /// The value of the first attribute `class`, empty where there is none.
+    /// Returns the value of the first attribute `class`, or an empty text when there is none.
     fn class_text(&self) -> &str
         ensures { words_of result.now ≡ class_words self.now.attrs }
     {
@@ -71,7 +75,7 @@ impl Element {
     }
 }
 
-/// The text's words that aren't among the others.
+/// Returns the words of `text` that aren't words of `others`, joined by one space.
 fn words_without(alloc: Global, text: &str, others: &str) -> Result<String, OutOfMemory>
     ensures joined { IfOk result (λ made.
         string_bytes made ≡ words_joined
@@ -89,7 +93,8 @@ fn words_without(alloc: Global, text: &str, others: &str) -> Result<String, OutO
     Ok(made)
 }
 
-/// The text's words, and the added ones that aren't among them, each once.
+/// Returns the words of `text`, and behind them the words of `added` that aren't among them, each
+/// once. All are joined by one space.
 fn words_with(alloc: Global, text: &str, added: &str) -> Result<String, OutOfMemory>
     ensures joined { IfOk result (λ made.
         string_bytes made ≡ words_joined (words_with (words_of text.now) (words_of added.now))) }
@@ -106,7 +111,7 @@ fn words_with(alloc: Global, text: &str, added: &str) -> Result<String, OutOfMem
     Ok(made)
 }
 
-/// One more word at the end, after a space if it isn't the first.
+/// Appends a word, after a space if the text isn't empty.
 fn push_word(text: &mut String, word: &str) -> Result<(), OutOfMemory>
     ensures { OnOk result (string_bytes text.new ≡ with_word (string_bytes text.old) word.now) }
 {

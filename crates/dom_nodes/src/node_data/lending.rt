@@ -1,4 +1,4 @@
-//! An element lent out of a node, to be changed in place.
+//! Mutable access to the element in a node.
 
 ghost use Rattle.std.specs.Prelude.{◌≡◌};
 ghost use Rattle.std.specs.Borrow.{sem};
@@ -10,7 +10,7 @@ impl NodeData {
     ghost use Rattle.dom_nodes.specs.Attrs.{element_of};
     ghost use Rattle.dom_nodes.specs.Lending.{LendsElement};
 
-    /// The element that the node is, to be changed in place.
+    /// Returns mutable access to the element's data, or `None` when the node is no element.
     pub fn as_element_mut(&mut self) -> Option<&mut Element>
         ensures* lends { sem 𝓛 (LendsElement self.entry result) }
         ensures value { option_copied_mut result ≡ element_of self.old }
@@ -26,7 +26,8 @@ impl TreeNode {
     ghost use Rattle.dom_nodes.specs.Attrs.{element_of};
     ghost use Rattle.dom_nodes.specs.Lending.{LendsElementOf};
 
-    /// The element that the node is, to be changed in place.
+    /// Returns mutable access to the element's data, or `None` when the node is no element. The id
+    /// and the links stay.
     pub fn as_element_mut(&mut self) -> Option<&mut Element>
         ensures* lends { sem 𝓛 (LendsElementOf self.entry result) }
         ensures value { option_copied_mut result ≡ element_of self.old.content }

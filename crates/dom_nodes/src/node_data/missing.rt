@@ -1,4 +1,5 @@
-//! Attributes that are added where they are missing.
+//! Adding the attributes that an element doesn't have yet, as the HTML Standard asks for a second
+//! `html` or `body` start tag (13.2.6.4.7).
 
 ghost use Rattle.std.specs.Prelude.{◌≡◌, ◌++◌, OnErr, OnOk, false, IsOk};
 ghost use Rattle.dom_nodes.specs.Changes.{has_attr_named, with_attrs, with_missing};
@@ -10,8 +11,9 @@ use crate::fault::OutOfMemory;
 use crate::name::{Attr, QualName};
 
 impl Attrs {
-    /// Adds those of other attributes at the end whose names none of these has. Names are the same
-    /// where prefix, namespace and local name are. The list is unchanged after a refusal.
+    /// Appends the attributes of `added` whose names this list doesn't have, in order. Two names
+    /// are equal when prefix, namespace and local name are. When memory is refused, it fails with
+    /// `OutOfMemory` and the list is unchanged.
     #[inline(always)]
     pub fn add_missing(&mut self, added: Attrs) -> Result<(), OutOfMemory>
         ensures ok { OnOk result (self.new ≡ with_missing added self.old) }
@@ -24,7 +26,7 @@ impl Attrs {
         self.add_missing_behind(added)
     }
 
-    /// The same, where the list isn't empty.
+    /// Does the work of `add_missing` for a list that isn't empty.
     #[inline(never)]
     fn add_missing_behind(&mut self, mut added: Attrs) -> Result<(), OutOfMemory>
         ensures ok { OnOk result (self.new ≡ with_missing added self.old) }
@@ -34,7 +36,7 @@ impl Attrs {
         self.append(added.as_slice())
     }
 
-    /// Adds copies of attributes at the end. The list is unchanged after a refusal.
+    /// Appends copies of the attributes. On a refusal the list is unchanged.
     fn append(&mut self, attrs: &[Attr]) -> Result<(), OutOfMemory>
         ensures ok { OnOk result (self.new ≡ self.old ++ attrs.now) }
         ensures err { OnErr result (self.new ≡ self.old) }
@@ -51,7 +53,7 @@ impl Attrs {
     }
 }
 
-/// Whether one of the attributes has the name.
+/// Returns whether one of the attributes has this name (prefix, namespace and local name).
 pub(super) fn has_attr_named(attrs: &[Attr], name: &QualName) -> bool
     ensures { result ≡ has_attr_named attrs.now name.now }
 {
@@ -59,9 +61,9 @@ pub(super) fn has_attr_named(attrs: &[Attr], name: &QualName) -> bool
 }
 
 impl Element {
-    /// Adds those of other attributes at the end whose names none of the element's has. Names are
-    /// the same where prefix, namespace and local name are. The element is unchanged after a
-    /// refusal.
+    /// Appends the attributes of `attrs` whose names the element doesn't have, in order. Two names
+    /// are equal when prefix, namespace and local name are. When memory is refused, it fails with
+    /// `OutOfMemory` and the element is unchanged.
     pub fn add_attrs_if_missing(&mut self, attrs: Attrs) -> Result<(), OutOfMemory>
         ensures ok { OnOk result (self.new ≡ record self.old {
           attrs = with_missing attrs self.old.attrs;
@@ -73,7 +75,9 @@ impl Element {
 }
 
 impl NodeData {
-    /// As `Element::add_attrs_if_missing`; a node that is no element stays.
+    /// Adds missing attributes to an element, as `Element::add_attrs_if_missing` does. A node of
+    /// another kind is unchanged, and the result is `Ok`. When memory is refused, it fails with
+    /// `OutOfMemory` and the node is unchanged.
     pub fn add_attrs_if_missing(&mut self, attrs: Attrs) -> Result<(), OutOfMemory>
         ensures ok { OnOk result (self.new ≡ with_attrs (with_missing attrs) self.old) }
         ensures err { OnErr result (self.new ≡ self.old) }
@@ -87,7 +91,9 @@ impl NodeData {
 }
 
 impl TreeNode {
-    /// As `NodeData::add_attrs_if_missing`.
+    /// Adds missing attributes to an element, as `Element::add_attrs_if_missing` does; the id and
+    /// the links stay. A node of another kind is unchanged, and the result is `Ok`. When memory is
+    /// refused, it fails with `OutOfMemory` and the node is unchanged.
     pub fn add_attrs_if_missing(&mut self, attrs: Attrs) -> Result<(), OutOfMemory>
         ensures ok { OnOk result (self.new
             ≡ record self.old { content = with_attrs (with_missing attrs) self.old.content }) }

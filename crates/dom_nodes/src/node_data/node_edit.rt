@@ -1,4 +1,4 @@
-//! What an update may change of a node.
+//! Updates of a node by a closure, which may change its content but not its kind.
 
 ghost use Rattle.std.specs.Prelude.{◌≡◌, []};
 ghost use Rattle.std.specs.Fn.{FnOnceReturnsAtMut};
@@ -9,8 +9,9 @@ use crate::text::Text;
 use std::alloc::Global;
 use std::mem;
 
-/// What a caller may change of a node: the name and the attributes of an element, the contents of
-/// a text or a comment. What the node lacks is empty, and dropped after the change.
+/// What an update may change of a node: the name and the attributes of an element, or the contents
+/// of a text or a comment. A field that the node doesn't have is empty before the update, and what
+/// is put into it is dropped.
 #[derive(Drop)]
 pub struct NodeEdit {
     pub name: QualName,
@@ -21,7 +22,7 @@ pub struct NodeEdit {
 impl NodeEdit {
     ghost use Rattle.dom_nodes.specs.Updates.{empty_edit};
 
-    /// Nothing of a node. Allocates no memory.
+    /// Returns an empty edit: an empty name, no attributes, empty contents. It allocates no memory.
     pub fn new(alloc: Global) -> NodeEdit
         ensures { result ≡ empty_edit }
     {
@@ -34,7 +35,7 @@ impl NodeEdit {
 }
 
 impl Element {
-    /// Gives the element another name and hands back the one that it had.
+    /// Replaces the element's name and returns the old one.
     #[inline(always)]
     pub(super) fn replace_name(&mut self, name: QualName) -> QualName
         ensures new { self.new ≡ record self.old { name = name } }
@@ -49,8 +50,10 @@ impl Element {
 impl NodeData {
     ghost use Rattle.dom_nodes.specs.Updates.{IsUpdated, edit_of, empty_edit, with_edit};
 
-    /// Lets the closure change the name and the attributes of an element, or the contents of a
-    /// text or a comment. The kind, the template contents and the flag stay. Allocates no memory.
+    /// Calls the closure with the name and the attributes of an element, or with the contents of a
+    /// text or a comment, and stores what it leaves. The kind, the template contents and the flag
+    /// stay. For other kinds of nodes nothing changes. The call allocates no memory, apart from
+    /// what the closure itself does.
     pub fn update<F: FnOnce(&mut NodeEdit)>(&mut self, alloc: Global, change: F)
         requires { F.IsAlwaysCallable change }
         ensures { IsUpdated (λ edit left. FnOnceReturnsAtMut F.FnOnce change edit tt left)
@@ -61,7 +64,8 @@ impl NodeData {
         self.put_edit(edit);
     }
 
-    /// Moves out what an update may change; what stays is empty there.
+    /// Moves out the parts that an update may change, and leaves empty ones in the node. It
+    /// allocates no memory.
     pub fn take_edit(&mut self, alloc: Global) -> NodeEdit
         ensures edit { result ≡ edit_of self.old }
         ensures node { self.new ≡ with_edit empty_edit self.old }
@@ -79,7 +83,7 @@ impl NodeData {
         edit
     }
 
-    /// Moves in what an update may change; what the node lacks is dropped.
+    /// Moves in the parts that an update may change. Parts that the node doesn't have are dropped.
     pub fn put_edit(&mut self, edit: NodeEdit)
         ensures { self.new ≡ with_edit edit self.old }
     {
@@ -103,7 +107,8 @@ impl NodeData {
 impl TreeNode {
     ghost use Rattle.dom_nodes.specs.Updates.{IsUpdated};
 
-    /// As `NodeData::update`; the number and the links stay.
+    /// Calls the closure with the parts of the node that it may change, as `NodeData::update` does.
+    /// The id and the links stay.
     pub fn update<F: FnOnce(&mut NodeEdit)>(&mut self, alloc: Global, change: F)
         requires { F.IsAlwaysCallable change }
         ensures content { IsUpdated (λ edit left. FnOnceReturnsAtMut F.FnOnce change edit tt left)

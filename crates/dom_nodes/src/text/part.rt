@@ -1,4 +1,4 @@
-//! Texts that lie one behind another in one block, which they share.
+//! Texts that lie one behind another in one block of bytes, which they share.
 
 ghost use Rattle.std.specs.Prelude.{◌≡◌, IfOk};
 ghost use Rattle.std.specs.Rc.{rc_value};
@@ -10,7 +10,8 @@ use std::marker::Model;
 use std::rc::Rc;
 use std::str::from_utf8_unchecked;
 
-/// Bytes that texts share. A contract sees the bytes.
+/// A block of bytes that several texts share by a reference count. In a contract it is the list of
+/// its bytes.
 #[derive(Drop)]
 pub struct TextBlock {
     bytes: Rc<Vec<u8>>,
@@ -26,7 +27,7 @@ impl Model for TextBlock {
 }
 
 impl TextBlock {
-    /// A block of these bytes.
+    /// Returns a block with these bytes, or `OutOfMemory`.
     pub fn new(alloc: Global, bytes: Vec<u8>) -> Result<TextBlock, OutOfMemory>
         ensures { IfOk result (λ block. block ≡ bytes.items) }
     {
@@ -34,7 +35,8 @@ impl TextBlock {
         Ok(TextBlock { bytes })
     }
 
-    /// The same block once more.
+    /// Returns another handle to the same block. It fails with `OutOfMemory` when the reference
+    /// count is full.
     fn shared(&self) -> Result<TextBlock, OutOfMemory>
         ensures { IfOk result (λ block. block ≡ self.now) }
     {
@@ -50,7 +52,7 @@ impl TextBlock {
     }
 }
 
-/// A text in a block. A contract sees it as the list of its bytes.
+/// A text inside a block. In a contract it is the list of its bytes.
 #[derive(Drop)]
 pub(crate) struct TextPart {
     block: TextBlock,
@@ -70,7 +72,7 @@ impl Model for TextPart {
 }
 
 impl TextPart {
-    /// The text that lies in the block from this place on.
+    /// Returns the text that lies in the block from index `start` on. It shares the block.
     pub(crate) fn new(block: &TextBlock, start: usize, text: &str) -> Result<TextPart, OutOfMemory>
         requires { LiesAt text.now start block.now }
         ensures { IfOk result (λ part. part ≡ text.now) }
@@ -83,7 +85,7 @@ impl TextPart {
         })
     }
 
-    /// The same text, in the same block.
+    /// Returns another handle to the same text in the same block.
     pub(crate) fn shared(&self) -> Result<TextPart, OutOfMemory>
         ensures { IfOk result (λ part. part ≡ self.now) }
     {

@@ -1,4 +1,4 @@
-//! Texts that few values have: one pointer in the value that has a place for one.
+//! Texts in fields that are rarely used, such as prefixes: they take one pointer in the value.
 
 ghost use Rattle.std.specs.Prelude.{◌≡◌, IfOk, List, ℕ};
 
@@ -7,12 +7,12 @@ use crate::fault::OutOfMemory;
 use std::alloc::Global;
 use std::marker::Model;
 
-/// A text behind a pointer. A contract sees it as the list of its bytes.
+/// A text behind a pointer. In a contract it is the list of its bytes.
 pub struct RareText {
     text: Box<Text>,
 }
 
-/// Written out, so that what drops such a text has one step for it.
+/// Destructures by hand, so that dropping such a text is one step for its owner.
 impl Drop for RareText {
     #[inline(always)]
     fn drop(self) {
@@ -30,7 +30,7 @@ impl Model for RareText {
 }
 
 impl RareText {
-    /// A copy of the text.
+    /// Returns a copy of `text`, or `OutOfMemory`.
     pub fn new(alloc: Global, text: &str) -> Result<RareText, OutOfMemory>
         ensures { IfOk result (λ made. made ≡ text.now) }
     {
@@ -39,14 +39,14 @@ impl RareText {
         Ok(RareText { text })
     }
 
-    /// The text.
+    /// Returns the text.
     pub fn as_str(&self) -> &str
         ensures { result.now ≡ self.now }
     {
         self.text.as_str()
     }
 
-    /// A text of the same bytes in memory of its own.
+    /// Returns a copy in memory of its own, or `OutOfMemory`.
     pub fn try_clone(&self) -> Result<RareText, OutOfMemory>
         ensures { IfOk result (λ made. made ≡ self.now) }
     {

@@ -1,11 +1,11 @@
-//! Texts of a few bytes, which lie in the value itself.
+//! Texts of at most 30 bytes, which are stored in the value itself.
 
 ghost use Rattle.std.specs.Prelude.{◌≡◌, ◌<◌, ◌+◌, ◌++◌, MatchOption, List, ℕ, length};
 
 use std::marker::Model;
 use std::str::from_utf8_unchecked;
 
-/// A text of at most 30 bytes. A contract sees it as the list of its bytes.
+/// A text of at most 30 bytes. In a contract it is the list of its bytes.
 #[derive(Drop)]
 pub(crate) struct ShortText {
     length: u8,
@@ -23,7 +23,7 @@ impl Model for ShortText {
 }
 
 impl ShortText {
-    /// None where the text has more than 30 bytes.
+    /// Returns a copy of `text`, or `None` when it has more than 30 bytes.
     #[inline(always)]
     pub(crate) fn new(text: &str) -> Option<ShortText>
         ensures { MatchOption result (30 < length text.now) (λ short. short ≡ text.now) }
@@ -40,7 +40,7 @@ impl ShortText {
         })
     }
 
-    /// The same text.
+    /// Returns a copy.
     #[inline(always)]
     pub(crate) fn copied(&self) -> ShortText
         ensures { result ≡ self.now }
@@ -51,7 +51,7 @@ impl ShortText {
         }
     }
 
-    /// The text with more behind it; None where that has more than 30 bytes.
+    /// Returns the text with `more` appended, or `None` when that has more than 30 bytes.
     pub(crate) fn lengthened(&self, more: &str) -> Option<ShortText>
         ensures { MatchOption result (30 < length self.now + length more.now)
             (λ longer. longer ≡ self.now ++ more.now) }

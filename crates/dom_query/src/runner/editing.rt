@@ -1,4 +1,4 @@
-//! What lines change in the tree.
+//! The script lines that edit the tree.
 
 ghost use Rattle.dom_edits.specs.Edits.{edit_at};
 ghost use Rattle.dom_query.specs.Editing.{EditsOrFails, line_edit, targets};
@@ -10,7 +10,7 @@ use dom_nodes::node_id::NodeId;
 use dom_script::script::edit_line::{EditLine, names_of};
 use dom_trees::tree::Tree;
 
-/// Does it at each of the nodes.
+/// Makes the edit at each of the nodes.
 fn do_each(tree: &mut Tree, nodes: &[NodeId], edit: Edit) -> Result<(), EditFault>
     ensures { EditsOrFails result tree.old tree.new nodes.now (edit_at edit.entry) }
 {
@@ -20,7 +20,8 @@ fn do_each(tree: &mut Tree, nodes: &[NodeId], edit: Edit) -> Result<(), EditFaul
     }
 }
 
-/// Strips elements below each of the nodes; the names are apart by one space.
+/// Replaces elements below each of the nodes by their children. The names are separated by single
+/// spaces.
 fn strip_each(tree: &mut Tree, nodes: &[NodeId], names: &str) -> Result<(), EditFault>
     ensures { EditsOrFails result tree.old tree.new nodes.now
         (line_edit (EditLine.Strip names.now)) }
@@ -29,7 +30,8 @@ fn strip_each(tree: &mut Tree, nodes: &[NodeId], names: &str) -> Result<(), Edit
     do_each(tree, nodes, Edit::Strip(&names))
 }
 
-/// Does what the line does at each selected node, or at the root.
+/// Makes the edit of a line at each selected node; `normalize` is made at the root. It fails with
+/// the fault of the first node at which the edit fails.
 pub fn edit_selected(tree: &mut Tree, nodes: &[NodeId], edit: &EditLine) -> Result<(), EditFault>
     ensures { EditsOrFails result tree.old tree.new (targets edit.now nodes.now)
         (line_edit edit.now) }

@@ -1,8 +1,8 @@
-//! The nodes that lines select.
+//! The script lines that select nodes.
 
 ghost use Rattle.std.specs.Prelude.{◌≡◌, IfOk};
 ghost use Rattle.dom_query.specs.Queries.{Added, QueryResult, navigated};
-ghost use Rattle.dom_select.specs.Meaning.{Means};
+ghost use Rattle.dom_select.specs.Meaning.{MatchesNode};
 ghost use Rattle.dom_select.specs.Selected.{FiltersTo};
 ghost use Rattle.dom_selection.specs.Selections.{ids_of};
 
@@ -14,7 +14,8 @@ use dom_select::matcher::Matcher;
 use dom_selection::selection::Selection;
 use dom_trees::tree::Tree;
 
-/// What the selector selects with this selection.
+/// Returns the nodes that a selector selects, depending on the kind of the line and on the
+/// selection before it. It fails with `OutOfMemory` when memory is refused.
 pub fn query(
     tree: &Tree,
     selection: &[NodeId],
@@ -32,17 +33,17 @@ pub fn query(
     }
 }
 
-/// Those of the selection that the selector means.
+/// Returns those nodes of the selection that match the selector.
 fn filter(tree: &Tree, selection: &[NodeId], matcher: &Matcher) -> Result<Vec<NodeId>, OutOfMemory>
     ensures { IfOk result (λ found.
-        FiltersTo (Means matcher.now tree.now) selection.now found.items) }
+        FiltersTo (MatchesNode matcher.now tree.now) selection.now found.items) }
 {
     let from = Selection::from_ids(tree, selection)?;
     let kept = from.filter_matcher(matcher)?;
     kept.ids()
 }
 
-/// The selection, and then the matches below the root that don't stand in it.
+/// Returns the selection, then the matches below the root that aren't in it.
 fn add(tree: &Tree, selection: &[NodeId], matcher: &Matcher) -> Result<Vec<NodeId>, OutOfMemory>
     ensures { IfOk result (λ found. Added tree.now selection.now matcher.now found.items) }
 {
@@ -51,7 +52,7 @@ fn add(tree: &Tree, selection: &[NodeId], matcher: &Matcher) -> Result<Vec<NodeI
     all.ids()
 }
 
-/// The nodes in that direction from the selection.
+/// Returns the nodes in this direction from the selection.
 fn traverse<'a>(
     tree: &'a Tree,
     selection: &[NodeId],
@@ -72,7 +73,8 @@ fn traverse<'a>(
     }
 }
 
-/// The numbers of the nodes in that direction from the selection.
+/// Returns the ids of the nodes in this direction from the selection. It fails with `OutOfMemory`
+/// when memory is refused.
 pub fn navigate(
     tree: &Tree,
     selection: &[NodeId],

@@ -1,4 +1,4 @@
-//! What lines write.
+//! The script lines that write.
 
 ghost use Rattle.std.specs.Prelude.{◌≡◌, decimal, length, string_bytes, IfErr, IfOk};
 ghost use Rattle.std.specs.List.{flat_map};
@@ -18,7 +18,7 @@ use dom_trees::node_ref::NodeRef;
 use dom_trees::tree::Tree;
 use std::io::Write;
 
-/// Writes the number of the nodes, and a line feed.
+/// Writes the number of selected nodes and a line feed.
 fn write_count<W: Write>(selection: &[NodeId], out: &mut W) -> Result<(), WriteFault>
     ensures { PutsLine W.contents out.old out.new result (decimal (length selection.now)) }
 {
@@ -26,7 +26,7 @@ fn write_count<W: Write>(selection: &[NodeId], out: &mut W) -> Result<(), WriteF
     write_bytes(out, b"\n")
 }
 
-/// The text of the node, plain or formatted.
+/// Returns the text of the node, as it is or formatted.
 fn node_text(tree: &Tree, id: NodeId, formatted: bool) -> Result<String, OutOfMemory>
     ensures { IfOk result (λ text. string_bytes text ≡ node_text formatted tree.now id) }
 {
@@ -37,7 +37,8 @@ fn node_text(tree: &Tree, id: NodeId, formatted: bool) -> Result<String, OutOfMe
     node.text()
 }
 
-/// Writes the texts of the nodes, plain or formatted, each with its own tags, and a line feed.
+/// Writes the texts of the nodes, as they are or formatted, one after another, and a line feed.
+/// Each node is formatted as an element of its own.
 fn write_texts<W: Write>(
     tree: &Tree,
     selection: &[NodeId],
@@ -55,7 +56,7 @@ fn write_texts<W: Write>(
     Ok(write_bytes(out, b"\n")?)
 }
 
-/// Writes the HTML of a node or of its children, and a line feed.
+/// Writes the HTML of a node, or of its children, and a line feed.
 fn write_node<W: Write>(
     tree: &Tree,
     id: NodeId,
@@ -68,7 +69,8 @@ fn write_node<W: Write>(
     write_bytes(out, b"\n")
 }
 
-/// Writes the HTML of the first node or of its children, or nothing, and a line feed.
+/// Writes the HTML of the first node, or of its children, and a line feed; without a node, only the
+/// line feed.
 fn write_first<W: Write>(
     tree: &Tree,
     selection: &[NodeId],
@@ -83,7 +85,8 @@ fn write_first<W: Write>(
     }
 }
 
-/// The value of the first node's first attribute of that local name; empty where there is none.
+/// Returns the value of the first node's first attribute with this local name; empty if there is
+/// none.
 fn value_of<'a>(tree: &'a Tree, selection: &[NodeId], name: &str) -> &'a str
     ensures { result.now ≡ first_attr name.now tree.now selection.now }
 {
@@ -93,7 +96,8 @@ fn value_of<'a>(tree: &'a Tree, selection: &[NodeId], name: &str) -> &'a str
     }
 }
 
-/// Writes the value of the first node's attribute, or nothing, and a line feed.
+/// Writes the value of the first node's first attribute with this local name and a line feed; if
+/// there is none, only the line feed. It fails when the writer does.
 pub fn write_attr<W: Write>(
     tree: &Tree,
     selection: &[NodeId],
@@ -107,7 +111,8 @@ pub fn write_attr<W: Write>(
     write_bytes(out, b"\n")
 }
 
-/// Writes what is to be rendered, and a line feed.
+/// Writes what a line asks for, and a line feed. It fails when the writer does, or when memory is
+/// refused.
 pub fn render<W: Write>(
     tree: &Tree,
     selection: &[NodeId],

@@ -1,4 +1,4 @@
-//! What stands behind a line's word.
+//! The argument of a line: what comes after its first word.
 
 ghost use Rattle.std.specs.Prelude.{◌≡◌, ◌≢◌, chars, IfOk, MatchBool, MatchOption};
 ghost use Rattle.std.specs.List.{list_all};
@@ -14,8 +14,8 @@ use dom_select::matcher::Matcher;
 use dom_selectors::fault::SelectorFault;
 use std::alloc::Global;
 
-/// What stands behind the word and one space; nothing behind the word alone. None where the line is
-/// another.
+/// Returns what comes after `word` and one space, or the empty text if the line is `word` alone. It
+/// returns `None` if the line doesn't begin with `word` in this way.
 pub fn argument_of<'a>(line: &'a str, word: &str) -> Option<&'a str>
     ensures { MatchOption result (HasNoArgument line.now word.now)
         (λ argument. HasArgument line.now word.now argument.now) }
@@ -27,7 +27,7 @@ pub fn argument_of<'a>(line: &'a str, word: &str) -> Option<&'a str>
     behind.strip_prefix(' ')
 }
 
-/// The selector, if the text is one.
+/// Returns the selector list, or `None` if the text isn't one. It fails with `OutOfMemory`.
 fn selector_of(alloc: Global, text: &str) -> Result<Option<Matcher>, OutOfMemory>
     ensures { IfOk result (IsSelectorOf (chars text.now)) }
 {
@@ -42,14 +42,15 @@ fn selector_of(alloc: Global, text: &str) -> Result<Option<Matcher>, OutOfMemory
     }
 }
 
-/// Whether it was memory that was refused.
+/// Returns whether the fault is a refusal of memory.
 fn is_memory(fault: SelectorFault) -> bool
     ensures { MatchBool result (fault ≡ SelectorFault.Memory) (fault ≢ SelectorFault.Memory) }
 {
     matches!(fault, SelectorFault::Memory)
 }
 
-/// The selector behind the word, if the line is these.
+/// Returns the selector after `word`, or `None` if the line isn't `word` and a selector. It fails
+/// with `OutOfMemory` when memory is refused.
 pub fn selector_behind(
     alloc: Global,
     line: &str,
@@ -63,7 +64,7 @@ pub fn selector_behind(
     }
 }
 
-/// Whether the text is one or more name characters.
+/// Returns whether the text is a name: one or more name bytes.
 pub fn is_name(text: &str) -> bool
     ensures { result ≡ is_name text.now }
 {
@@ -79,7 +80,8 @@ fn are_name_bytes(bytes: &[u8]) -> bool
     bytes.iter().all(|byte| is_name_byte(*byte))
 }
 
-/// Whether a byte may stand in a name.
+/// Returns whether the byte may be part of a name: it isn't ASCII white space, NUL, or one of `/`,
+/// `>`, `<`, `=`, `"`, `'`.
 fn is_name_byte(byte: u8) -> bool
     ensures { result ≡ is_name_byte byte }
 {
@@ -89,7 +91,8 @@ fn is_name_byte(byte: u8) -> bool
     )
 }
 
-/// The name behind the word, if the line is these.
+/// Returns the name after `word`, or `None` if the line isn't `word` and a name. It fails with
+/// `OutOfMemory` when memory is refused.
 pub fn name_behind(alloc: Global, line: &str, word: &str) -> Result<Option<Text>, OutOfMemory>
     ensures { Finds result (HasNoName line.now word.now) (HasName line.now word.now) }
 {

@@ -1,4 +1,4 @@
-//! The lines that change the tree.
+//! The lines that edit the tree.
 
 ghost use Rattle.std.specs.Prelude.{◌≡◌, map, IfErr, IfOk, MatchOption};
 ghost use Rattle.std.specs.List.{list_all};
@@ -19,35 +19,35 @@ use dom_nodes::fault::{MarkupFaultKind, OutOfMemory};
 use dom_nodes::text::Text;
 use std::alloc::Global;
 
-/// What a line does at each selected node.
+/// The edit that a line makes at each selected node.
 #[derive(Drop)]
 pub enum EditLine {
-    /// The attribute of this local name gets the value.
+    /// Sets the attribute with this local name to the value.
     SetAttr { name: Text, value: Text },
-    /// The attributes of this local name are removed.
+    /// Removes the attributes with this local name.
     RemoveAttr(Text),
-    /// The element gets this local name.
+    /// Changes the local name of the element.
     Rename(Text),
-    /// The classes are added.
+    /// Adds classes.
     AddClass(Text),
-    /// The classes are taken out.
+    /// Removes classes.
     RemoveClass(Text),
-    /// The text is set.
+    /// Sets the text.
     SetText(Text),
-    /// The elements below of these local names, which a space parts, are replaced by their
+    /// Replaces the elements below the node with these local names, separated by spaces, by their
     /// children.
     Strip(Text),
-    /// Copies of the nodes that markup spells are put at the place at the node.
+    /// Inserts copies of the nodes of this markup at a place relative to the node.
     Put(Place, Snippet),
-    /// The node is cut out.
+    /// Detaches the node.
     Remove,
-    /// The parent's children take the parent's place.
+    /// Removes the parent and keeps its children in its place.
     Unwrap,
-    /// The texts below the root are joined, whatever is selected.
+    /// Joins adjacent texts below the root, whatever is selected.
     Normalize,
 }
 
-/// The text behind the word, if the line is these.
+/// Returns the text after `word`, or `None` if the line doesn't begin with `word`.
 fn text_behind(alloc: Global, line: &str, word: &str) -> Result<Option<Text>, OutOfMemory>
     ensures { Finds result (HasNoArgument line.now word.now) (HasArgument line.now word.now) }
 {
@@ -57,7 +57,8 @@ fn text_behind(alloc: Global, line: &str, word: &str) -> Result<Option<Text>, Ou
     }
 }
 
-/// The name at the front, and what stands behind it and one space; nothing behind the name alone.
+/// Splits the text into a name and what comes after it and one space; that is empty if the text is
+/// a name alone. It returns `None` if the text doesn't begin with a name.
 fn pair_of(text: &str) -> Option<(&str, &str)>
     ensures { MatchOption result (HasNoPair text.now)
         (λ pair. HasPair text.now pair.0.now pair.1.now) }
@@ -74,7 +75,7 @@ fn pair_of(text: &str) -> Option<(&str, &str)>
     Some((name, value))
 }
 
-/// Whether the text is names that a space parts.
+/// Returns whether the text is a list of names separated by single spaces.
 pub fn are_names(text: &str) -> bool
     ensures { result ≡ list_all is_name (names_in text.now) }
 {
@@ -86,14 +87,15 @@ pub fn are_names(text: &str) -> bool
     true
 }
 
-/// The names that a space parts.
+/// Returns the names in a text that are separated by single spaces. It fails with `OutOfMemory`
+/// when memory is refused.
 pub fn names_of(alloc: Global, text: &str) -> Result<Vec<&str>, OutOfMemory>
     ensures { IfOk result (λ names. map (λ name. name.now) names.items ≡ names_in text.now) }
 {
     Ok(text.split(' ').collect(alloc)?)
 }
 
-/// The edit that the line is, if it is one without an argument.
+/// Returns the edit of the line if it is one without an argument.
 fn bare_edit_of(line: &str) -> Option<EditLine>
     ensures { MatchOption result (IsNoBareEdit line.now) (IsEdit line.now) }
 {
@@ -109,7 +111,7 @@ fn bare_edit_of(line: &str) -> Option<EditLine>
     None
 }
 
-/// The edit that the line is, if it is one with a name.
+/// Returns the edit of the line if it is one with a name.
 fn named_edit_of(alloc: Global, line: &str) -> Result<Option<EditLine>, OutOfMemory>
     ensures { Finds result (IsNoNamedEdit line.now) (IsEdit line.now) }
 {
@@ -122,7 +124,7 @@ fn named_edit_of(alloc: Global, line: &str) -> Result<Option<EditLine>, OutOfMem
     Ok(None)
 }
 
-/// The edit that the line is, if it is one with any text.
+/// Returns the edit of the line if it is one with a text.
 fn text_edit_of(alloc: Global, line: &str) -> Result<Option<EditLine>, OutOfMemory>
     ensures { Finds result (IsNoTextEdit line.now) (IsEdit line.now) }
 {
@@ -138,7 +140,7 @@ fn text_edit_of(alloc: Global, line: &str) -> Result<Option<EditLine>, OutOfMemo
     Ok(None)
 }
 
-/// The edit that the line is, if it sets an attribute.
+/// Returns the edit of the line if it sets an attribute.
 fn set_attr_of(alloc: Global, line: &str) -> Result<Option<EditLine>, OutOfMemory>
     ensures { Finds result (IsNoSetAttr line.now) (IsEdit line.now) }
 {
@@ -153,7 +155,7 @@ fn set_attr_of(alloc: Global, line: &str) -> Result<Option<EditLine>, OutOfMemor
     Ok(Some(EditLine::SetAttr { name, value }))
 }
 
-/// The edit that the line is, if it strips elements.
+/// Returns the edit of the line if it replaces elements by their children.
 fn strip_of(alloc: Global, line: &str) -> Result<Option<EditLine>, OutOfMemory>
     ensures { Finds result (IsNoStrip line.now) (IsEdit line.now) }
 {
@@ -166,7 +168,8 @@ fn strip_of(alloc: Global, line: &str) -> Result<Option<EditLine>, OutOfMemory>
     Ok(Some(EditLine::Strip(Text::new(alloc, names)?)))
 }
 
-/// What was read of the text, if it is markup.
+/// Returns the parsed markup, or `None` if the text doesn't follow the grammar of markup. It fails
+/// with `TooManyNodes` or `Memory`.
 fn snippet_of(alloc: Global, text: &str) -> Result<Option<Snippet>, ScriptFault>
     ensures ok { Finds result (SpellsNothing text.now) (IsSpelled text.now) }
     ensures refused { IfErr result (MarkupLimit text.now) }
@@ -181,7 +184,7 @@ fn snippet_of(alloc: Global, text: &str) -> Result<Option<Snippet>, ScriptFault>
     }
 }
 
-/// What was read of the markup behind the word, if the line is these.
+/// Returns the parsed markup after `word`, or `None` if the line isn't `word` and markup.
 fn snippet_behind(alloc: Global, line: &str, word: &str) -> Result<Option<Snippet>, ScriptFault>
     ensures ok { Finds result (HasNoMarkup line.now word.now) (HasMarkup line.now word.now) }
     ensures refused { IfErr result (LineRefused line.now) }
@@ -192,7 +195,7 @@ fn snippet_behind(alloc: Global, line: &str, word: &str) -> Result<Option<Snippe
     }
 }
 
-/// What the line puts where, if it puts markup.
+/// Returns the place and the markup if the line inserts markup.
 fn put_of(alloc: Global, line: &str) -> Result<Option<(Place, Snippet)>, ScriptFault>
     ensures ok { Finds result (IsNoPut line.now) (λ put. IsPut line.now put.0 put.1) }
     ensures refused { IfErr result (LineRefused line.now) }
@@ -218,7 +221,8 @@ fn put_of(alloc: Global, line: &str) -> Result<Option<(Place, Snippet)>, ScriptF
     Ok(None)
 }
 
-/// The edit that the line is, if it is one.
+/// Returns the edit of the line, or `None` if the line isn't one. It fails with `TooManyNodes` when
+/// the markup in the line has more nodes than there are ids, and with `Memory`.
 pub fn edit_of(alloc: Global, line: &str) -> Result<Option<EditLine>, ScriptFault>
     ensures ok { Finds result (IsNoEdit line.now) (IsEdit line.now) }
     ensures refused { IfErr result (LineRefused line.now) }

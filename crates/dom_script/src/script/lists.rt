@@ -1,4 +1,4 @@
-//! The lists of names of the line that cleans the tree.
+//! The lists of names in the line `sanitize`.
 
 ghost use Rattle.std.specs.Prelude.{◌≡◌, map, IfOk};
 ghost use Rattle.dom_script.specs.NameLists.{IsNoSanitize, IsSanitize, are_lists, is_list};
@@ -11,7 +11,8 @@ use dom_nodes::fault::OutOfMemory;
 use dom_nodes::text::Text;
 use std::alloc::Global;
 
-/// Whether the text is names that a space parts, or none.
+/// Returns whether the text is a list of names separated by single spaces. The empty text is the
+/// empty list.
 fn is_list(text: &str) -> bool
     ensures { result ≡ is_list text.now }
 {
@@ -21,7 +22,7 @@ fn is_list(text: &str) -> bool
     are_names(text)
 }
 
-/// Whether the text is three lists of names that a semicolon parts.
+/// Returns whether the text is three lists of names, separated by semicolons.
 fn are_lists(text: &str) -> bool
     ensures { result ≡ are_lists text.now }
 {
@@ -35,7 +36,8 @@ fn are_lists(text: &str) -> bool
     count == 3
 }
 
-/// The three lists behind the word, if the line is these.
+/// Returns the three lists after the word `sanitize`, or `None` if the line isn't that. It fails
+/// with `OutOfMemory` when memory is refused.
 pub fn lists_behind(alloc: Global, line: &str) -> Result<Option<Text>, OutOfMemory>
     ensures { Finds result (IsNoSanitize line.now) (IsSanitize line.now) }
 {
@@ -48,14 +50,15 @@ pub fn lists_behind(alloc: Global, line: &str) -> Result<Option<Text>, OutOfMemo
     Ok(Some(Text::new(alloc, lists)?))
 }
 
-/// The lists that a semicolon parts.
+/// Returns the lists in the text, which semicolons separate. It fails with `OutOfMemory` when
+/// memory is refused.
 pub fn lists_of(alloc: Global, text: &str) -> Result<Vec<&str>, OutOfMemory>
     ensures { IfOk result (λ lists. map (λ list. list.now) lists.items ≡ lists_in text.now) }
 {
     Ok(text.split(';').collect(alloc)?)
 }
 
-/// The names of a list.
+/// Returns the names of a list. It fails with `OutOfMemory` when memory is refused.
 pub fn listed_in(alloc: Global, list: &str) -> Result<Vec<&str>, OutOfMemory>
     ensures { IfOk result (λ names. map (λ name. name.now) names.items ≡ listed_in list.now) }
 {

@@ -1,10 +1,10 @@
-//! The words of lines that stand alone.
+//! The lines that are a single word.
 ghost use Rattle.dom_script.specs.Script.{navigation_word, rendering_word};
 ghost use Rattle.dom_script.specs.Words.{IsWordOf};
 
 use crate::script::{Navigation, Rendering};
 
-/// The direction of the line, if it is one.
+/// Returns the direction that the line names, or `None` if it names none.
 pub fn navigation_of(line: &str) -> Option<Navigation>
     ensures { IsWordOf navigation_word line.now result }
 {
@@ -32,7 +32,7 @@ pub fn navigation_of(line: &str) -> Option<Navigation>
     None
 }
 
-/// What the line renders, if it renders something.
+/// Returns what the line writes, or `None` if it is no such line.
 pub fn rendering_of(line: &str) -> Option<Rendering>
     ensures { IsWordOf rendering_word line.now result }
 {

@@ -20,7 +20,7 @@ use Rattle.dom_selectors.specs.ValuesAsTrees.{read_compound, read_list, read_ste
 use Rattle.dom_select.specs.declared.matcher.has.Start.TheVariants.{Absolute}
 use Rattle.dom_select.specs.Descendants.{IsMatch}
 use Rattle.dom_select.specs.Ends.{SubjectImpliesType}
-use Rattle.dom_select.specs.Meaning.{Means}
+use Rattle.dom_select.specs.Meaning.{MatchesNode}
 use Rattle.dom_select.specs.Parts.{name_within, node_passes}
 use Rattle.dom_select.specs.Subjects.{MayBear, MayBeSubject, SubjectIsAmong}
 use Rattle.dom_select.proofs.EndLemmas.{means_one}
@@ -62,7 +62,7 @@ module _ (types : List Bool) (number : ℕ) (within : number < length types) whe
 -- what the selectors match has one of the types with a flag, or is matched by one of the selectors that are left
 abbrev pub AreMetTo : List Bool → List Selector → ℕ → Type 0
 AreMetTo types selectors i =
-    (forest : Forest) (n : ℕ) (node : NodeData) → slice_get forest.content n ≡ Some node → Means (read_list selectors) forest n → MayBear types node ⊎ Means (read_list (drop i selectors)) forest n
+    (forest : Forest) (n : ℕ) (node : NodeData) → slice_get forest.content n ≡ Some node → MatchesNode (read_list selectors) forest n → MayBear types node ⊎ MatchesNode (read_list (drop i selectors)) forest n
 
 module _ (selectors : List Selector) (i : ℕ) (types : List Bool) where
   pub met_more : (number : ℕ) (name : List ℕ) (s : Selector) → i < length selectors → s ≡ get_or selectors i s → number < length types →
@@ -72,9 +72,9 @@ module _ (selectors : List Selector) (i : ℕ) (types : List Bool) where
       left : drop i selectors ≡ s ∷ drop (i + 1) selectors
       left = drop_more selectors i s within ∙ ap (λ x. x ∷ drop (i + 1) selectors) (sym is)
 
-      by : MayBear types node ⊎ Means (read_list (drop i selectors)) forest n → MayBear (set types number true) node ⊎ Means (read_list (drop (i + 1) selectors)) forest n
+      by : MayBear types node ⊎ MatchesNode (read_list (drop i selectors)) forest n → MayBear (set types number true) node ⊎ MatchesNode (read_list (drop (i + 1) selectors)) forest n
       by (inl had) = inl (still_flagged types number below node had)
-      by (inr next) = elim (means_one s (drop (i + 1) selectors) forest n (subst (λ l. Means (read_list l) forest n) left next)) [
+      by (inr next) = elim (means_one s (drop (i + 1) selectors) forest n (subst (λ l. MatchesNode (read_list l) forest n) left next)) [
         | inl r ↦ inl (now_flagged types number below name node numbered ((type_known name forest n node e).1 (ends Absolute forest n n r)))
         | inr more ↦ inr more
       ]
@@ -82,7 +82,7 @@ module _ (selectors : List Selector) (i : ℕ) (types : List Bool) where
   pub met_all : length selectors ≤ i → AreMetTo types selectors i → SubjectIsAmong types (read_list selectors)
   met_all past met forest n node e m = elim (met forest n node e m) [
     | inl had ↦ had
-    | inr more ↦ absurd (subst (λ l. Means (read_list l) forest n) (drop_all i selectors past) more)
+    | inr more ↦ absurd (subst (λ l. MatchesNode (read_list l) forest n) (drop_all i selectors past) more)
   ]
 
 -- a node that was looked up
@@ -95,5 +95,5 @@ module _ (list : SelectorList) (forest : Forest) (n : ℕ) (node : NodeData) (e 
       bears None none = tt
       bears (Some types) h = h forest n node e match.1
 
-  pub match_decided : (b : Bool) → is_element node ≡ true → (IsTrue b ↔ Means list forest n) → Decides b (IsMatch list forest n)
+  pub match_decided : (b : Bool) → is_element node ≡ true → (IsTrue b ↔ MatchesNode list forest n) → Decides b (IsMatch list forest n)
   match_decided b element fact = decides b (IsMatch list forest n) ((λ t. (ap (λ found. option_map_or is_element found false) e ∙ element, fact.0 t)), λ match. fact.1 match.1)

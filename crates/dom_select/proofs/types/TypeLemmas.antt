@@ -19,7 +19,7 @@ use Rattle.dom_selectors.proofs.Layers.{read_selector_is}
 use Rattle.dom_select.specs.Descendants.{IsMatch}
 use Rattle.dom_select.specs.Ends.{AreDecided, IsSubjectType}
 use Rattle.dom_select.specs.declared.matcher.has.Start.TheVariants.{Absolute}
-use Rattle.dom_select.specs.Meaning.{HasType, Holds, IsTypeAlone, Means, MeansType, PartsHold}
+use Rattle.dom_select.specs.Meaning.{HasType, Holds, IsTypeAlone, MatchesNode, MeansType, PartsHold}
 use Rattle.dom_select.specs.Parts.{node_passes}
 use Rattle.dom_select.proofs.FollowLemmas.{is_nil}
 use Rattle.dom_select.proofs.HasLemmas.{alone_matches}
@@ -30,9 +30,9 @@ pub means_type : (name : List ℕ) (s : Selector) → read_compound (out-Selecto
 means_type name s e f forest n =
     let is : read_list (s ∷ []) ≡ alternative (out-Selector s).lead (compound (Part.«Type» name ∷ []) no_lists) no_steps no_selectors =
     ap (λ t. selector_list (t ∷ [])) (read_selector_is s) ∙ (ap (λ c. alternative (out-Selector s).lead c (steps_of (map read_step (out-Selector s).rest.items)) no_selectors) e ∙ ap (λ r. alternative (out-Selector s).lead (compound (Part.«Type» name ∷ []) no_lists) (steps_of (map read_step r)) no_selectors) f) in
-    let there : Means (alternative (out-Selector s).lead (compound (Part.«Type» name ∷ []) no_lists) no_steps no_selectors) forest n ↔ PartsHold (Part.«Type» name ∷ []) forest n =
+    let there : MatchesNode (alternative (out-Selector s).lead (compound (Part.«Type» name ∷ []) no_lists) no_steps no_selectors) forest n ↔ PartsHold (Part.«Type» name ∷ []) forest n =
     ((λ h. elim h [ inl x ↦ subst (λ m. PartsHold (Part.«Type» name ∷ []) forest m) x.2 x.1.0 | inr none ↦ absurd none ]), λ held. inl (n, (held, tt), refl)) in
-    subst (λ l. Means l forest n ↔ PartsHold (Part.«Type» name ∷ []) forest n) (sym is) there
+    subst (λ l. MatchesNode l forest n ↔ PartsHold (Part.«Type» name ∷ []) forest n) (sym is) there
 
 pub list_of_one : {A : Type 0} (xs : List A) (x : A) → 1 ≤ length xs → length xs < 2 → x ≡ get_or xs 0 x → xs ≡ x ∷ []
 list_of_one [] x low high is = absurd (omega arith)

@@ -1,4 +1,4 @@
-//! Sibling indexes that were asked for before.
+//! Caches of sibling indexes.
 
 ghost use Rattle.std.specs.Prelude.{◌≡◌, ◌<◌, ◌≤◌, ℕ, MatchOption};
 ghost use Rattle.dom_links.specs.Indexes.{AreIndexes, index_at, index_known};
@@ -10,12 +10,12 @@ use dom_nodes::node_id::NodeId;
 use dom_trees::tree::Tree;
 use std::marker::Model;
 
-/// How many siblings an index that isn't kept counts for at least.
+/// The least number of siblings that an index outside the cache counts for.
 const FEW: u64 = 16;
 
-/// The sibling indexes that selectors asked for in one tree. It borrows the tree, so that no edit
-/// comes between two questions. A contract sees the tree's forest: an index that is kept is right,
-/// and no answer depends on whether it is kept.
+/// Caches of the sibling indexes that selectors ask for in one tree. They borrow the tree, so no
+/// edit can come between two questions. A contract sees the forest of the tree: a cached index is
+/// right, and no answer depends on what is cached.
 #[derive(Drop)]
 pub struct SelectorCaches<'t> {
     tree: &'t Tree,
@@ -44,30 +44,31 @@ impl<'t> Model for SelectorCaches<'t> {
 }
 
 impl<'t> SelectorCaches<'t> {
-    /// Caches that keep nothing yet.
+    /// Returns empty caches.
     pub fn new(tree: &'t Tree) -> SelectorCaches<'t>
         ensures { result ≡ tree.entry.now }
     {
         SelectorCaches::made(tree, Some(0))
     }
 
-    /// Caches of one selection. They keep nothing, and take no memory, before many siblings were
-    /// counted: room for all of the tree's indexes is too much for a selection that asks a few
-    /// nodes with few siblings.
+    /// Returns caches for one selection. They stay empty, and allocate no memory, until many
+    /// siblings were counted: room for all indexes of the tree is too much for a selection that
+    /// tests a few nodes.
     pub(crate) fn late(tree: &'t Tree) -> SelectorCaches<'t>
         ensures { result ≡ tree.entry.now }
     {
         SelectorCaches::made(tree, Some(256))
     }
 
-    /// Caches that never keep anything, and take no memory.
+    /// Returns caches that never keep anything and allocate no memory.
     pub(crate) fn none(tree: &'t Tree) -> SelectorCaches<'t>
         ensures { result ≡ tree.entry.now }
     {
         SelectorCaches::made(tree, None)
     }
 
-    /// Caches that keep nothing before so many siblings were counted, or never anything.
+    /// Returns caches that stay empty until `waits` siblings were counted; with `None` they stay
+    /// empty for ever.
     fn made(tree: &'t Tree, waits: Option<u64>) -> SelectorCaches<'t>
         ensures { result ≡ tree.entry.now }
     {
@@ -82,25 +83,26 @@ impl<'t> SelectorCaches<'t> {
         }
     }
 
-    /// The tree.
+    /// Returns the tree.
     pub fn tree(&self) -> &'t Tree
         ensures { result.now ≡ self.now }
     {
         self.tree
     }
 
-    /// How many indexes were taken from the caches. No clause: nothing else depends on it.
+    /// Returns how many indexes were found in the caches. It has no contract, since nothing else
+    /// depends on it.
     pub fn hits(&self) -> u64 {
         self.hits
     }
 
-    /// Whether the next index is kept.
+    /// Returns whether the next index is cached.
     fn keeps(&self) -> bool {
         matches!(self.waits, Some(0))
     }
 
-    /// Notes how many siblings were counted for an index that isn't kept: a few at least, as many
-    /// of another type may have been passed.
+    /// Records how many siblings were counted for an index that isn't cached: at least `FEW`, since
+    /// as many siblings of other types may have been passed.
     fn note_counted(&mut self, count: u64)
         ensures { self.new ≡ self.old }
     {
@@ -109,8 +111,8 @@ impl<'t> SelectorCaches<'t> {
         }
     }
 
-    /// An index of a node among its siblings; 1 for an unknown number. Where it is kept, so is that
-    /// of each sibling that was counted.
+    /// Returns an index of a node among its siblings, starting at 1; 1 if the tree has no such
+    /// node. If indexes are cached, those of all siblings that were counted are cached too.
     pub fn index_at(&mut self, id: &NodeId, kind: IndexKind) -> u64
         ensures is { result ≡ index_at kind self.old id.now }
         ensures few { result ≤ 4294967295 }
@@ -134,8 +136,8 @@ impl<'t> SelectorCaches<'t> {
     }
 }
 
-/// An index of a node, from those that are known or by counting; what was counted is kept where
-/// there is room.
+/// Returns an index of a node from the cache or by counting; what was counted is cached if there is
+/// room.
 fn index_in(tree: &Tree, known: &mut Vec<u32>, hits: &mut u64, id: &NodeId, kind: IndexKind) -> u64
     requires { AreIndexes kind tree.now known.old.items }
     ensures is { result ≡ index_at kind tree.now id.now }
@@ -154,7 +156,8 @@ fn index_in(tree: &Tree, known: &mut Vec<u32>, hits: &mut u64, id: &NodeId, kind
     }
 }
 
-/// The same by counting as far as an index that is known. What was counted is noted.
+/// Returns an index of a node by counting up to a sibling whose index is cached, and caches what
+/// was counted.
 fn count_on(tree: &Tree, known: &mut [u32], id: &NodeId, kind: IndexKind) -> u64
     requires { AreIndexes kind tree.now known.old }
     ensures is { result ≡ index_at kind tree.now id.now }
@@ -167,7 +170,7 @@ fn count_on(tree: &Tree, known: &mut [u32], id: &NodeId, kind: IndexKind) -> u64
     index
 }
 
-/// Makes room for an index of each node, if there is none and memory isn't refused.
+/// Makes room for an index of each node, unless there is room already or memory runs out.
 fn make_room(known: &mut Vec<u32>, len: usize)
     ensures { (n : ℕ) → index_known known.new.items n ≡ index_known known.old.items n }
 {
@@ -179,7 +182,7 @@ fn make_room(known: &mut Vec<u32>, len: usize)
     }
 }
 
-/// The index that is kept for a node.
+/// Returns the index that is cached for a node, if there is one.
 pub(crate) fn kept(known: &[u32], id: &NodeId) -> Option<u64>
     ensures { MatchOption result (Unit {0}) (IsKept known.now id.now) }
 {

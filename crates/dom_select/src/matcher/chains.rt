@@ -1,4 +1,4 @@
-//! How the nodes of a chain of compounds stand to each other, from right to left.
+//! The relations between the nodes of a chain of compound selectors, from right to left.
 
 ghost use Rattle.std.specs.Prelude.{◌≡◌, ◌↔◌, Some, IsTrue};
 ghost use Rattle.dom_links.specs.Laws.{AreLines};
@@ -14,7 +14,7 @@ use dom_nodes::node_id::NodeId;
 use dom_selectors::syntax::Combinator;
 use dom_trees::tree::Tree;
 
-/// Whether all nodes below are right operands of the combinator.
+/// Returns whether every descendant may be on the right of the combinator.
 #[inline(always)]
 pub fn is_deep(combinator: Combinator) -> bool
     ensures { result ≡ is_deep combinator }
@@ -25,7 +25,7 @@ pub fn is_deep(combinator: Combinator) -> bool
     }
 }
 
-/// Whether the combinator leads to nodes in the same list.
+/// Returns whether the combinator relates siblings.
 pub fn is_sideways(combinator: Combinator) -> bool
     ensures { result ≡ is_sideways combinator }
 {
@@ -35,7 +35,8 @@ pub fn is_sideways(combinator: Combinator) -> bool
     }
 }
 
-/// Whether the node may stand beside `+` or `~`.
+/// Returns whether the node may be an operand of the combinator: beside `+` and `~` it has to be an
+/// element, unless it is `exempt`.
 #[inline(always)]
 pub(crate) fn may_be_operand(
     tree: &Tree,
@@ -53,7 +54,8 @@ pub(crate) fn may_be_operand(
     }
 }
 
-/// States how parents and siblings are linked in the tree. It does nothing.
+/// States how parents and siblings are linked in the tree. It does nothing and is called for its
+/// contract.
 pub(crate) fn line_laws(tree: &Tree)
     ensures { AreLines tree.now }
 {
@@ -61,7 +63,7 @@ pub(crate) fn line_laws(tree: &Tree)
     lines_of_a_forest();
 }
 
-/// The next node on the way to the left: the parent, or the sibling before.
+/// Returns the next node to the left: the parent, or the previous sibling.
 #[inline(always)]
 pub(crate) fn left_of(tree: &Tree, combinator: Combinator, id: NodeId) -> Option<NodeId>
     ensures link { result ≡ left_of tree.now combinator id }
@@ -75,7 +77,7 @@ pub(crate) fn left_of(tree: &Tree, combinator: Combinator, id: NodeId) -> Option
     }
 }
 
-/// Whether no node farther on the left can be meant.
+/// Returns whether no node farther to the left can be related by the combinator.
 #[inline(always)]
 pub(crate) fn ends_at(tree: &Tree, combinator: Combinator, id: NodeId) -> bool
     ensures { result ≡ ends_at tree.now combinator id }
@@ -87,7 +89,7 @@ pub(crate) fn ends_at(tree: &Tree, combinator: Combinator, id: NodeId) -> bool
     }
 }
 
-/// How loosely a combinator binds.
+/// Returns how loosely a combinator binds.
 pub(crate) fn binding_level(combinator: Combinator) -> usize
     ensures { result ≡ binding_level combinator }
 {
@@ -99,7 +101,7 @@ pub(crate) fn binding_level(combinator: Combinator) -> usize
     }
 }
 
-/// Whether the combinator holds between the first node, on its left, and the other one.
+/// Returns whether the combinator relates `first`, on its left, to `id`.
 pub(crate) fn combinator_holds(
     tree: &Tree,
     combinator: Combinator,

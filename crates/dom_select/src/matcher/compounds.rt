@@ -1,4 +1,4 @@
-//! A compound that is asked of one node, by what its nested lists answered or with them.
+//! Tests of one compound selector against one node.
 
 ghost use Rattle.std.specs.Prelude.{◌≡◌, ◌+◌, ◌<◌, ◌^◌};
 ghost use Rattle.std.specs.List.{list_all};
@@ -13,8 +13,8 @@ use crate::matcher::parts::parts_hold;
 use dom_selectors::syntax::Compound;
 use dom_trees::node_ref::NodeRef;
 
-/// Whether the compound holds of the node, where `nested` states of each of its lists, in their
-/// order, whether it holds of the node. The caches are the tree's. It adds one to `tests`.
+/// Returns whether the compound selector matches the node. `nested` has the answers of its nested
+/// lists, in order. The caches have to be those of the node's tree. `tests` is increased by one.
 pub fn test_compound(
     compound: &Compound,
     x: &NodeRef<'_>,
@@ -40,7 +40,8 @@ pub fn test_compound(
     parts_hold(&compound.parts, caches, &x.id)
 }
 
-/// Whether the compound holds of the node, with its nested lists. The caches are the tree's.
+/// Returns whether the compound selector, with its nested lists, matches the node. The caches have
+/// to be those of the node's tree.
 pub fn compound_matches(
     compound: &Compound,
     x: &NodeRef<'_>,
@@ -53,7 +54,7 @@ pub fn compound_matches(
     holds(compound, caches, x.id)
 }
 
-/// Whether each of the answers is true.
+/// Returns whether all answers are true.
 fn are_true(answers: &[bool]) -> bool
     ensures { result ≡ list_all (λ b. b) answers.now }
 {

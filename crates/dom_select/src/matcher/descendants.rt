@@ -1,8 +1,8 @@
-//! Which nodes a selector selects.
+//! Selection below one node.
 
 ghost use Rattle.std.specs.Prelude.{◌≡◌, ◌∷◌, [], length, IfOk, IfSome};
 ghost use Rattle.std.specs.Iterator.{IsFinite, at_most};
-ghost use Rattle.dom_links.specs.Trees.{walk_below};
+ghost use Rattle.dom_links.specs.Trees.{descendants_in_order};
 ghost use Rattle.dom_select.specs.Descendants.{FiltersItems, GivesMatch, IsMatch};
 ghost use Rattle.dom_select.specs.Descendants.{SelectsBelow};
 ghost use Rattle.dom_select.specs.Meaning.{MeansType};
@@ -24,15 +24,16 @@ use dom_trees::node_ref::NodeRef;
 use dom_trees::tree::Tree;
 use std::marker::Model;
 
-/// The elements below a node that a selector means, each before those below it. It takes memory
-/// only for sibling indexes, where many are asked for and memory isn't refused.
+/// An iterator over the elements below a node that a selector matches, in document order. It
+/// allocates memory only for sibling indexes, if many are needed; if that memory isn't available,
+/// it counts siblings instead.
 #[derive(Drop)]
 pub struct DescendantMatches<'a, 'b> {
     ids: DescendantNodes<'a>,
     tree: &'a Tree,
     caches: SelectorCaches<'a>,
     matcher: &'b Matcher,
-    /// The types of the subjects, if each has one.
+    /// The types of the elements that the selectors can match, if each selector names one.
     types: Option<[bool; 256]>,
 }
 
@@ -55,9 +56,9 @@ impl<'a, 'b> Model for DescendantMatches<'a, 'b> {
 }
 
 impl<'a, 'b> DescendantMatches<'a, 'b> {
-    /// What is to come is what the selector selects below the node.
+    /// Returns an iterator over what the selector selects below the node.
     pub fn new(node: NodeRef<'a>, matcher: &'b Matcher) -> Self
-        ensures all { result.left ≡ walk_below node.entry.tree.now node.entry.id }
+        ensures all { result.left ≡ descendants_in_order node.entry.tree.now node.entry.id }
         ensures once { result.left ≡ walks_below node.entry.tree.now (node.entry.id ∷ []) }
         ensures tree { result.tree ≡ node.entry.tree }
         ensures selector { result.selector ≡ matcher.now }
@@ -92,8 +93,8 @@ impl<'a, 'b> Iterator for DescendantMatches<'a, 'b> {
     }
 }
 
-/// The elements below the root that the selector means, each before those below it; an unknown
-/// number has none.
+/// Returns the elements below the root that the selector matches, in document order; none if the
+/// tree has no such node. Fails only when memory runs out.
 pub fn select_below(
     tree: &Tree,
     root: &NodeId,
@@ -104,7 +105,8 @@ pub fn select_below(
     select_below_all(tree, &[*root], matcher)
 }
 
-/// The elements below the root that bear the name, which is all that the selector asks.
+/// Returns the elements below the root that have the name, for a selector that is this type
+/// selector alone.
 pub(crate) fn named_below(
     tree: &Tree,
     root: &NodeId,
@@ -124,7 +126,7 @@ pub(crate) fn named_below(
     Ok(named)
 }
 
-/// The elements among those nodes that the selector means.
+/// Returns those of the nodes that are elements and that the selector matches.
 #[inline(always)]
 pub(crate) fn collect_matches<I: Iterator<Item = NodeId> + Drop>(
     tree: &Tree,
@@ -146,8 +148,8 @@ pub(crate) fn collect_matches<I: Iterator<Item = NodeId> + Drop>(
     Ok(matched)
 }
 
-/// Whether the node is an element that the selector means; where types are given, it has one of
-/// these.
+/// Returns whether the node is an element that the selector matches. `types` are the types that the
+/// selector can match, if they are known.
 #[inline(always)]
 pub(crate) fn is_match_of_types(
     matcher: &Matcher,
@@ -168,7 +170,7 @@ pub(crate) fn is_match_of_types(
     means_node(matcher.selectors(), caches, id, &found.content)
 }
 
-/// Whether the node is an element that the selector means.
+/// Returns whether the node is an element that the selector matches.
 pub(crate) fn is_selected(tree: &Tree, id: NodeId, matcher: &Matcher) -> bool
     ensures { Decides result (IsMatch matcher.now tree.now id) }
 {

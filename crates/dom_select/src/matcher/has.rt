@@ -1,4 +1,4 @@
-//! Where a relative selector of `:has` starts, and which nodes it can lead to.
+//! The relative selectors of `:has`: where they start, and which nodes they can match.
 
 ghost use Rattle.std.specs.Prelude.{◌≡◌, ◌↔◌, ◌∷◌, Some, IsTrue};
 ghost use Rattle.std.specs.List.{list_all};
@@ -15,15 +15,15 @@ use dom_nodes::node_id::NodeId;
 use dom_selectors::syntax::{Combinator, Step};
 use dom_trees::tree::Tree;
 
-/// What a first node is asked besides its compound: nothing, or to stand to the right of a node as
-/// a combinator says.
+/// Where a selector starts: anywhere, or on the right of a combinator with this anchor on its left.
 #[derive(Clone, Copy)]
 pub(crate) enum Start {
     Absolute,
     Relative(Combinator, NodeId),
 }
 
-/// Whether the combinator holds between the anchor and the node, which may be its operands.
+/// Returns whether the combinator relates the anchor to the node, and both are allowed as its
+/// operands.
 pub(crate) fn is_joined(tree: &Tree, lead: Combinator, from: NodeId, id: NodeId) -> bool
     ensures { IsTrue result ↔ IsJoined tree.now from lead from id }
 {
@@ -33,7 +33,8 @@ pub(crate) fn is_joined(tree: &Tree, lead: Combinator, from: NodeId, id: NodeId)
     combinator_holds(tree, lead, from, id)
 }
 
-/// Whether the node may be what is reached: from a start, an element.
+/// Returns whether the node may be the result of a match: in a relative selector it has to be an
+/// element.
 pub(crate) fn may_be_subject(start: &Start, tree: &Tree, id: NodeId) -> bool
     ensures { result ≡ may_be_subject start.now tree.now id }
 {
@@ -43,7 +44,7 @@ pub(crate) fn may_be_subject(start: &Start, tree: &Tree, id: NodeId) -> bool
     }
 }
 
-/// The first node at or below which a selector with that lead can lead.
+/// Returns the first node at or below which a relative selector with this combinator can match.
 pub(crate) fn first_search_root(tree: &Tree, lead: Combinator, id: NodeId) -> Option<NodeId>
     ensures { search_roots_from tree.now lead result ≡ search_roots tree.now lead id }
 {
@@ -54,7 +55,7 @@ pub(crate) fn first_search_root(tree: &Tree, lead: Combinator, id: NodeId) -> Op
     Some(id)
 }
 
-/// The next one.
+/// Returns the next node at or below which it can match.
 pub(crate) fn next_search_root(tree: &Tree, lead: Combinator, at: NodeId) -> Option<NodeId>
     ensures { search_roots_from tree.now lead (Some at)
         ≡ at ∷ search_roots_from tree.now lead result }
@@ -66,7 +67,7 @@ pub(crate) fn next_search_root(tree: &Tree, lead: Combinator, at: NodeId) -> Opt
     None
 }
 
-/// Whether the selector leads no farther than to children or siblings: it has no steps.
+/// Returns whether the selector has no steps and can match only children or siblings.
 pub(crate) fn is_near(lead: Combinator, steps: &[Step]) -> bool
     ensures { IsTrue result → IsNear lead steps.now }
 {
@@ -76,7 +77,7 @@ pub(crate) fn is_near(lead: Combinator, steps: &[Step]) -> bool
     }
 }
 
-/// Whether the selector leads no farther than to children or siblings: its steps go to siblings.
+/// Returns whether all steps go to siblings and the selector can match only children or siblings.
 pub(crate) fn is_in_row(lead: Combinator, steps: &[Step]) -> bool
     ensures { IsTrue result → IsInRow lead steps.now }
 {
@@ -92,7 +93,7 @@ fn are_sideways(steps: &[Step]) -> bool
     steps.iter().all(|step| is_sideways(step.combinator))
 }
 
-/// The combinator that goes to all of those children or siblings.
+/// Returns the combinator that covers all these children or siblings.
 pub(crate) fn row_combinator(lead: Combinator) -> Combinator
     ensures { result ≡ row_combinator lead }
 {
@@ -102,7 +103,8 @@ pub(crate) fn row_combinator(lead: Combinator) -> Combinator
     }
 }
 
-/// The first of the children, or of the later siblings, that a lead goes to.
+/// Returns the first of the children, or of the later siblings, that the combinator can relate to
+/// the node.
 pub(crate) fn first_right(tree: &Tree, lead: Combinator, id: NodeId) -> Option<NodeId>
     requires { lead ≡ Descendant → ⊥ }
     ensures { AreRightOf tree.now lead id (right_row tree.now lead result) }
@@ -114,7 +116,7 @@ pub(crate) fn first_right(tree: &Tree, lead: Combinator, id: NodeId) -> Option<N
     first_child_id(tree.nodes(), &id)
 }
 
-/// The next one.
+/// Returns the next of them.
 pub(crate) fn next_right(tree: &Tree, lead: Combinator, at: NodeId) -> Option<NodeId>
     ensures { right_row tree.now lead (Some at) ≡ at ∷ right_row tree.now lead result }
 {
@@ -125,7 +127,7 @@ pub(crate) fn next_right(tree: &Tree, lead: Combinator, at: NodeId) -> Option<No
     next_sibling_id(tree.nodes(), &at)
 }
 
-/// Whether the lead goes no farther than to this node.
+/// Returns whether the combinator can relate no later node.
 fn ends_right(tree: &Tree, lead: Combinator, at: NodeId) -> bool
     ensures { result ≡ ends_right tree.now lead at }
 {

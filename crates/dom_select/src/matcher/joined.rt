@@ -1,5 +1,6 @@
-//! Whether the texts at a node and below it, joined, contain a text. They are gone over where they
-//! lie, and take no memory: what is sought may begin in one text and go on in those that follow it.
+//! The test of `:contains`: whether the concatenated texts at and below a node contain a text. The
+//! texts are compared in place, without allocating memory; an occurrence may start in one text and
+//! continue in others.
 
 ghost use Rattle.std.specs.Prelude.{◌≡◌, ◌++◌};
 ghost use Rattle.dom_links.specs.Texts.{text_at, text_in};
@@ -15,7 +16,7 @@ use dom_nodes::node_id::NodeId;
 use dom_selectors::comparisons::begins_with;
 use dom_trees::tree::Tree;
 
-/// What the node itself holds as a text.
+/// Returns the text of the node itself, or an empty one.
 fn text_at<'a>(tree: &'a Tree, id: &NodeId) -> &'a [u8]
     ensures { result.now ≡ text_at tree.now id.now }
 {
@@ -34,8 +35,7 @@ fn text_in(node: &NodeData) -> &[u8]
     }
 }
 
-/// What is left of the text that is sought behind these bytes, which are its beginning or begin
-/// with it.
+/// Returns what is left of `inner` after these bytes, if the two agree as far as both go.
 fn left_behind<'a>(text: &[u8], inner: &'a [u8]) -> Option<&'a [u8]>
     ensures { IsLeftBehind text.now inner.now result }
 {
@@ -46,7 +46,8 @@ fn left_behind<'a>(text: &[u8], inner: &'a [u8]) -> Option<&'a [u8]>
     Some(&inner[near..])
 }
 
-/// Whether the texts that the walk still gives, joined, begin with the other.
+/// Returns whether the texts of the nodes that `rest` still visits, concatenated, start with
+/// `inner`.
 fn goes_on(tree: &Tree, rest: DescendantNodes<'_>, inner: &[u8]) -> bool
     ensures { result ≡ begins_with with_case (texts_at tree.now rest.entry.left) inner.now }
 {
@@ -63,7 +64,8 @@ fn goes_on(tree: &Tree, rest: DescendantNodes<'_>, inner: &[u8]) -> bool
     left.is_empty()
 }
 
-/// Whether this text, and then those that the walk still gives, begin with the other.
+/// Returns whether this text and the texts of the nodes in `rest`, concatenated, start with
+/// `inner`.
 fn begins_here(tree: &Tree, text: &[u8], rest: &DescendantNodes<'_>, inner: &[u8]) -> bool
     ensures { result
         ≡ begins_with with_case (text.now ++ texts_at tree.now rest.now.left) inner.now }
@@ -77,8 +79,8 @@ fn begins_here(tree: &Tree, text: &[u8], rest: &DescendantNodes<'_>, inner: &[u8
     goes_on(tree, rest.again(), behind)
 }
 
-/// Whether the other begins somewhere in this text; it may go on in those that the walk still
-/// gives.
+/// Returns whether an occurrence of `inner` starts in this text; it may continue in the texts of
+/// the nodes in `rest`.
 fn begins_among(tree: &Tree, text: &[u8], rest: &DescendantNodes<'_>, inner: &[u8]) -> bool
     ensures { result ≡ begins_among text.now (texts_at tree.now rest.now.left) inner.now }
 {
@@ -92,7 +94,7 @@ fn begins_among(tree: &Tree, text: &[u8], rest: &DescendantNodes<'_>, inner: &[u
     false
 }
 
-/// Whether the texts at the node and below it, joined, contain the other.
+/// Returns whether the texts at and below the node, concatenated, contain `inner`.
 #[inline(never)]
 pub(crate) fn contains_joined(tree: &Tree, id: &NodeId, inner: &str) -> bool
     ensures { result ≡ joined_contains_at tree.now inner.now id.now }

@@ -1,4 +1,4 @@
-//! What a selector means below any number of nodes.
+//! Selection below any number of nodes.
 
 ghost use Rattle.std.specs.Prelude.{◌≡◌, length, IfOk};
 ghost use Rattle.std.specs.Iterator.{at_most};
@@ -14,7 +14,7 @@ use dom_nodes::node_id::NodeId;
 use dom_trees::node_ref::NodeRef;
 use dom_trees::tree::Tree;
 
-/// The elements below any number of nodes that a selector means, each once.
+/// An iterator over the elements below any number of nodes that a selector matches, each once.
 #[derive(Drop)]
 pub enum MatcherIter<'a, 'b, 'r> {
     /// Below one node.
@@ -26,8 +26,9 @@ pub enum MatcherIter<'a, 'b, 'r> {
 }
 
 impl<'a, 'b, 'r> MatcherIter<'a, 'b, 'r> {
-    /// What is to come is what the selector selects below the roots, which are numbers of the
-    /// tree's nodes; an unknown number has nothing below it. It takes memory for two and more.
+    /// Returns an iterator over what the selector selects below the roots. A root that the tree
+    /// doesn't have has no descendants. For two roots and more it allocates memory, and fails when
+    /// that runs out.
     pub fn new(
         tree: &'a Tree,
         roots: &'r [NodeId],
@@ -48,7 +49,8 @@ impl<'a, 'b, 'r> MatcherIter<'a, 'b, 'r> {
         }
     }
 
-    /// The same below these nodes, each taken for the node of its number in the tree.
+    /// Returns an iterator like `new`, for roots that are node references. Each is taken as the
+    /// node with its id in `tree`.
     pub fn below_nodes(
         tree: &'a Tree,
         nodes: &'r [NodeRef<'a>],

@@ -1,7 +1,8 @@
-//! Whether a selector means a node. Its compounds are followed from right to left, those first that
-//! bind more tightly: `+`, then `~`, then `>`, then whitespace. Where a combinator leaves a choice,
-//! the nearest node from which they can be followed is taken and never given up: what stands on the
-//! left of a farther one stands on the left of that one too.
+//! The matching algorithm. The compound selectors of a chain are matched from right to left, and
+//! those first that bind more tightly: `+`, then `~`, then `>`, then whitespace.
+//!
+//! If a combinator leaves a choice of nodes, the nearest one that fits is taken, and no other is
+//! tried: any node to the left of a farther one is also to the left of the nearest.
 
 ghost use Rattle.std.specs.Prelude.{◌≡◌, ◌↔◌, ◌∷◌, ◌<◌, [], IfSome, IsTrue, Some, map};
 ghost use Rattle.std.specs.Prelude.{slice_get};
@@ -16,7 +17,7 @@ ghost use Rattle.dom_select.specs.Has.{CompoundsMatch, CompoundsMatchFrom, Compo
 ghost use Rattle.dom_select.specs.Has.{IsElementThat, IsInRow, may_be_subject};
 ghost use Rattle.dom_select.specs.Leftward.{ends_at};
 ghost use Rattle.dom_select.specs.Meaning.{HasHolds, HasType, Holds, IsTypeAlone, ListHolds};
-ghost use Rattle.dom_select.specs.Meaning.{Means, MeansType};
+ghost use Rattle.dom_select.specs.Meaning.{MatchesNode, MeansType};
 
 use crate::matcher::caches::SelectorCaches;
 use crate::matcher::chains::{binding_level, ends_at, left_of, line_laws, may_be_operand};
@@ -31,10 +32,10 @@ use dom_selectors::selector_name::SelectorName;
 use dom_selectors::syntax::{Combinator, Compound, Nested, Part, Selector, Step};
 use dom_trees::tree::Tree;
 
-/// Looser than every combinator.
+/// A level above that of every combinator.
 const ALL: usize = 5;
 
-/// The name, where the compound is a type and nothing else.
+/// Returns the name, if the compound selector is a type selector and nothing else.
 pub(crate) fn sole_type_selector(compound: &Compound) -> Option<&SelectorName>
     ensures { IfSome result (λ name. IsTypeAlone name.now (read_compound compound.now)) }
 {
@@ -47,7 +48,7 @@ pub(crate) fn sole_type_selector(compound: &Compound) -> Option<&SelectorName>
     }
 }
 
-/// The name, where the list is one selector that is a type and nothing else.
+/// Returns the name, if the list is one type selector and nothing else.
 pub(crate) fn sole_type(selectors: &[Selector]) -> Option<&SelectorName>
     ensures { IfSome result (λ name. MeansType name.now (read_list selectors.now)) }
 {
@@ -60,7 +61,7 @@ pub(crate) fn sole_type(selectors: &[Selector]) -> Option<&SelectorName>
     sole_type_selector(&selector.first)
 }
 
-/// The name that the compound begins with, where that is a type.
+/// Returns the name of the type selector with which the compound selector starts, if it does.
 fn type_selector(compound: &Compound) -> Option<&SelectorName>
     ensures { IfSome result (λ name. ImpliesType name.now (read_compound compound.now)) }
 {
@@ -73,7 +74,7 @@ fn type_selector(compound: &Compound) -> Option<&SelectorName>
     }
 }
 
-/// The name that the last of the compounds begins with, where that is a type.
+/// Returns the name of the type selector with which the last compound selector starts, if it does.
 pub(crate) fn subject_type<'a>(first: &'a Compound, steps: &'a [Step]) -> Option<&'a SelectorName>
     ensures { IfSome result (λ name. IsSubjectType first.now steps.now name.now) }
 {
@@ -83,7 +84,7 @@ pub(crate) fn subject_type<'a>(first: &'a Compound, steps: &'a [Step]) -> Option
     }
 }
 
-/// Whether the number is an element's that bears the name as a type.
+/// Returns whether the node is an element of this type.
 #[inline(always)]
 pub(crate) fn has_type(tree: &Tree, id: &NodeId, name: &SelectorName) -> bool
     ensures { Decides result (HasType name.now tree.now id.now) }
@@ -94,8 +95,8 @@ pub(crate) fn has_type(tree: &Tree, id: &NodeId, name: &SelectorName) -> bool
     }
 }
 
-/// Whether the compounds match the node, where its type decides that: they are a type alone, or the
-/// last of several begins with a type that the node doesn't bear.
+/// Returns whether the chain matches the node, if its type decides that: the chain is a type
+/// selector alone, or the last compound selector starts with a type that the node doesn't have.
 #[inline(always)]
 fn decided_by_type(first: &Compound, steps: &[Step], node: &NodeData) -> Option<bool>
     ensures { IfSome result (AreDecided first.now steps.now node.now) }
@@ -111,7 +112,8 @@ fn decided_by_type(first: &Compound, steps: &[Step], node: &NodeData) -> Option<
     Some(false)
 }
 
-/// Whether the compound holds of the node. Of a type alone nothing else is looked at.
+/// Returns whether the compound selector matches the node. For a type selector alone, nothing else
+/// is tested.
 #[cycle(matching)]
 pub(crate) fn holds(compound: &Compound, caches: &mut SelectorCaches<'_>, id: NodeId) -> bool
     ensures is { IsTrue result ↔ Holds (read_compound compound.now) caches.old id }
@@ -126,7 +128,7 @@ pub(crate) fn holds(compound: &Compound, caches: &mut SelectorCaches<'_>, id: No
     holds_of(compound, caches, id, &found.content)
 }
 
-/// The same of a node that was looked up.
+/// Returns whether the compound selector matches the node, whose data is already looked up.
 #[cycle(matching)]
 fn holds_of(
     compound: &Compound,
@@ -149,7 +151,7 @@ fn holds_of(
     true
 }
 
-/// Whether a nested list holds of a node that was looked up.
+/// Returns whether a nested list matches the node, whose data is already looked up.
 #[cycle(matching)]
 fn list_holds(list: &Nested, caches: &mut SelectorCaches<'_>, id: NodeId, node: &NodeData) -> bool
     requires { slice_get caches.old.content id ≡ Some node.now }
@@ -163,9 +165,9 @@ fn list_holds(list: &Nested, caches: &mut SelectorCaches<'_>, id: NodeId, node: 
     }
 }
 
-/// Whether one of the selectors means the node.
+/// Returns whether one of the selectors matches the node.
 pub(crate) fn means(selectors: &[Selector], caches: &mut SelectorCaches<'_>, id: NodeId) -> bool
-    ensures is { IsTrue result ↔ Means (read_list selectors.now) caches.old id }
+    ensures is { IsTrue result ↔ MatchesNode (read_list selectors.now) caches.old id }
     ensures kept { caches.new ≡ caches.old }
 {
     match caches.tree().tree_node(&id) {
@@ -174,7 +176,7 @@ pub(crate) fn means(selectors: &[Selector], caches: &mut SelectorCaches<'_>, id:
     }
 }
 
-/// The same of a node that was looked up.
+/// Returns whether one of the selectors matches the node, whose data is already looked up.
 #[cycle(matching)]
 pub(crate) fn means_node(
     selectors: &[Selector],
@@ -183,7 +185,7 @@ pub(crate) fn means_node(
     node: &NodeData,
 ) -> bool
     requires { slice_get caches.old.content id ≡ Some node.now }
-    ensures is { IsTrue result ↔ Means (read_list selectors.now) caches.old id }
+    ensures is { IsTrue result ↔ MatchesNode (read_list selectors.now) caches.old id }
     ensures kept { caches.new ≡ caches.old }
 {
     for selector in selectors {
@@ -194,7 +196,8 @@ pub(crate) fn means_node(
     false
 }
 
-/// Whether the compounds match a node that was looked up. Of one compound nothing is followed.
+/// Returns whether the chain matches the node, whose data is already looked up. A single compound
+/// selector is tested directly.
 #[cycle(matching)]
 fn compounds_match(
     first: &Compound,
@@ -217,7 +220,7 @@ fn compounds_match(
     chain_matches(&start, first, steps, caches, id)
 }
 
-/// Whether one of the selectors leads from the node to an element.
+/// Returns whether one of the relative selectors matches an element, with this node as the anchor.
 #[cycle(matching)]
 fn has_holds(selectors: &[Selector], caches: &mut SelectorCaches<'_>, id: NodeId) -> bool
     ensures is { IsTrue result ↔ HasHolds (read_list selectors.now) caches.old id }
@@ -231,8 +234,8 @@ fn has_holds(selectors: &[Selector], caches: &mut SelectorCaches<'_>, id: NodeId
     false
 }
 
-/// Whether a selector leads from the node to an element: it is followed from each node that it
-/// could lead to.
+/// Returns whether a relative selector matches an element, with this node as the anchor. Each node
+/// that it could match is tried.
 #[cycle(matching)]
 fn relative_matches(
     lead: Combinator,
@@ -263,8 +266,8 @@ fn relative_matches(
     false
 }
 
-/// The same of one compound, where the lead goes to children or siblings: no others are looked at,
-/// and nothing is followed.
+/// Returns the answer of `relative_matches` for a single compound selector and a combinator that
+/// relates children or siblings. Only these are tested.
 #[cycle(matching)]
 fn holds_beside(
     lead: Combinator,
@@ -287,7 +290,7 @@ fn holds_beside(
     false
 }
 
-/// Whether the node is an element of which the compound holds.
+/// Returns whether the node is an element that the compound selector matches.
 #[cycle(matching)]
 fn holds_of_element(compound: &Compound, caches: &mut SelectorCaches<'_>, id: NodeId) -> bool
     ensures is { IsTrue result ↔ IsElementThat (read_compound compound.now) caches.old id }
@@ -299,7 +302,8 @@ fn holds_of_element(compound: &Compound, caches: &mut SelectorCaches<'_>, id: No
     holds(compound, caches, id)
 }
 
-/// The same where the selector leads to children or siblings: it is followed from these alone.
+/// Returns the answer of `relative_matches` for a selector that can match only children or
+/// siblings. Only these are tried.
 #[cycle(matching)]
 fn matches_in_row(
     lead: Combinator,
@@ -326,7 +330,7 @@ fn matches_in_row(
     false
 }
 
-/// Whether the compounds lead from the start to this node or to one below it.
+/// Returns whether the chain matches this node or a descendant, from the start.
 #[cycle(matching)]
 fn matches_within(
     start: &Start,
@@ -350,8 +354,8 @@ fn matches_within(
     false
 }
 
-/// What stays the same while the compounds of one selector are followed: where they start, the
-/// first of them, and the node that may stand beside `+` and `~` even where it is no element.
+/// What stays the same while one chain is matched: its start, its first compound selector, and the
+/// node that may be beside `+` and `~` even if it is no element.
 #[derive(Clone, Copy)]
 struct Chain<'c> {
     start: &'c Start,
@@ -359,8 +363,8 @@ struct Chain<'c> {
     exempt: NodeId,
 }
 
-/// Whether there are nodes for the first compound and for those of the steps, the last of them this
-/// one.
+/// Returns whether there are nodes for the first compound selector and for the steps, the last of
+/// them this node.
 #[cycle(matching)]
 fn chain_matches(
     start: &Start,
@@ -386,7 +390,7 @@ fn chain_matches(
     match_suffix(&chain, steps, ALL, caches, id).is_some()
 }
 
-/// Whether the node may be the first.
+/// Returns whether the node may be the one for the first compound selector.
 #[cycle(matching)]
 fn begins(chain: &Chain<'_>, caches: &mut SelectorCaches<'_>, id: NodeId) -> bool
     ensures is { IsTrue result ↔ BeginsChain chain.now caches.old id }
@@ -403,7 +407,8 @@ fn begins(chain: &Chain<'_>, caches: &mut SelectorCaches<'_>, id: NodeId) -> boo
     }
 }
 
-/// Whether the last compound holds of the node, which may stand as the combinator on its left asks.
+/// Returns whether the last compound selector matches the node, and the node is allowed on the
+/// right of the combinator before it.
 #[cycle(matching)]
 fn last_holds(
     chain: &Chain<'_>,
@@ -425,8 +430,8 @@ fn last_holds(
     }
 }
 
-/// Whether the compounds may be followed from the node to the left: it may stand beside the
-/// combinator, and it bears the name, if there is one.
+/// Returns whether matching may go on from the node: it is allowed beside the combinator, and has
+/// the type if one is known.
 #[inline(always)]
 fn is_candidate(
     name: Option<&SelectorName>,
@@ -446,14 +451,14 @@ fn is_candidate(
     }
 }
 
-/// Where a chain was followed to: the steps that are left, and the node that they must reach.
+/// How far a chain was matched: the steps that are left, and the node that they have to match.
 #[derive(Clone, Copy)]
 struct Remainder<'a> {
     left: &'a [Step],
     at: NodeId,
 }
 
-/// Follows the steps from the node to the left, over all that bind more tightly than `level`.
+/// Matches the steps from the node to the left, over all that bind more tightly than `level`.
 #[cycle(matching)]
 fn match_suffix<'a>(
     chain: &Chain<'_>,
@@ -487,8 +492,8 @@ fn match_suffix<'a>(
     Some(remainder)
 }
 
-/// Follows the steps from the nearest node that they can be followed from, of those that stand to
-/// this one as the combinator says.
+/// Matches the steps from the nearest node that fits, among those that the combinator relates to
+/// this node.
 #[cycle(matching)]
 fn match_from_candidates<'a>(
     chain: &Chain<'_>,
@@ -519,9 +524,13 @@ fn match_from_candidates<'a>(
     None
 }
 
-/// Whether the selector means the node.
-pub(crate) fn is_meant(selector: &Selector, caches: &mut SelectorCaches<'_>, id: NodeId) -> bool
-    ensures { IsTrue result ↔ Means (read_list (selector.now ∷ [])) caches.old id }
+/// Returns whether the selector matches the node.
+pub(crate) fn matches_selector(
+    selector: &Selector,
+    caches: &mut SelectorCaches<'_>,
+    id: NodeId,
+) -> bool
+    ensures { IsTrue result ↔ MatchesNode (read_list (selector.now ∷ [])) caches.old id }
 {
     let start = Start::Absolute;
     chain_matches(&start, &selector.first, &selector.rest, caches, id)

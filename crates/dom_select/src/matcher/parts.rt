@@ -1,4 +1,4 @@
-//! Whether a part of a compound holds of a node.
+//! Tests of simple selectors against one node.
 
 ghost use Rattle.std.specs.Prelude.{◌≡◌, ◌↔◌, Some, slice_get, codes, IsTrue, MatchBool};
 ghost use Rattle.std.specs.List.{list_any};
@@ -24,7 +24,7 @@ use dom_selectors::syntax::{Attribute, Comparison, Part};
 use dom_trees::node_ref::NodeRef;
 use dom_trees::tree::Tree;
 
-/// Whether the number is a node's of which each part holds.
+/// Returns whether the tree has the node and each simple selector matches it.
 pub(crate) fn parts_hold(parts: &[Part], caches: &mut SelectorCaches<'_>, id: &NodeId) -> bool
     ensures is { Decides result (PartsHold parts.now caches.old id.now) }
     ensures kept { caches.new ≡ caches.old }
@@ -35,7 +35,7 @@ pub(crate) fn parts_hold(parts: &[Part], caches: &mut SelectorCaches<'_>, id: &N
     }
 }
 
-/// Whether the node is an element that bears the name as a type.
+/// Returns whether the node is an element of this type.
 #[inline(always)]
 pub(crate) fn is_named_node(node: &NodeData, name: &SelectorName) -> bool
     ensures { result ≡ node_passes (Part.«Type» name.now) node.now }
@@ -55,7 +55,7 @@ pub(crate) fn element_at(tree: &Tree, id: &NodeId) -> bool
     node.content.as_element().is_some()
 }
 
-/// Whether each part holds of the node, which is the tree's of that number.
+/// Returns whether each simple selector matches the node with this id and data.
 pub(crate) fn each_holds(
     parts: &[Part],
     caches: &mut SelectorCaches<'_>,
@@ -74,7 +74,7 @@ pub(crate) fn each_holds(
     true
 }
 
-/// Whether the part holds of the node, which is the tree's of that number.
+/// Returns whether the simple selector matches the node with this id and data.
 fn part_holds(part: &Part, caches: &mut SelectorCaches<'_>, id: &NodeId, node: &NodeData) -> bool
     requires { slice_get caches.old.content id.now ≡ Some node.now }
     ensures is { IsTrue result ↔ PartHolds part.now caches.old id.now }
@@ -93,7 +93,8 @@ fn part_holds(part: &Part, caches: &mut SelectorCaches<'_>, id: &NodeId, node: &
     }
 }
 
-/// Whether the number is a node's of which the part holds by what the node is.
+/// Returns whether the tree has the node and the simple selector matches its data, apart from its
+/// place.
 pub(crate) fn data_passes(part: &Part, tree: &Tree, id: &NodeId) -> bool
     ensures { result ≡ data_passes part.now tree.now id.now }
 {
@@ -135,8 +136,8 @@ fn element_passes(part: &Part, element: &Element) -> bool
     }
 }
 
-/// Whether the element bears the name as a type. Known names in HTML, which most are, are compared
-/// by number.
+/// Returns whether the element has this type. Known names in HTML, which are the most frequent, are
+/// compared by number.
 #[inline(always)]
 fn bears(element: &Element, name: &SelectorName) -> bool
     ensures { result ≡ bytes_eq element.now.name.local
@@ -151,7 +152,8 @@ fn bears(element: &Element, name: &SelectorName) -> bool
     is_named(element.name().ns(), &element.name().local(), name)
 }
 
-/// Whether a local name is a selector's name: with A to Z folded in HTML, as written elsewhere.
+/// Returns whether a local name equals the name of a selector: in lower case in HTML, as in the
+/// source elsewhere.
 fn is_named(ns: NamespaceRef<'_>, local: &LocalRef<'_>, name: &SelectorName) -> bool
     ensures { result ≡ bytes_eq local.now (name_within (namespace_of ns.entry) name.now) }
 {
@@ -161,7 +163,7 @@ fn is_named(ns: NamespaceRef<'_>, local: &LocalRef<'_>, name: &SelectorName) -> 
     }
 }
 
-/// Whether a local name is a selector's name as written.
+/// Returns whether a local name equals the name of a selector as in the source.
 #[cold]
 #[inline(never)]
 fn is_written(local: &LocalRef<'_>, name: &SelectorName) -> bool
@@ -182,7 +184,7 @@ fn is_attr(attr: &Attr, name: &str, value: &str) -> bool
     attr.name.local().as_str() == name && attr.value.as_str() == value
 }
 
-/// Whether one of the element's attributes is as the part asks.
+/// Returns whether one of the element's attributes passes the attribute selector.
 fn attrs_pass(asked: &Attribute, element: &Element) -> bool
     ensures { result ≡ list_any (attr_passes element.now.name.ns asked.now) element.now.attrs }
 {

@@ -1,4 +1,4 @@
-//! Whether a node has an index among its siblings.
+//! Tests of a node's index among its siblings.
 
 ghost use Rattle.std.specs.Prelude.{◌≡◌, ◌==◌, IfSome};
 ghost use Rattle.dom_selectors.specs.Spelling.{Decides};
@@ -17,13 +17,13 @@ use dom_nodes::node_id::NodeId;
 use dom_selectors::syntax::Position;
 use dom_trees::tree::Tree;
 
-/// Up to this index siblings are counted anew at each node.
+/// Up to this index, siblings are counted for each node without the cache.
 const NEAR: u32 = 8;
 
-/// So many siblings are looked at for that.
+/// How many siblings are visited at most for that.
 const LOOKED_AT: u32 = 32;
 
-/// Whether the node has one of the indexes.
+/// Returns whether the index of the node is one of those in `position`.
 #[inline(never)]
 pub(crate) fn has_position(position: Position, caches: &mut SelectorCaches<'_>, id: &NodeId) -> bool
     ensures is { Decides result (IsNth position.nth (index_at position.kind caches.old id.now)) }
@@ -36,8 +36,8 @@ pub(crate) fn has_position(position: Position, caches: &mut SelectorCaches<'_>, 
     is_nth(position.nth, index)
 }
 
-/// The same, where one index is asked for, which is near the end, and a look at a few siblings
-/// decides it.
+/// Returns the answer of `has_position`, if only one small index is asked for and a few siblings
+/// decide it.
 fn has_near_position(position: Position, tree: &Tree, id: NodeId) -> Option<bool>
     ensures { IfSome result (λ answer. Decides answer
         (IsNth position.nth (index_at position.kind tree.now id))) }
@@ -46,7 +46,7 @@ fn has_near_position(position: Position, tree: &Tree, id: NodeId) -> Option<bool
     has_index(tree, id, position.kind, index)
 }
 
-/// The one index that is asked for, where it is near the end; 0 where none is.
+/// Returns the only index that An+B selects, if it is small, or 0 if it selects none.
 fn sole_index(nth: Nth) -> Option<u32>
     ensures { IfSome result (AsksFor nth) }
 {
@@ -62,7 +62,7 @@ fn sole_index(nth: Nth) -> Option<u32>
     Some(nth.b.magnitude)
 }
 
-/// Whether the node has this index, where a few siblings decide it.
+/// Returns whether the node has this index, if a few siblings decide it.
 fn has_index(tree: &Tree, id: NodeId, kind: IndexKind, index: u32) -> Option<bool>
     ensures { IfSome result (λ answer. answer ≡ (index_at kind tree.now id == index)) }
 {
@@ -94,7 +94,7 @@ fn is_from_first(kind: IndexKind) -> bool
     matches!(kind, IndexKind::Child | IndexKind::OfType)
 }
 
-/// Whether a sibling counts for the index of a node.
+/// Returns whether a sibling counts for the index of a node.
 #[inline(always)]
 fn counts(tree: &Tree, kind: IndexKind, id: NodeId, sibling: NodeId) -> bool
     ensures { result ≡ counts kind tree.now id sibling }
@@ -105,7 +105,7 @@ fn counts(tree: &Tree, kind: IndexKind, id: NodeId, sibling: NodeId) -> bool
     }
 }
 
-/// Whether both are elements of one type.
+/// Returns whether both nodes are elements of the same type.
 #[inline(always)]
 fn same_type(tree: &Tree, one: NodeId, other: NodeId) -> bool
     ensures { result ≡ same_type tree.now one other }
@@ -119,7 +119,7 @@ fn same_type(tree: &Tree, one: NodeId, other: NodeId) -> bool
     }
 }
 
-/// The sibling before the node, or the one after it.
+/// Returns the previous sibling of the node, or the next one.
 #[inline(always)]
 pub(crate) fn beside(tree: &Tree, before: bool, id: NodeId) -> Option<NodeId>
     ensures { result ≡ after (in_order before (siblings tree.now id)) id }

@@ -1,4 +1,4 @@
-//! The nodes below which is selected.
+//! The roots below which a selector selects.
 
 ghost use Rattle.std.specs.Iterator.{YieldsFirst};
 ghost use Rattle.dom_select.specs.Roots.{root_ids};
@@ -6,16 +6,16 @@ ghost use Rattle.dom_select.specs.Roots.{root_ids};
 use dom_nodes::node_id::NodeId;
 use dom_trees::node_ref::NodeRef;
 
-/// Some nodes of a tree, in their order: by their numbers, or themselves.
+/// Some nodes of a tree in order, as ids or as references.
 #[derive(Clone, Copy)]
 pub(crate) enum Roots<'a, 'r> {
-    /// The nodes of these numbers.
+    /// The nodes with these ids.
     Numbers(&'r [NodeId]),
-    /// These nodes.
+    /// These node references.
     Nodes(&'r [NodeRef<'a>]),
 }
 
-/// Takes the first node out, and returns its number.
+/// Removes the first node and returns its id.
 pub(crate) fn take_first<'a, 'r>(roots: &mut Roots<'a, 'r>) -> Option<NodeId>
     ensures { YieldsFirst root_ids roots.old result roots.new }
 {

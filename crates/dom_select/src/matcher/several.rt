@@ -1,4 +1,4 @@
-//! What a selector means below several nodes, each node once.
+//! Selection below several nodes, each node once.
 
 ghost use Rattle.std.specs.Prelude.{◌≡◌, length, IfOk};
 ghost use Rattle.std.specs.Iterator.{YieldsFirst, at_most, item_count};
@@ -21,7 +21,7 @@ use dom_trees::node_ref::NodeRef;
 use dom_trees::tree::Tree;
 use std::marker::Model;
 
-/// The walks below some nodes, one after the other.
+/// The traversals below several nodes, one after the other.
 #[derive(Drop)]
 struct Walks<'a, 'r> {
     tree: &'a Tree,
@@ -32,18 +32,18 @@ struct Walks<'a, 'r> {
 impl<'a, 'r> Model for Walks<'a, 'r> {
     ghost use Rattle.std.specs.Prelude.{ℕ, List, ◌++◌};
     ghost use Rattle.std.specs.List.{flat_map};
-    ghost use Rattle.dom_links.specs.Trees.{walk_below};
+    ghost use Rattle.dom_links.specs.Trees.{descendants_in_order};
     ghost use Rattle.dom_select.specs.Marks.{left_in};
     ghost use Rattle.dom_select.specs.Roots.{root_ids};
 
     ghost Value = { List ℕ };
 
     ghost view = { λ it. left_in it.walk
-        ++ flat_map (walk_below it.tree.now) (root_ids it.roots) };
+        ++ flat_map (descendants_in_order it.tree.now) (root_ids it.roots) };
 }
 
 impl<'a, 'r> Walks<'a, 'r> {
-    /// The next node, in the order of the walks.
+    /// Returns the next node, root by root in document order.
     fn next(&mut self) -> Option<NodeId>
         ensures { YieldsFirst (λ rest. rest) self.old result self.new }
     {
@@ -57,7 +57,7 @@ impl<'a, 'r> Walks<'a, 'r> {
     }
 }
 
-/// The next node of a walk, if there is one.
+/// Returns the next node of a traversal, if there is one.
 fn next_in(walk: &mut Option<DescendantNodes<'_>>) -> Option<NodeId>
     ensures { YieldsFirst left_in walk.old result walk.new }
 {
@@ -67,7 +67,7 @@ fn next_in(walk: &mut Option<DescendantNodes<'_>>) -> Option<NodeId>
     }
 }
 
-/// The nodes below some nodes, each once, where it is met first.
+/// An iterator over the nodes below several nodes, each at its first occurrence.
 #[derive(Drop)]
 pub struct FirstOccurrences<'a, 'r> {
     walks: Walks<'a, 'r>,
@@ -100,7 +100,7 @@ impl<'a, 'r> Iterator for FirstOccurrences<'a, 'r> {
     }
 }
 
-/// Marks the number; false where it has a mark.
+/// Marks the node; returns `false` if it was already marked.
 fn mark(marks: &mut Vec<bool>, id: NodeId) -> bool
     ensures { SetsMark marks.old.items marks.new.items id result }
 {
@@ -115,16 +115,16 @@ fn mark(marks: &mut Vec<bool>, id: NodeId) -> bool
     true
 }
 
-/// The elements below some nodes that a selector means, each once, in the order of the walks.
-/// Making it takes memory, and later only sibling indexes do, where many are asked for and memory
-/// isn't refused.
+/// An iterator over the elements below several nodes that a selector matches, each once, root by
+/// root in document order. Making it allocates memory; later only sibling indexes do, if many are
+/// needed, and if that memory isn't available, siblings are counted instead.
 #[derive(Drop)]
 pub struct Matches<'a, 'b, 'r> {
     ids: FirstOccurrences<'a, 'r>,
     tree: &'a Tree,
     caches: SelectorCaches<'a>,
     matcher: &'b Matcher,
-    /// The types of the subjects, if each has one.
+    /// The types of the elements that the selectors can match, if each selector names one.
     types: Option<[bool; 256]>,
 }
 
@@ -147,8 +147,8 @@ impl<'a, 'b, 'r> Model for Matches<'a, 'b, 'r> {
 }
 
 impl<'a, 'b, 'r> Matches<'a, 'b, 'r> {
-    /// What is to come is what the selector selects below the roots, which are numbers of the
-    /// tree's nodes; an unknown number has nothing below it.
+    /// Returns an iterator over what the selector selects below the roots. A root that the tree
+    /// doesn't have has no descendants. Fails only when memory runs out.
     pub fn new(
         tree: &'a Tree,
         roots: &'r [NodeId],
@@ -162,7 +162,8 @@ impl<'a, 'b, 'r> Matches<'a, 'b, 'r> {
         Matches::below(tree, Roots::Numbers(roots), matcher)
     }
 
-    /// The same below these nodes, each taken for the node of its number in the tree.
+    /// Returns an iterator like `new`, for roots that are node references. Each is taken as the
+    /// node with its id in `tree`.
     pub fn below_nodes(
         tree: &'a Tree,
         nodes: &'r [NodeRef<'a>],
@@ -198,7 +199,8 @@ impl<'a, 'b, 'r> Matches<'a, 'b, 'r> {
     }
 }
 
-/// States how preorder walks of the tree go. It does nothing.
+/// States in which order a traversal visits the tree. It does nothing and is called for its
+/// contract.
 fn tree_laws(tree: &Tree)
     ensures { AreTrees tree.now }
 {
@@ -223,7 +225,8 @@ impl<'a, 'b, 'r> Iterator for Matches<'a, 'b, 'r> {
     }
 }
 
-/// The elements below the roots that the selector means, each once, in the order of the walks.
+/// Returns the elements below the roots that the selector matches, each once, root by root in
+/// document order. Fails only when memory runs out.
 pub fn select_below_all(
     tree: &Tree,
     roots: &[NodeId],
@@ -241,7 +244,8 @@ pub fn select_below_all(
     collect_matches(tree, ids, matcher)
 }
 
-/// The nodes below the roots, each once, in the order of the walks; an unknown number has none.
+/// Returns an iterator over the nodes below the roots, each once, root by root in document order. A
+/// root that the tree doesn't have has no descendants. Fails only when memory runs out.
 pub fn nodes_below<'a, 'r>(
     tree: &'a Tree,
     roots: &'r [NodeId],
@@ -251,7 +255,7 @@ pub fn nodes_below<'a, 'r>(
     first_occurrences(tree, Roots::Numbers(roots))
 }
 
-/// The same below nodes or numbers.
+/// Returns the iterator of `nodes_below` for ids or node references.
 fn first_occurrences<'a, 'r>(
     tree: &'a Tree,
     roots: Roots<'a, 'r>,

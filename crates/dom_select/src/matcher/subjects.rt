@@ -1,4 +1,4 @@
-//! The types of the nodes that selectors can match, by the numbers of names.
+//! The types of the elements that selectors can match, by the numbers of their names.
 
 ghost use Rattle.std.specs.Prelude.{◌≡◌, false, true, IfSome, MatchBool};
 ghost use Rattle.dom_nodes.specs.Kinds.{is_element};
@@ -9,9 +9,9 @@ use crate::matcher::matches::subject_type;
 use dom_nodes::node_data::NodeData;
 use dom_selectors::syntax::Selector;
 
-/// The types of the subjects, a flag for each number of a name: an HTML element that a selector
-/// matches has one of these types. None where a subject has no type, or one whose name has no
-/// number.
+/// Returns a flag for each name number: an HTML element that the selectors match has a name with a
+/// flag. Returns `None` if some selector doesn't end in a type selector, or in one whose name has
+/// no number.
 pub(crate) fn subject_types(selectors: &[Selector]) -> Option<[bool; 256]>
     ensures { IfSome result (λ types. SubjectIsAmong types (read_list selectors.now)) }
 {
@@ -24,8 +24,8 @@ pub(crate) fn subject_types(selectors: &[Selector]) -> Option<[bool; 256]>
     Some(types)
 }
 
-/// Whether the node is an element that may have one of the types, if any are given: its name has
-/// one of the numbers, or none, or it is no HTML element.
+/// Returns whether the node is an element that can have one of the types, if any are known: its
+/// name has a flag, or no number, or it is not in the HTML namespace.
 #[inline(always)]
 pub(crate) fn may_be_subject(types: &Option<[bool; 256]>, node: &NodeData) -> bool
     ensures { MatchBool result (is_element node.now ≡ true) (MayBeSubject types.now node.now → ⊥) }

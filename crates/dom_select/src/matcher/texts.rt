@@ -1,4 +1,4 @@
-//! What a node's children are, and the texts at and below it.
+//! Tests of a node's children, and of the texts at and below it.
 
 ghost use Rattle.std.specs.Prelude.{◌≡◌, ◌||◌, not};
 ghost use Rattle.dom_links.specs.ListMoves.{element_at};
@@ -28,7 +28,8 @@ fn is_ignorable(tree: &Tree, id: &NodeId) -> bool
     !is_filled(tree, id)
 }
 
-/// Whether the node is an element without elements and without a text that isn't blank.
+/// Returns whether the node is an element without child elements and without a child text that
+/// isn't blank.
 #[inline(never)]
 pub(crate) fn is_empty(tree: &Tree, id: &NodeId) -> bool
     ensures { result ≡ empty_at tree.now id.now }
@@ -44,7 +45,7 @@ pub(crate) fn is_empty(tree: &Tree, id: &NodeId) -> bool
     true
 }
 
-/// Whether the node has exactly one child, a text that isn't blank.
+/// Returns whether the node has exactly one child, a text that isn't blank.
 #[inline(never)]
 pub(crate) fn is_only_text(tree: &Tree, id: &NodeId) -> bool
     ensures { result ≡ only_text_at tree.now id.now }
@@ -81,7 +82,7 @@ fn text_contains(node: &NodeData, inner: &str) -> bool
     }
 }
 
-/// Whether a text at the node or below it contains the other.
+/// Returns whether one of the texts at or below the node contains `inner`.
 #[inline(never)]
 pub(crate) fn has_text(tree: &Tree, id: &NodeId, inner: &str) -> bool
     ensures { result ≡ has_text_at tree.now inner.now id.now }

@@ -1,4 +1,4 @@
-//! How many elements of each type were passed.
+//! Counts of the elements of each type.
 
 ghost use Rattle.std.specs.Prelude.{◌≡◌};
 ghost use Rattle.dom_nodes.specs.Names.{namespace_of};
@@ -10,8 +10,8 @@ use std::collections::BTreeMap;
 /// How many elements of each type were counted.
 pub(crate) type TypeCounts<'t> = BTreeMap<TypeName<'t>, u32>;
 
-/// The name of a type, lent, as a key: two are equal where `QualName::is_same` says so. The local
-/// names are compared first: they differ most often.
+/// A borrowed type name as a key. Two keys are equal exactly if `QualName::is_same` says so. The
+/// local names are compared first, since they differ most often.
 #[derive(Clone, Copy, PartialEq, Eq, PartialOrd, Ord)]
 pub(crate) struct TypeName<'t> {
     local: &'t str,
@@ -19,7 +19,7 @@ pub(crate) struct TypeName<'t> {
     prefix: Option<&'t str>,
 }
 
-/// A `NamespaceRef` that has an order.
+/// A `NamespaceRef` with an order.
 #[derive(Clone, Copy, PartialEq, Eq, PartialOrd, Ord)]
 enum TypeNamespace<'t> {
     None,
@@ -33,7 +33,7 @@ enum TypeNamespace<'t> {
 }
 
 impl<'t> TypeName<'t> {
-    /// The name as a key.
+    /// Returns the name as a key.
     pub(crate) fn of(name: &NameRef<'t>) -> TypeName<'t>
         ensures { name_of result ≡ name.now }
     {
@@ -60,8 +60,8 @@ fn namespace_in(namespace: NamespaceRef<'_>) -> TypeNamespace<'_>
     }
 }
 
-/// Counts one more element of the type: how many there are then. None if memory is refused, or
-/// where a `u32` can't hold the number.
+/// Counts one more element of the type, and returns how many there are. Returns `None` if memory
+/// runs out, or if a `u32` can't hold the number.
 pub(crate) fn count_one<'t>(counts: &mut TypeCounts<'t>, name: TypeName<'t>) -> Option<u32>
     ensures { CountsOne counts.old counts.new name.entry result }
 {

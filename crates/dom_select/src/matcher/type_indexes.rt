@@ -1,4 +1,4 @@
-//! The indexes by type of all siblings in one pass.
+//! The indexes by type of all siblings, computed in one pass.
 
 ghost use Rattle.std.specs.Prelude.{◌≡◌, ◌∷◌, [], IfSome, not, slice_set};
 ghost use Rattle.dom_links.specs.Forest.{siblings};
@@ -17,11 +17,11 @@ use dom_nodes::node_data::NodeData;
 use dom_nodes::node_id::NodeId;
 use dom_trees::tree::Tree;
 
-/// How many siblings are near.
+/// How many siblings may be counted before all are indexed in one pass.
 const NEAR: u32 = 256;
 
-/// Notes the indexes by type of an element and of all its siblings, where counting for it alone
-/// passes many of them. Some stay unknown if memory is refused.
+/// Caches the indexes by type of an element and of all its siblings, if counting for the element
+/// alone would pass many of them. If memory runs out, some indexes stay unknown.
 pub(crate) fn note_types(tree: &Tree, id: &NodeId, kind: IndexKind, known: &mut [u32])
     requires { AreIndexes kind tree.now known.old }
     ensures { AreIndexes kind tree.now known.new }
@@ -33,7 +33,7 @@ pub(crate) fn note_types(tree: &Tree, id: &NodeId, kind: IndexKind, known: &mut 
     }
 }
 
-/// The same of the indexes that are counted from the first sibling, or from the last.
+/// Caches the indexes by type that are counted from the first sibling, or from the last.
 fn note_many(tree: &Tree, id: NodeId, from_first: bool, known: &mut [u32])
     requires { AreIndexes (type_kind from_first) tree.now known.old }
     ensures { AreIndexes (type_kind from_first) tree.now known.new }
@@ -44,8 +44,8 @@ fn note_many(tree: &Tree, id: NodeId, from_first: bool, known: &mut [u32])
     note_line(tree, far_end(tree, id, from_first), from_first, known);
 }
 
-/// Whether counting for an element passes many siblings: neither their end nor one of its type
-/// whose index is known is near. No clause: nothing but time depends on it.
+/// Returns whether counting for an element passes many siblings: neither their end nor a sibling of
+/// its type with a cached index is near. It has no contract, since only the time depends on it.
 fn is_far(tree: &Tree, id: NodeId, from_first: bool, known: &[u32]) -> bool {
     let Some(node) = tree.tree_node(&id) else {
         return false;
@@ -66,7 +66,8 @@ fn is_far(tree: &Tree, id: NodeId, from_first: bool, known: &[u32]) -> bool {
     true
 }
 
-/// Whether the index of the node is known, and it is of that type. No clause, as for `is_far`.
+/// Returns whether the index of the node is cached and the node has that type. It has no contract,
+/// since only the time depends on it.
 fn has_known_type(tree: &Tree, id: NodeId, of: &NodeData, known: &[u32]) -> bool {
     if kept(known, &id).is_none() {
         return false;
@@ -77,7 +78,7 @@ fn has_known_type(tree: &Tree, id: NodeId, of: &NodeData, known: &[u32]) -> bool
     }
 }
 
-/// The last node on one side of a node, which may be itself.
+/// Returns the last node on one side of a node, which may be the node itself.
 fn far_end(tree: &Tree, id: NodeId, before: bool) -> NodeId
     ensures { later tree.now before result ≡ [] }
 {
@@ -89,7 +90,7 @@ fn far_end(tree: &Tree, id: NodeId, before: bool) -> NodeId
     end
 }
 
-/// Notes the indexes by type of siblings, from the end where they are 1 on.
+/// Caches the indexes by type of siblings, starting at the end from which they are counted.
 fn note_line(tree: &Tree, end: NodeId, from_first: bool, known: &mut [u32])
     requires end { later tree.now from_first end ≡ [] }
     requires known { AreIndexes (type_kind from_first) tree.now known.old }
@@ -112,7 +113,7 @@ fn note_line(tree: &Tree, end: NodeId, from_first: bool, known: &mut [u32])
     }
 }
 
-/// Notes the index of a node, if there is room for it.
+/// Caches the index of a node, if there is room for it.
 fn note(known: &mut [u32], at: NodeId, index: u32)
     ensures { known.new ≡ slice_set known.old at index }
 {
@@ -122,7 +123,7 @@ fn note(known: &mut [u32], at: NodeId, index: u32)
     }
 }
 
-/// The neighbour on the side that isn't counted.
+/// Returns the neighbour on the side away from which indexes are counted.
 fn onward(tree: &Tree, from_first: bool, at: NodeId) -> Option<NodeId>
     ensures link { result ≡ after (in_order (not from_first) (siblings tree.now at)) at }
     ensures passed { IfSome result (λ next.

@@ -1,4 +1,4 @@
-//! Whether a selection's nodes match a selector, and those that do.
+//! Whether nodes of a selection match a selector, and filtering by that.
 
 ghost use Rattle.std.specs.Prelude.{◌≡◌, ◌≢◌, [], None, Ok, Some, chars};
 ghost use Rattle.std.specs.Prelude.{IfErr, IfOk};
@@ -6,7 +6,7 @@ ghost use Rattle.dom_selectors.specs.Grammar.{IsSelectorOf, Refused};
 ghost use Rattle.dom_selectors.specs.declared.fault.SelectorFault.TheVariants.{Memory};
 ghost use Rattle.dom_selectors.specs.Spelling.{Decides};
 ghost use Rattle.dom_select.specs.ByText.{ByText, DecidesByText};
-ghost use Rattle.dom_selection.specs.Selecting.{Keeps, MeansSome, TriesText};
+ghost use Rattle.dom_selection.specs.Selecting.{Keeps, MatchesSomeNode, TriesText};
 
 use crate::selection::{Selection, push_if};
 use dom_nodes::fault::OutOfMemory;
@@ -15,7 +15,8 @@ use dom_selectors::fault::SelectorFault;
 use dom_trees::node_ref::NodeRef;
 use std::alloc::Global;
 
-/// The matcher of the text; None where the text is outside the grammar.
+/// Returns the matcher of a text, or `None` when the text is no selector list. It fails with
+/// `OutOfMemory` when memory is refused.
 pub(crate) fn matcher_of(alloc: Global, text: &str) -> Result<Option<Matcher>, OutOfMemory>
     ensures { IfOk result (IsSelectorOf (chars text.now)) }
 {
@@ -25,7 +26,7 @@ pub(crate) fn matcher_of(alloc: Global, text: &str) -> Result<Option<Matcher>, O
     }
 }
 
-/// None for a text outside the grammar, unless memory was refused.
+/// Returns `None` for a fault of the text, and `OutOfMemory` for a refusal of memory.
 fn no_matcher(fault: SelectorFault) -> Result<Option<Matcher>, OutOfMemory>
     ensures { IfOk result (λ found. (found ≡ None) × (fault ≡ Memory → ⊥)) }
 {
@@ -36,10 +37,10 @@ fn no_matcher(fault: SelectorFault) -> Result<Option<Matcher>, OutOfMemory>
 }
 
 impl<'a> Selection<'a> {
-    /// Whether some node, of whichever kind, matches one of the matcher's selectors. It takes no
-    /// memory.
+    /// Returns whether at least one node, of any kind, matches one of the matcher's selectors. It
+    /// allocates no memory.
     pub fn is_matcher(&self, matcher: &Matcher) -> bool
-        ensures { Decides result (MeansSome matcher.now self.now) }
+        ensures { Decides result (MatchesSomeNode matcher.now self.now) }
     {
         for node in self.nodes() {
             if matcher.match_element(node) {
@@ -49,10 +50,11 @@ impl<'a> Selection<'a> {
         false
     }
 
-    /// Whether some node, of whichever kind, matches one of the selectors in the text; false where
-    /// the text is outside the grammar.
+    /// Returns whether at least one node, of any kind, matches one of the selectors in the text;
+    /// false when the text is no selector list. It parses the text on every call; use `is_matcher`
+    /// in a loop. It fails with `OutOfMemory` when memory is refused.
     pub fn is(&self, selectors: &str) -> Result<bool, OutOfMemory>
-        ensures { IfOk result (DecidesByText selectors.now (λ s. MeansSome s self.now)) }
+        ensures { IfOk result (DecidesByText selectors.now (λ s. MatchesSomeNode s self.now)) }
     {
         match matcher_of(self.allocator(), selectors)? {
             Some(matcher) => Ok(self.is_matcher(&matcher)),
@@ -60,7 +62,8 @@ impl<'a> Selection<'a> {
         }
     }
 
-    /// The nodes, of whichever kind, that match one of the matcher's selectors.
+    /// Returns the nodes, of any kind, that match one of the matcher's selectors, in their order.
+    /// It fails with `OutOfMemory` when memory is refused.
     pub fn filter_matcher(&self, matcher: &Matcher) -> Result<Selection<'a>, OutOfMemory>
         ensures { IfOk result (Keeps matcher.now self.now) }
     {
@@ -75,8 +78,9 @@ impl<'a> Selection<'a> {
         Ok(Selection::of_one_tree(kept))
     }
 
-    /// The nodes, of whichever kind, that match one of the selectors in the text. Refused as
-    /// `Matcher::new` refuses the text; that of an empty selection isn't read.
+    /// Returns the nodes, of any kind, that match one of the selectors in the text, in their order.
+    /// It fails with the fault of `Matcher::new` when the text is no selector list, or when memory
+    /// is refused. For an empty selection the text isn't parsed, and the result is empty.
     pub fn filter(&self, selectors: &str) -> Result<Selection<'a>, SelectorFault>
         ensures none { self.now ≡ [] → result ≡ Ok [] }
         ensures ok { IfOk result (λ k. self.now ≢ [] → ByText selectors.now
@@ -90,7 +94,8 @@ impl<'a> Selection<'a> {
         Ok(self.filter_matcher(&matcher)?)
     }
 
-    /// The same as `filter`, but None where the text is outside the grammar.
+    /// Returns what `filter` returns, but `None` when the text is no selector list. It fails with
+    /// `OutOfMemory` when memory is refused.
     pub fn try_filter(&self, selectors: &str) -> Result<Option<Selection<'a>>, OutOfMemory>
         ensures none { self.now ≡ [] → result ≡ Ok (Some []) }
         ensures ok { IfOk result (λ k. self.now ≢ [] → TriesText selectors.now

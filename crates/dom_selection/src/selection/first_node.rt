@@ -1,5 +1,5 @@
-//! The attributes and HTML of a selection's first node; nothing, false or the default where there
-//! is none.
+//! The attributes and the HTML of a selection's first node. For an empty selection the answer is
+//! nothing, false or the default.
 
 ghost use Rattle.std.specs.Prelude.{◌≡◌, [], None, codes, false, is_some, string_bytes, unwrap_or};
 ghost use Rattle.std.specs.Prelude.{IfOk};
@@ -14,7 +14,7 @@ use dom_nodes::fault::OutOfMemory;
 use dom_nodes::name::Attr;
 
 impl<'a> Selection<'a> {
-    /// The attributes.
+    /// Returns the attributes of the first node.
     pub fn attrs(&self) -> &'a [Attr]
         ensures { result.now ≡ at_first node_attrs [] self.now }
     {
@@ -24,42 +24,45 @@ impl<'a> Selection<'a> {
         }
     }
 
-    /// The value of the first attribute of that local name.
+    /// Returns the value of the first node's first attribute with this local name, or `None` when
+    /// there is none.
     pub fn attr(&self, name: &str) -> Option<&'a str>
         ensures { option_copied result ≡ attr_of_first name.now self.now }
     {
         self.nodes().first()?.attr(name)
     }
 
-    /// The value of the first attribute of that local name, or the default.
+    /// Returns the value of the first node's first attribute with this local name, or `default`
+    /// when there is none.
     pub fn attr_or(&self, name: &str, default: &'a str) -> &'a str
         ensures { result.now ≡ unwrap_or (attr_of_first name.now self.now) default.now }
     {
         self.attr(name).unwrap_or(default)
     }
 
-    /// Whether there is an attribute of that local name.
+    /// Returns whether the first node has an attribute with this local name.
     pub fn has_attr(&self, name: &str) -> bool
         ensures { result ≡ is_some (attr_of_first name.now self.now) }
     {
         self.attr(name).is_some()
     }
 
-    /// The value of the first attribute `id`.
+    /// Returns the value of the first node's first attribute `id`, or `None` when there is none.
     pub fn id(&self) -> Option<&'a str>
         ensures { option_copied result ≡ attr_of_first (codes "id") self.now }
     {
         self.attr("id")
     }
 
-    /// The value of the first attribute `class`.
+    /// Returns the value of the first node's first attribute `class`, or `None` when there is none.
     pub fn class(&self) -> Option<&'a str>
         ensures { option_copied result ≡ attr_of_first (codes "class") self.now }
     {
         self.attr("class")
     }
 
-    /// The HTML of the first node; empty where there is none.
+    /// Returns the HTML of the first node, itself included; empty for an empty selection. It fails
+    /// with `OutOfMemory` when memory is refused.
     pub fn html(&self) -> Result<String, OutOfMemory>
         ensures { IfOk result (λ html. string_bytes html ≡ at_first html_of [] self.now) }
     {
@@ -69,7 +72,8 @@ impl<'a> Selection<'a> {
         }
     }
 
-    /// The HTML of the first node's children; empty where there is none.
+    /// Returns the HTML of the first node's children; empty for an empty selection. It fails with
+    /// `OutOfMemory` when memory is refused.
     pub fn inner_html(&self) -> Result<String, OutOfMemory>
         ensures { IfOk result (λ html. string_bytes html ≡ at_first inner_html_of [] self.now) }
     {
@@ -79,7 +83,8 @@ impl<'a> Selection<'a> {
         }
     }
 
-    /// The HTML of the first node; None where there is none.
+    /// Returns the HTML of the first node, itself included, or `None` for an empty selection. It
+    /// fails with `OutOfMemory` when memory is refused.
     pub fn try_html(&self) -> Result<Option<String>, OutOfMemory>
         ensures { IfOk result (IsTextOfFirst html_of self.now) }
     {
@@ -89,7 +94,8 @@ impl<'a> Selection<'a> {
         }
     }
 
-    /// The HTML of the first node's children; None where there is no node.
+    /// Returns the HTML of the first node's children, or `None` for an empty selection. It fails
+    /// with `OutOfMemory` when memory is refused.
     pub fn try_inner_html(&self) -> Result<Option<String>, OutOfMemory>
         ensures { IfOk result (IsTextOfFirst inner_html_of self.now) }
     {

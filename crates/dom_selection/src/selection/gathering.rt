@@ -1,4 +1,5 @@
-//! The related nodes of a selection's nodes, each once.
+//! The parents, children, ancestors and siblings of a selection's nodes, each once, in the order in
+//! which they are found.
 
 ghost use Rattle.std.specs.Prelude.{◌≡◌, ◌∷◌, [], None, not, filter, OnOk};
 ghost use Rattle.std.specs.Option.{option_to_list};
@@ -19,7 +20,7 @@ use dom_nodes::node_id::NodeId;
 use dom_trees::node_ref::NodeRef;
 use dom_trees::tree::Tree;
 
-/// A relation from a node to others.
+/// Which nodes related to a node are meant. `Above` is `Ancestors` without a limit.
 #[derive(Clone, Copy, Drop)]
 enum Relation {
     Parent,
@@ -30,7 +31,7 @@ enum Relation {
     Prev,
 }
 
-/// Nodes of a tree in the order of their first occurrences.
+/// Nodes of a tree, each once, in the order in which they were found.
 #[derive(Drop)]
 pub(crate) struct Gathered<'a> {
     tree: &'a Tree,
@@ -39,7 +40,7 @@ pub(crate) struct Gathered<'a> {
 }
 
 impl<'a> Gathered<'a> {
-    /// No nodes yet.
+    /// Returns the empty list. It allocates no memory.
     fn new(tree: &'a Tree) -> Gathered<'a>
         ensures tree { result.tree ≡ tree.entry }
         ensures met { HasGathered result [] }
@@ -52,7 +53,7 @@ impl<'a> Gathered<'a> {
         }
     }
 
-    /// Adds a node.
+    /// Adds a node if it wasn't found before.
     fn gather_node(&mut self, id: NodeId) -> Result<(), OutOfMemory>
         ensures { OnOk result (Gathers self.old self.new (id ∷ [])) }
     {
@@ -62,7 +63,7 @@ impl<'a> Gathered<'a> {
         Ok(())
     }
 
-    /// Adds a node, if it is an element.
+    /// Adds a node if it is an element and wasn't found before.
     fn gather_element(&mut self, id: NodeId) -> Result<(), OutOfMemory>
         ensures { OnOk result
             (Gathers self.old self.new (filter (element_at self.old.tree.now) (id ∷ []))) }
@@ -94,7 +95,7 @@ impl<'a> Gathered<'a> {
         Ok(())
     }
 
-    /// Adds the ancestors of a node that are elements.
+    /// Adds the ancestors of a node that are elements, looking at no more than `most` ancestors.
     fn gather_ancestors(&mut self, id: NodeId, most: Option<usize>) -> Result<(), OutOfMemory>
         ensures { OnOk result
             (Gathers self.old self.new (elements_above most self.old.tree.now id)) }
@@ -106,14 +107,16 @@ impl<'a> Gathered<'a> {
         Ok(())
     }
 
-    /// Adds all ancestors of a node that are elements. With a node all its ancestors were added,
-    /// so the first one that is there already is the last one visited.
+    /// Adds all ancestors of a node that are elements. It stops at the first one that was found
+    /// before, since all ancestors of that one were added with it.
     fn gather_all_ancestors(&mut self, id: NodeId) -> Result<(), OutOfMemory>
         requires { IsClosed self.old.tree.now self.old.seen }
         ensures { OnOk result
             (Gathers self.old self.new (elements_above None self.old.tree.now id)) }
     {
         let tree = self.tree;
+        // Called for its contract, which says that the nodes are a sound arena; it only borrows
+        // them.
         let _nodes = tree.nodes();
         for above in tree.ancestor_ids_of_it(&id, None) {
             if self.seen.has(above) {
@@ -142,13 +145,15 @@ impl<'a> Gathered<'a> {
 }
 
 impl<'a> Selection<'a> {
-    /// The nodes that are related to each node, one node after the other, each once.
+    /// Returns the nodes that are related to the nodes of the selection, each once.
     fn gather(&self, step: Relation) -> Result<Selection<'a>, OutOfMemory>
         ensures { Lists result (gathered (related_by step) self.now) }
     {
         let Some(tree) = self.tree() else {
             return Ok(Selection::new(self.allocator()));
         };
+        // Called for its contract, which says that the nodes are a sound arena; it only borrows
+        // them.
         let _nodes = tree.nodes();
         let mut gathered = Gathered::new(tree);
         for node in self.nodes() {
@@ -157,22 +162,25 @@ impl<'a> Selection<'a> {
         Ok(Selection::of_one_tree(gathered.nodes))
     }
 
-    /// The parents, of whichever kind, each once.
+    /// Returns the parents of the nodes, of any kind, each once. It fails with `OutOfMemory` when
+    /// memory is refused.
     pub fn parent(&self) -> Result<Selection<'a>, OutOfMemory>
         ensures { Lists result (gathered parent_node self.now) }
     {
         self.gather(Relation::Parent)
     }
 
-    /// The children that are elements, each once.
+    /// Returns the children of the nodes that are elements, each once. It fails with `OutOfMemory`
+    /// when memory is refused.
     pub fn children(&self) -> Result<Selection<'a>, OutOfMemory>
         ensures { Lists result (gathered child_elements self.now) }
     {
         self.gather(Relation::Children)
     }
 
-    /// The elements above the nodes, each once: of each node from its parent on, at most
-    /// `max_depth` nodes up, where that is neither none nor 0.
+    /// Returns the ancestors of the nodes that are elements, each once. For each node only its
+    /// `max_depth` nearest ancestors are looked at; `None` or 0 means no limit. It fails with
+    /// `OutOfMemory` when memory is refused.
     pub fn ancestors(&self, max_depth: Option<usize>) -> Result<Selection<'a>, OutOfMemory>
         ensures { Lists result (gathered (elements_above max_depth) self.now) }
     {
@@ -182,14 +190,16 @@ impl<'a> Selection<'a> {
         }
     }
 
-    /// The nearest elements after the nodes in their lists, each once.
+    /// Returns, for each node, the nearest element among the siblings after it, each once. It fails
+    /// with `OutOfMemory` when memory is refused.
     pub fn next_sibling(&self) -> Result<Selection<'a>, OutOfMemory>
         ensures { Lists result (gathered element_after self.now) }
     {
         self.gather(Relation::Next)
     }
 
-    /// The nearest elements before the nodes in their lists, each once.
+    /// Returns, for each node, the nearest element among the siblings before it, each once. It
+    /// fails with `OutOfMemory` when memory is refused.
     pub fn prev_sibling(&self) -> Result<Selection<'a>, OutOfMemory>
         ensures { Lists result (gathered element_before self.now) }
     {

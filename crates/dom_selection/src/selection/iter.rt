@@ -1,4 +1,4 @@
-//! The nodes of a selection one by one.
+//! Iteration over the nodes of a selection.
 
 ghost use Rattle.std.specs.Prelude.{◌≡◌};
 ghost use Rattle.std.specs.Iterator.{YieldsFirst, YieldsLast, item_count};
@@ -9,7 +9,8 @@ use crate::selection::Selection;
 use dom_trees::node_ref::NodeRef;
 use std::slice;
 
-/// The nodes of a selection, each as a selection of its own, from both ends. It takes no memory.
+/// An iterator over the nodes of a selection, each as a selection of its own, from both ends. It
+/// allocates no memory.
 #[derive(Drop)]
 pub struct Selections<'a, 's> {
     nodes: slice::Iter<'s, NodeRef<'a>>,
@@ -38,7 +39,7 @@ impl<'a, 's> DoubleEndedIterator for Selections<'a, 's> {
 }
 
 impl<'a> Selection<'a> {
-    /// The nodes, each as a selection of its own.
+    /// Returns an iterator over the nodes, each as a selection of its own.
     pub fn iter(&self) -> Selections<'a, '_>
         ensures { iter_rest result.nodes ≡ self.now }
     {

@@ -1,10 +1,10 @@
-//! Selections, printed for a programmer.
+//! `Debug` for selections.
 
 use crate::selection::Selection;
 use std::fmt;
 
 impl<'a> fmt::Debug for Selection<'a> {
-    /// The numbers of the nodes.
+    /// Prints the ids of the nodes.
     fn fmt<W: fmt::Write>(&self, f: &mut fmt::Formatter<W>) -> fmt::Result {
         f.write_str("Selection [")?;
         let mut between = "";

@@ -1,7 +1,7 @@
-//! Sets of node numbers.
+//! Sets of node ids.
 
 ghost use Rattle.std.specs.Prelude.{◌≡◌, ◌∷◌, [], not, IfOk, OnOk};
-ghost use Rattle.dom_links.specs.Lists.{stands_in};
+ghost use Rattle.dom_links.specs.Lists.{is_member};
 ghost use Rattle.dom_selection.specs.Seen.{HaveSame};
 ghost use Rattle.dom_selection.specs.Selections.{ids_of};
 
@@ -12,7 +12,8 @@ use std::alloc::Global;
 use std::collections::BTreeSet;
 use std::marker::Model;
 
-/// A set of node numbers. Its cost goes by their count, and not by the tree.
+/// A set of node ids. Its cost depends on the number of ids in it, and not on the size of the tree.
+/// In a contract it is a list of its ids.
 #[derive(Drop)]
 pub(crate) struct Seen {
     numbers: BTreeSet<usize>,
@@ -27,7 +28,7 @@ impl Model for Seen {
 }
 
 impl Seen {
-    /// The empty set.
+    /// Returns the empty set. It allocates no memory.
     pub(crate) fn new(alloc: Global) -> Seen
         ensures { result ≡ [] }
     {
@@ -36,22 +37,24 @@ impl Seen {
         }
     }
 
-    /// Whether the number is in the set.
+    /// Returns whether the id is in the set.
     pub(crate) fn has(&self, id: NodeId) -> bool
-        ensures { result ≡ stands_in id self.now }
+        ensures { result ≡ is_member id self.now }
     {
         self.numbers.contains(&id.value())
     }
 
-    /// Adds the number. Whether it wasn't there before.
+    /// Inserts the id, and returns whether it is new. It fails with `OutOfMemory` when memory is
+    /// refused.
     pub(crate) fn note(&mut self, id: NodeId) -> Result<bool, OutOfMemory>
-        ensures new { IfOk result (λ new. new ≡ not (stands_in id self.old)) }
+        ensures new { IfOk result (λ new. new ≡ not (is_member id self.old)) }
         ensures noted { OnOk result (HaveSame (id ∷ self.old) self.new) }
     {
         Ok(self.numbers.insert(id.value())?)
     }
 
-    /// The numbers of the nodes.
+    /// Returns the set of the ids of these nodes. It fails with `OutOfMemory` when memory is
+    /// refused.
     pub(crate) fn of(alloc: Global, nodes: &[NodeRef<'_>]) -> Result<Seen, OutOfMemory>
         ensures { IfOk result (HaveSame (ids_of nodes.now)) }
     {

@@ -1,4 +1,4 @@
-//! The elements that selectors select below a selection's nodes.
+//! Selecting elements below the nodes of a selection by CSS selectors.
 
 ghost use Rattle.std.specs.Prelude.{◌≡◌, ◌≢◌, [], Ok, Some, chars, IfErr, IfOk, MatchOption};
 ghost use Rattle.dom_selectors.specs.Grammar.{Refused};
@@ -16,9 +16,10 @@ use dom_select::matcher::matcher_iter::MatcherIter;
 use dom_selectors::fault::SelectorFault;
 
 impl<'a> Selection<'a> {
-    /// The elements below the nodes that match one of the matcher's selectors, each once, in the
-    /// order of the traversals. Each candidate is tested, or an index of the tree is made where
-    /// that takes less.
+    /// Returns the elements below the nodes that match one of the matcher's selectors, each once.
+    /// The descendants of the first node come first, in document order, then those of the second,
+    /// and so on. Each candidate is tested, or an index of the tree is built when that is cheaper.
+    /// It fails with `OutOfMemory` when memory is refused.
     pub fn select_matcher(&self, matcher: &Matcher) -> Result<Selection<'a>, OutOfMemory>
         ensures { IfOk result (Selects matcher.now self.now) }
     {
@@ -30,8 +31,9 @@ impl<'a> Selection<'a> {
         Ok(Selection::of_one_tree(found))
     }
 
-    /// The same, found one by one; None where there are no nodes, which have no tree. It borrows
-    /// the nodes, and takes memory for two and more.
+    /// Returns an iterator over the elements that `select_matcher` returns, which finds them one by
+    /// one; `None` for an empty selection, which has no tree. It borrows the nodes. For two or more
+    /// nodes it allocates memory, and fails with `OutOfMemory` when that is refused.
     pub fn select_matcher_iter<'s, 'b>(
         &'s self,
         matcher: &'b Matcher,
@@ -46,8 +48,10 @@ impl<'a> Selection<'a> {
         Ok(Some(matches))
     }
 
-    /// The elements below the nodes that match one of the selectors in the text, each once, in the
-    /// order of the traversals. Refused as `Matcher::new` refuses the text.
+    /// Returns the elements below the nodes that match one of the selectors in the text, each once,
+    /// in the order of `select_matcher`. The text is parsed on every call; for repeated use, make a
+    /// `Matcher` once. It fails with the fault of `Matcher::new` when the text is no selector list,
+    /// or when memory is refused.
     pub fn select(&self, selectors: &str) -> Result<Selection<'a>, SelectorFault>
         ensures ok { IfOk result (GivesByText selectors.now (λ s. Selects s self.now)) }
         ensures refused { IfErr result (Refused (chars selectors.now)) }
@@ -56,7 +60,7 @@ impl<'a> Selection<'a> {
         Ok(self.select_matcher(&matcher)?)
     }
 
-    /// As `select`.
+    /// Returns what `select` returns, and fails as it does; it is another name of the same call.
     pub fn nip(&self, selectors: &str) -> Result<Selection<'a>, SelectorFault>
         ensures ok { IfOk result (GivesByText selectors.now (λ s. Selects s self.now)) }
         ensures refused { IfErr result (Refused (chars selectors.now)) }
@@ -64,7 +68,8 @@ impl<'a> Selection<'a> {
         self.select(selectors)
     }
 
-    /// The same as `select`, but None where nothing is selected or the text is outside the grammar.
+    /// Returns what `select` returns, but `None` when nothing is selected or the text is no
+    /// selector list. It fails with `OutOfMemory` when memory is refused.
     pub fn try_select(&self, selectors: &str) -> Result<Option<Selection<'a>>, OutOfMemory>
         ensures { IfOk result (SelectsSome selectors.now self.now) }
     {
@@ -78,8 +83,9 @@ impl<'a> Selection<'a> {
         Ok(Some(found))
     }
 
-    /// The first of what `select_matcher` returns, alone; none of none. No candidate after it is
-    /// tested.
+    /// Returns the first of the elements that `select_matcher` returns, or the empty selection when
+    /// there is none. No candidate after it is tested. It fails with `OutOfMemory` when memory is
+    /// refused.
     pub fn select_single_matcher(&self, matcher: &Matcher) -> Result<Selection<'a>, OutOfMemory>
         ensures { IfOk result (SelectsFirst matcher.now self.now) }
     {
@@ -93,7 +99,8 @@ impl<'a> Selection<'a> {
         }
     }
 
-    /// The first of what `select` returns, alone; none of none.
+    /// Returns the first of the elements that `select` returns, or the empty selection when there
+    /// is none. It fails as `select` does.
     pub fn select_single(&self, selectors: &str) -> Result<Selection<'a>, SelectorFault>
         ensures ok { IfOk result (GivesByText selectors.now (λ s. SelectsFirst s self.now)) }
         ensures refused { IfErr result (Refused (chars selectors.now)) }
@@ -102,8 +109,9 @@ impl<'a> Selection<'a> {
         Ok(self.select_single_matcher(&matcher)?)
     }
 
-    /// The nodes, and then what the matcher's selectors select below the root that doesn't stand
-    /// among them; none of none.
+    /// Returns the nodes of the selection, then the elements below the root that match the matcher
+    /// and aren't among them. For an empty selection, which has no tree, the result is empty. It
+    /// fails with `OutOfMemory` when memory is refused.
     pub fn add_matcher(&self, matcher: &Matcher) -> Result<Selection<'a>, OutOfMemory>
         ensures { IfOk result (Adds matcher.now self.now) }
     {
@@ -114,9 +122,10 @@ impl<'a> Selection<'a> {
         self.add_selection(&more)
     }
 
-    /// The nodes, and then what the selectors in the text select below the root that doesn't stand
-    /// among them; none of none. Refused as `Matcher::new` refuses the text; that of an empty
-    /// selection isn't read.
+    /// Returns the nodes of the selection, then the elements below the root that match one of the
+    /// selectors in the text and aren't among them. It fails with the fault of `Matcher::new` when
+    /// the text is no selector list, or when memory is refused. For an empty selection the text
+    /// isn't parsed, and the result is empty.
     pub fn add(&self, selectors: &str) -> Result<Selection<'a>, SelectorFault>
         ensures none { self.now ≡ [] → result ≡ Ok [] }
         ensures ok { IfOk result (λ a. self.now ≢ [] → ByText selectors.now
@@ -131,7 +140,8 @@ impl<'a> Selection<'a> {
         Ok(self.add_matcher(&matcher)?)
     }
 
-    /// The same as `add`, but None where the text is outside the grammar.
+    /// Returns what `add` returns, but `None` when the text is no selector list. It fails with
+    /// `OutOfMemory` when memory is refused.
     pub fn try_add(&self, selectors: &str) -> Result<Option<Selection<'a>>, OutOfMemory>
         ensures none { self.now ≡ [] → result ≡ Ok (Some []) }
         ensures ok { IfOk result (λ a. self.now ≢ [] → TriesText selectors.now

@@ -1,8 +1,8 @@
-//! Selections as sets: what two of them share, and both together.
+//! Selections as sets of nodes: intersection and union.
 
 ghost use Rattle.std.specs.Prelude.{◌≡◌, ◌++◌, ◌∷◌, [], IfOk, OnOk};
 ghost use Rattle.std.specs.List.{list_any};
-ghost use Rattle.dom_links.specs.Lists.{stands_in, without};
+ghost use Rattle.dom_links.specs.Lists.{is_member, without};
 ghost use Rattle.dom_trees.specs.Views.{refs_to};
 ghost use Rattle.dom_selection.specs.Selections.{HasOneTree, Lists, added, common};
 ghost use Rattle.dom_selection.specs.Selections.{has_number, have_common, ids_of};
@@ -13,9 +13,9 @@ use dom_nodes::fault::OutOfMemory;
 use dom_nodes::node_id::NodeId;
 use dom_trees::node_ref::NodeRef;
 
-/// Whether the number is that of one of the nodes.
-fn stands_in(id: NodeId, nodes: &[NodeRef<'_>]) -> bool
-    ensures { result ≡ stands_in id (ids_of nodes.now) }
+/// Returns whether the id is that of one of the nodes.
+fn is_member(id: NodeId, nodes: &[NodeRef<'_>]) -> bool
+    ensures { result ≡ is_member id (ids_of nodes.now) }
 {
     some_has(nodes, id)
 }
@@ -33,8 +33,8 @@ fn has_number(node: &NodeRef<'_>, id: NodeId) -> bool
 }
 
 impl<'a> Selection<'a> {
-    /// Whether some number stands in both selections. Where memory is refused, the numbers are
-    /// compared one by one.
+    /// Returns whether the two selections have a node in common, by id. When memory is refused, the
+    /// ids are compared one by one, so the call can't fail.
     pub fn is_selection(&self, other: &Selection<'_>) -> bool
         ensures { result ≡ have_common self.now other.now }
     {
@@ -43,11 +43,13 @@ impl<'a> Selection<'a> {
             Err(_) => self
                 .nodes()
                 .iter()
-                .any(|node| stands_in(node.id, other.nodes())),
+                .any(|node| is_member(node.id, other.nodes())),
         }
     }
 
-    /// The nodes whose numbers stand in the other selection too; all of them where that is empty.
+    /// Returns the nodes whose ids are also in the other selection, in their order. If the other
+    /// selection is empty, the result is all nodes. It fails with `OutOfMemory` when memory is
+    /// refused.
     pub fn filter_selection(&self, other: &Selection<'_>) -> Result<Selection<'a>, OutOfMemory>
         ensures { Lists result (common self.now other.now) }
     {
@@ -62,8 +64,9 @@ impl<'a> Selection<'a> {
         Ok(Selection::of_one_tree(kept))
     }
 
-    /// The nodes, and then those of the other selection that don't stand among them, each for the
-    /// node of its number in this selection's tree; the other selection where this one is empty.
+    /// Returns the nodes of this selection, then those of the other one whose ids aren't among
+    /// them. These are taken by id from this selection's tree. If this selection is empty, the
+    /// result is the other one. It fails with `OutOfMemory` when memory is refused.
     pub fn add_selection(&self, other: &Selection<'a>) -> Result<Selection<'a>, OutOfMemory>
         ensures { Lists result (added self.now other.now) }
     {

@@ -1,4 +1,4 @@
-//! The texts of a selection's nodes, joined, and what holds of some node.
+//! The texts of a selection's nodes, and whether one of them has a class.
 
 ghost use Rattle.std.specs.Prelude.{◌≡◌, ◌++◌, IfOk, OnOk, string_bytes};
 ghost use Rattle.dom_nodes.specs.Words.{class_words, is_among};
@@ -10,7 +10,8 @@ use crate::selection::Selection;
 use dom_nodes::fault::OutOfMemory;
 
 impl<'a> Selection<'a> {
-    /// Whether the name is a word of the first attribute `class` of some node.
+    /// Returns whether `class` is one of the words of the first attribute `class` of at least one
+    /// node.
     pub fn has_class(&self, class: &str) -> bool
         ensures { result ≡ some_node
             (λ forest n. is_among class.now (class_words (node_attrs forest n))) self.now }
@@ -18,7 +19,8 @@ impl<'a> Selection<'a> {
         self.nodes().iter().any(|node| node.has_class(class))
     }
 
-    /// The texts of the nodes, joined; a text at two of them stands there twice.
+    /// Returns the texts of the nodes, joined. If a node is inside another one of the selection,
+    /// its text occurs twice. It fails with `OutOfMemory` when memory is refused.
     pub fn text(&self) -> Result<String, OutOfMemory>
         ensures { IfOk result (λ text. string_bytes text ≡ joined text_of self.now) }
     {
@@ -30,7 +32,8 @@ impl<'a> Selection<'a> {
         Ok(joined)
     }
 
-    /// The texts of the nodes and their children alone, joined.
+    /// Returns the texts that the nodes and their children contain themselves, joined. It fails
+    /// with `OutOfMemory` when memory is refused.
     pub fn immediate_text(&self) -> Result<String, OutOfMemory>
         ensures { IfOk result
             (λ text. string_bytes text ≡ joined immediate_text_of self.now) }

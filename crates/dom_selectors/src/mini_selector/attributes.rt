@@ -1,4 +1,4 @@
-//! Reads the attributes of a mini selector.
+//! Parsing of the attributes of a mini selector.
 
 ghost use Rattle.std.specs.Prelude.{◌≡◌, map, nat_eq};
 ghost use Rattle.dom_nodes.specs.Ascii.{right_bracket};
@@ -34,7 +34,7 @@ fn begins_bracket(text: &str) -> bool
     matches!(text.as_bytes(), [b']', ..])
 }
 
-/// The value in quotes at the front, without them, and what follows it.
+/// Parses a quoted value; returns it without its quotes, and the rest.
 fn take_quoted(text: &str) -> Option<(&str, &str)>
     ensures { TakesSlice result SpellsQuoted text.now }
 {
@@ -54,7 +54,7 @@ fn take_quoted(text: &str) -> Option<(&str, &str)>
     Some((value, rest))
 }
 
-/// The bare value at the front, and what follows it.
+/// Parses a value without quotes, up to the next `]`.
 fn take_bare(text: &str) -> Option<(&str, &str)>
     ensures { TakesSlice result SpellsBare text.now }
 {
@@ -65,10 +65,10 @@ fn take_bare(text: &str) -> Option<(&str, &str)>
     Some((value, rest))
 }
 
-/// How an attribute's value is compared with which text.
+/// The operator of a comparison, and its value.
 type Test<'a> = (AttrOperator, &'a str);
 
-/// The test at the front, if there is one, and what follows it.
+/// Parses an optional comparison. Fails if a quoted value is malformed.
 fn take_test(text: &str) -> Result<Option<(Test<'_>, &str)>, MiniFault>
     ensures { TakesMaybe result shown_test SpellsTest IsBadTest text.now }
 {
@@ -88,7 +88,7 @@ fn take_test(text: &str) -> Result<Option<(Test<'_>, &str)>, MiniFault>
     Ok(Some(((operator, value), rest)))
 }
 
-/// The attribute at the front, if there is one, and what follows it.
+/// Parses an optional attribute. Fails if a quoted value is malformed.
 fn take_attr(text: &str) -> Result<Option<(MiniAttr<'_>, &str)>, MiniFault>
     ensures { TakesMaybe result asked_of SpellsAttr IsBadAttr text.now }
 {
@@ -111,7 +111,7 @@ fn take_attr(text: &str) -> Result<Option<(MiniAttr<'_>, &str)>, MiniFault>
     Ok(Some((MiniAttr { key, test }, rest)))
 }
 
-/// The attributes at the front, and what follows them.
+/// Parses as many attributes as there are.
 pub(crate) fn take_attrs(alloc: Global, text: &str) -> Result<(Vec<MiniAttr<'_>>, &str), MiniFault>
     ensures { TakesMany result (λ attrs. map asked_of attrs.items) SpellsAttrs
         MeetsBadAttr text.now }

@@ -1,18 +1,18 @@
-//! Why a text is no mini selector.
+//! Why a text does not start with a mini selector.
 
 use dom_nodes::fault::OutOfMemory;
 use std::alloc::AllocFailed;
 
-/// Why a text is no mini selector.
+/// Why a text does not start with a mini selector.
 #[derive(Clone, Copy, PartialEq, Eq, Debug, Drop, thiserror::Error)]
 pub enum MiniFault {
-    /// Nothing can be read.
+    /// The text starts with no part of a mini selector.
     #[error("no mini selector")]
     NoSelector,
-    /// A value that begins with a quote is empty, or isn't closed by the same quote.
+    /// A value that starts with a quote is empty, or the same quote does not close it.
     #[error("bad quoted value")]
     BadQuotedValue,
-    /// Memory was refused.
+    /// Memory ran out.
     #[error("out of memory")]
     Memory,
 }

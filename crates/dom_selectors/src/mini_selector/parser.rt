@@ -1,4 +1,4 @@
-//! Reads mini selectors, and lists of them.
+//! Parsing of mini selectors and of sequences of them.
 
 ghost use Rattle.std.specs.Option.{option_copied};
 ghost use Rattle.dom_selectors.specs.MiniGrammar.{IsBadStep, Maybe, ParsesFront, RefusesMini};
@@ -15,7 +15,7 @@ use crate::mini_selector::selector::MiniSelector;
 use crate::syntax::Combinator;
 use std::alloc::{AllocFailed, Global};
 
-/// The combinator at the front, if there is one, and what follows it.
+/// Parses an optional combinator.
 fn maybe_lead(text: &str) -> (Option<Combinator>, &str)
     ensures { Maybe SpellsLead result.0 text.now result.1.now }
 {
@@ -25,7 +25,7 @@ fn maybe_lead(text: &str) -> (Option<Combinator>, &str)
     }
 }
 
-/// The name at the front, if there is one, and what follows it.
+/// Parses an optional name.
 fn maybe_name(text: &str) -> (Option<&str>, &str)
     ensures { Maybe SpellsWord (option_copied result.0) text.now result.1.now }
 {
@@ -35,7 +35,7 @@ fn maybe_name(text: &str) -> (Option<&str>, &str)
     }
 }
 
-/// The id at the front, if there is one, and what follows it.
+/// Parses an optional id.
 fn maybe_id(text: &str) -> (Option<&str>, &str)
     ensures { Maybe SpellsId (option_copied result.0) text.now result.1.now }
 {
@@ -45,7 +45,7 @@ fn maybe_id(text: &str) -> (Option<&str>, &str)
     }
 }
 
-/// The classes at the front, and what follows them.
+/// Parses as many classes as there are.
 fn take_classes(alloc: Global, text: &str) -> Result<(Vec<&str>, &str), MiniFault>
     ensures { TakesMany result (λ words. texts_of words.items) SpellsClasses (λ _. ⊥) text.now }
 {
@@ -58,9 +58,9 @@ fn take_classes(alloc: Global, text: &str) -> Result<(Vec<&str>, &str), MiniFaul
     Ok((classes, rest))
 }
 
-/// The mini selector at the front, and what is left behind it: `NoSelector` where none can be read,
-/// and `BadQuotedValue` where one of its attributes has a value that begins with a quote and is
-/// empty or not closed by that quote.
+/// Parses the mini selector at the start of the text; returns the rest of the text and the
+/// selector. Fails with `NoSelector` if the text starts with none, with `BadQuotedValue` if an
+/// attribute's quoted value is empty or not closed, and with `Memory`.
 pub fn parse_mini_selector(alloc: Global, text: &str) -> Result<(&str, MiniSelector<'_>), MiniFault>
     ensures { ParsesFront result same SpellsMini RefusesMini text.now }
 {
@@ -82,7 +82,7 @@ pub fn parse_mini_selector(alloc: Global, text: &str) -> Result<(&str, MiniSelec
     Ok((rest, mini))
 }
 
-/// The mini selector at the front with the blanks round it, if there is one, and what follows it.
+/// Parses an optional mini selector, with optional blanks around it.
 fn take_step(alloc: Global, text: &str) -> Result<Option<(MiniSelector<'_>, &str)>, MiniFault>
     ensures { TakesMaybe result same SpellsStep IsBadStep text.now }
 {
@@ -93,8 +93,9 @@ fn take_step(alloc: Global, text: &str) -> Result<Option<(MiniSelector<'_>, &str
     }
 }
 
-/// As many mini selectors as can be read, maybe none, and what is left behind them; blanks may
-/// stand round each. Only a `BadQuotedValue` refuses the list.
+/// Parses as many mini selectors as there are, with optional blanks around each; returns the rest
+/// of the text and the selectors, which may be none. Fails with `BadQuotedValue` if an attribute's
+/// quoted value is empty or not closed, and with `Memory`.
 pub fn parse_selector_list(
     alloc: Global,
     text: &str,

@@ -1,4 +1,4 @@
-//! Fronts of a text: blanks, words, what stands before a character.
+//! Splitting blanks, words and the like off the start of a text.
 
 ghost use Rattle.std.specs.Prelude.{◌≡◌, ◌<◌, ◌∷◌, false, nat_lt, MatchOption};
 ghost use Rattle.std.specs.List.{prefix_len, take_while};
@@ -11,7 +11,7 @@ ghost use Rattle.dom_selectors.specs.Spelling.{Strips, TakesSlice, TakesSome};
 use crate::attributes::operator_of;
 use crate::syntax::{AttrOperator, Combinator, combinator_of};
 
-/// What a kind of a mini selector is made of.
+/// A character class of mini selectors.
 #[derive(Clone, Copy)]
 pub(crate) enum CharKind {
     Blank,
@@ -19,7 +19,7 @@ pub(crate) enum CharKind {
 }
 
 impl CharKind {
-    /// Whether a byte is of this kind.
+    /// Returns whether a byte belongs to this class.
     fn pass(self, byte: u8) -> bool
         ensures { result ≡ passes self byte }
     {
@@ -30,7 +30,7 @@ impl CharKind {
     }
 }
 
-/// How many bytes of this kind stand at the front.
+/// Returns how many bytes at the start belong to the class.
 fn run_len(kind: CharKind, bytes: &[u8]) -> usize
     ensures { result ≡ prefix_len (passes kind) bytes.now }
 {
@@ -42,7 +42,7 @@ fn run_len(kind: CharKind, bytes: &[u8]) -> usize
     bytes.len()
 }
 
-/// The front that is of this kind, as far as it goes, and what follows it.
+/// Splits the longest run of this class off the start of the text.
 fn split_run(kind: CharKind, text: &str) -> (&str, &str)
     ensures front { result.0.now ≡ take_while (passes kind) text.now }
     ensures rest { result.1.now ≡ after_while (passes kind) text.now }
@@ -50,7 +50,7 @@ fn split_run(kind: CharKind, text: &str) -> (&str, &str)
     text.split_at(run_len(kind, text.as_bytes()))
 }
 
-/// How many bytes stand before this one, or all where it doesn't stand there.
+/// Returns how many bytes come before the first `stop`, or all if there is none.
 fn len_before(stop: u8, bytes: &[u8]) -> usize
     ensures { result ≡ prefix_len (isnt stop) bytes.now }
 {
@@ -62,8 +62,7 @@ fn len_before(stop: u8, bytes: &[u8]) -> usize
     bytes.len()
 }
 
-/// What stands before this character, and what begins with it; nothing where it doesn't stand
-/// there.
+/// Splits the text before the first `stop`; the second part is empty if there is none.
 pub(crate) fn split_before(text: &str, stop: u8) -> (&str, &str)
     requires { stop < 128 }
     ensures front { result.0.now ≡ take_while (isnt stop) text.now }
@@ -72,7 +71,7 @@ pub(crate) fn split_before(text: &str, stop: u8) -> (&str, &str)
     text.split_at(len_before(stop, text.as_bytes()))
 }
 
-/// The text without the blanks at its front.
+/// Returns the text without leading blanks.
 pub(crate) fn after_blanks(text: &str) -> &str
     ensures { result.now ≡ after_blanks text.now }
 {
@@ -80,7 +79,7 @@ pub(crate) fn after_blanks(text: &str) -> &str
     rest
 }
 
-/// What follows the letter at the front, if it stands there.
+/// Returns the rest of the text, if it starts with this ASCII character.
 pub(crate) fn strip(text: &str, letter: char) -> Option<&str>
     requires { letter < 128 }
     ensures { Strips result letter text.now }
@@ -88,7 +87,7 @@ pub(crate) fn strip(text: &str, letter: char) -> Option<&str>
     text.strip_prefix(letter)
 }
 
-/// The ASCII character at the front, and what follows it.
+/// Splits off the first character, if it is ASCII.
 pub(crate) fn split_ascii(text: &str) -> Option<(u8, &str)>
     ensures { MatchOption result (begins (λ c. nat_lt c 128) text.now ≡ false)
         (λ p. (p.0 < 128) × (text.now ≡ p.0 ∷ p.1.now)) }
@@ -100,7 +99,7 @@ pub(crate) fn split_ascii(text: &str) -> Option<(u8, &str)>
     Some((*first, &text[1..]))
 }
 
-/// The word at the front, and what follows it.
+/// Splits off a word, if the text starts with one.
 pub(crate) fn take_word(text: &str) -> Option<(&str, &str)>
     ensures { TakesSlice result SpellsWord text.now }
 {
@@ -111,7 +110,7 @@ pub(crate) fn take_word(text: &str) -> Option<(&str, &str)>
     Some((word, rest))
 }
 
-/// The word behind the mark at the front, and what follows it.
+/// Splits off a mark and the word after it, if the text starts so; returns the word and the rest.
 pub(crate) fn take_marked(text: &str, mark: char) -> Option<(&str, &str)>
     requires { mark < 128 }
     ensures { TakesSlice result (SpellsMarked mark) text.now }
@@ -122,7 +121,7 @@ pub(crate) fn take_marked(text: &str, mark: char) -> Option<(&str, &str)>
     take_word(more)
 }
 
-/// The combinator at the front, with the blanks round its sign, and what follows it.
+/// Splits off a combinator and the blanks around it.
 pub(crate) fn take_lead(text: &str) -> Option<(Combinator, &str)>
     ensures { TakesSome result SpellsLead text.now }
 {
@@ -135,7 +134,7 @@ pub(crate) fn take_lead(text: &str) -> Option<(Combinator, &str)>
     Some((combinator, after_blanks(more)))
 }
 
-/// The operator at the front, and what follows it.
+/// Splits off an operator.
 pub(crate) fn take_operator(text: &str) -> Option<(AttrOperator, &str)>
     ensures { TakesSome result SpellsOperator text.now }
 {

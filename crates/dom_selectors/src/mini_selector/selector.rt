@@ -1,4 +1,4 @@
-//! What a mini selector's text stands for.
+//! Mini selectors as values.
 
 use crate::mini_selector::fault::MiniFault;
 use crate::mini_selector::parser::parse_mini_selector;
@@ -6,15 +6,15 @@ use crate::syntax::{AttrOperator, Combinator};
 use std::alloc::Global;
 use std::marker::Model;
 
-/// An attribute, and how its value is compared with which text, if it is.
+/// An attribute of a mini selector: its name, and a comparison of its value, if there is one.
 #[derive(Clone, Copy, PartialEq, Eq, Debug, Drop)]
 pub struct MiniAttr<'a> {
     pub key: &'a str,
     pub test: Option<(AttrOperator, &'a str)>,
 }
 
-/// A selector of one step: a name, an id, classes and attributes, and how it stands to the step
-/// before. Each text is a slice of the text that was read.
+/// A mini selector: a name, an id, classes and attributes, and a combinator that relates it to the
+/// mini selector before it. Its texts are slices of the parsed text.
 #[derive(Drop)]
 pub struct MiniSelector<'a> {
     pub(crate) lead: Option<Combinator>,
@@ -48,8 +48,9 @@ impl<'a> MiniSelector<'a> {
     ghost use Rattle.dom_selectors.specs.MiniSyntax.{asked_of, combinator_of, has_part, named};
     ghost use Rattle.dom_selectors.specs.MiniSyntax.{texts_of};
 
-    /// The mini selector at the front of the text, whatever follows it: `NoSelector` where none can
-    /// be read, and `BadQuotedValue` where a value in quotes is empty or isn't closed.
+    /// Parses the mini selector at the start of the text; what follows it is ignored. Fails with
+    /// `NoSelector` if the text starts with none, with `BadQuotedValue` if an attribute's quoted
+    /// value is empty or not closed, and with `Memory`.
     pub fn new(alloc: Global, selector: &'a str) -> Result<MiniSelector<'a>, MiniFault>
         ensures { MatchResult result (λ mini. (rest : List ℕ) × SpellsMini mini selector.now rest)
             (λ fault. RefusesMini fault selector.now) }
@@ -58,7 +59,7 @@ impl<'a> MiniSelector<'a> {
         Ok(mini)
     }
 
-    /// The mini selector of a name alone. It takes no memory.
+    /// Returns the mini selector with a name alone. It allocates no memory.
     pub fn named(alloc: Global, name: &'a str) -> MiniSelector<'a>
         ensures { result ≡ named name.now }
     {
@@ -71,35 +72,35 @@ impl<'a> MiniSelector<'a> {
         }
     }
 
-    /// The local name that is asked for.
+    /// Returns the local name that the selector requires, if any.
     pub fn name(&self) -> Option<&'a str>
         ensures { option_copied result ≡ self.now.name }
     {
         self.name
     }
 
-    /// The value of `id` that is asked for.
+    /// Returns the value of `id` that the selector requires, if any.
     pub fn id(&self) -> Option<&'a str>
         ensures { option_copied result ≡ self.now.id }
     {
         self.id
     }
 
-    /// The classes that are asked for, in order.
+    /// Returns the classes that the selector requires, in order.
     pub fn classes(&self) -> &[&'a str]
         ensures { texts_of result.now ≡ self.now.classes }
     {
         self.classes.as_slice()
     }
 
-    /// The attributes that are asked for, in order.
+    /// Returns the attributes that the selector requires, in order.
     pub fn attrs(&self) -> &[MiniAttr<'a>]
         ensures { map asked_of result.now ≡ self.now.attrs }
     {
         self.attrs.as_slice()
     }
 
-    /// How a node stands to the one of the step before; without a sign it is below it.
+    /// Returns the combinator before the selector; without a sign it is `Descendant`.
     pub fn combinator(&self) -> Combinator
         ensures { result ≡ combinator_of self.now }
     {
@@ -109,7 +110,7 @@ impl<'a> MiniSelector<'a> {
         }
     }
 
-    /// Whether it asks for anything, or has a sign.
+    /// Returns whether the selector has any part or a combinator with a sign.
     pub(crate) fn has_part(&self) -> bool
         ensures { result ≡ has_part self.now }
     {

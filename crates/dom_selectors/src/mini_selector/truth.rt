@@ -1,4 +1,4 @@
-//! Whether a mini selector is true of what a node holds. No memory is taken.
+//! Matching a mini selector against a node's own data, without allocating memory.
 
 ghost use Rattle.std.specs.Prelude.{◌≡◌};
 ghost use Rattle.std.specs.List.{list_all, list_any};
@@ -42,7 +42,7 @@ fn classes_hold(classes: &[&str], element: &Element) -> bool
     classes.iter().all(|class| element.has_class(class))
 }
 
-/// Whether the value isn't empty and is as the operator says.
+/// Returns whether the value is not empty and passes the operator.
 fn test_passes(operator: AttrOperator, wanted: &str, value: &str) -> bool
     ensures { result ≡ test_passes (operator, wanted.now) value.now }
 {
@@ -55,7 +55,7 @@ fn attr_passes(key: &str, operator: AttrOperator, wanted: &str, attr: &Attr) -> 
     attr.name.local().as_str() == key && test_passes(operator, wanted, attr.value.as_str())
 }
 
-/// Whether one of the attributes has that local name and passes the test.
+/// Returns whether one of the attributes has that local name and passes the comparison.
 fn any_passes(key: &str, operator: AttrOperator, wanted: &str, attrs: &[Attr]) -> bool
     ensures { result ≡ list_any (attr_passes key.now (operator, wanted.now)) attrs.now }
 {
@@ -101,8 +101,8 @@ impl<'a> MiniSelector<'a> {
             && self.has_attrs(element)
     }
 
-    /// Whether it is true of a node of these contents: an element of that name, id and classes,
-    /// whose attributes are as asked. It takes no memory.
+    /// Returns whether a node with this data matches, apart from the combinator: it is an element
+    /// with the required name, id, classes and attributes. It allocates no memory.
     pub fn match_data(&self, node: &NodeData) -> bool
         ensures { result ≡ node_passes self.now node.now }
     {

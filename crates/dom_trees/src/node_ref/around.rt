@@ -1,10 +1,11 @@
-//! The nodes around a node, as references. Around an unknown number there is none.
+//! The nodes around a node: parent, siblings, children, ancestors and descendants. Around an
+//! unknown id there are none.
 
 ghost use Rattle.std.specs.Prelude.{◌≡◌, false, filter, find, true};
 ghost use Rattle.dom_links.specs.Forest.{children_of, parent, siblings};
 ghost use Rattle.dom_links.specs.ListMoves.{element_at};
 ghost use Rattle.dom_links.specs.Lists.{after, before, first, last};
-ghost use Rattle.dom_links.specs.Trees.{ancestors, limited, walk_below};
+ghost use Rattle.dom_links.specs.Trees.{ancestors, limited, descendants_in_order};
 ghost use Rattle.dom_links.specs.Walk.{later};
 ghost use Rattle.dom_trees.specs.Views.{ListsNodes, child_named, ref_to};
 
@@ -17,28 +18,29 @@ use dom_nodes::fault::OutOfMemory;
 use dom_nodes::node_id::NodeId;
 
 impl<'a> NodeRef<'a> {
-    /// The node of that number in the same tree.
+    /// Returns the node with this id in the same tree.
     fn node_of(&self, id: Option<NodeId>) -> Option<NodeRef<'a>>
         ensures { result ≡ ref_to self.now.tree id }
     {
         Some(NodeRef::new(id?, self.tree))
     }
 
-    /// The parent.
+    /// Returns the parent, or `None` when there is none.
     pub fn parent(&self) -> Option<NodeRef<'a>>
         ensures { result ≡ ref_to self.now.tree (parent self.now.tree.now self.now.id) }
     {
         self.node_of(parent_id(self.tree.nodes(), &self.id))
     }
 
-    /// The parent, of whichever kind.
+    /// Returns the parent, whatever kind of node it is, or `None` when there is none. It is the
+    /// same as `parent`, since the crate dom_query has both names.
     pub fn parent_element(&self) -> Option<NodeRef<'a>>
         ensures { result ≡ ref_to self.now.tree (parent self.now.tree.now self.now.id) }
     {
         self.parent()
     }
 
-    /// The first child.
+    /// Returns the first child, or `None` when there is none.
     pub fn first_child(&self) -> Option<NodeRef<'a>>
         ensures { let all = children_of self.now.tree.now self.now.id
             in result ≡ ref_to self.now.tree (first all) }
@@ -46,7 +48,7 @@ impl<'a> NodeRef<'a> {
         self.node_of(first_child_id(self.tree.nodes(), &self.id))
     }
 
-    /// The last child.
+    /// Returns the last child, or `None` when there is none.
     pub fn last_child(&self) -> Option<NodeRef<'a>>
         ensures { let all = children_of self.now.tree.now self.now.id
             in result ≡ ref_to self.now.tree (last all) }
@@ -54,7 +56,7 @@ impl<'a> NodeRef<'a> {
         self.node_of(last_child_id(self.tree.nodes(), &self.id))
     }
 
-    /// Who stands right after the node.
+    /// Returns the next sibling, or `None` when there is none.
     pub fn next_sibling(&self) -> Option<NodeRef<'a>>
         ensures { let row = siblings self.now.tree.now self.now.id
             in result ≡ ref_to self.now.tree (after row self.now.id) }
@@ -62,7 +64,7 @@ impl<'a> NodeRef<'a> {
         self.node_of(next_sibling_id(self.tree.nodes(), &self.id))
     }
 
-    /// Who stands right before the node.
+    /// Returns the previous sibling, or `None` when there is none.
     pub fn prev_sibling(&self) -> Option<NodeRef<'a>>
         ensures { let row = siblings self.now.tree.now self.now.id
             in result ≡ ref_to self.now.tree (before row self.now.id) }
@@ -70,14 +72,15 @@ impl<'a> NodeRef<'a> {
         self.node_of(prev_sibling_id(self.tree.nodes(), &self.id))
     }
 
-    /// The last of the later siblings; none where the node is the last of its list.
+    /// Returns the last one of the siblings after this node, or `None` when there is none after it.
     pub fn last_sibling(&self) -> Option<NodeRef<'a>>
         ensures { result ≡ ref_to self.now.tree (last (later self.now.tree.now false self.now.id)) }
     {
         self.node_of(TreeNodeOps::last_sibling_of(self.tree.nodes(), &self.id))
     }
 
-    /// The nearest element after the node in its list.
+    /// Returns the nearest element among the siblings after this node, or `None` when there is
+    /// none.
     pub fn next_element_sibling(&self) -> Option<NodeRef<'a>>
         ensures { let row = later self.now.tree.now false self.now.id
             in result ≡ ref_to self.now.tree (find (element_at self.now.tree.now) row) }
@@ -85,7 +88,8 @@ impl<'a> NodeRef<'a> {
         self.node_of(TreeNodeOps::next_element_sibling_of(self.tree.nodes(), &self.id))
     }
 
-    /// As `next_element_sibling`.
+    /// Returns the nearest element among the siblings after this node, or `None` when there is
+    /// none. It is another name of `next_element_sibling`.
     pub fn next_sibling_element(&self) -> Option<NodeRef<'a>>
         ensures { let row = later self.now.tree.now false self.now.id
             in result ≡ ref_to self.now.tree (find (element_at self.now.tree.now) row) }
@@ -93,7 +97,8 @@ impl<'a> NodeRef<'a> {
         self.next_element_sibling()
     }
 
-    /// The nearest element before the node in its list.
+    /// Returns the nearest element among the siblings before this node, or `None` when there is
+    /// none.
     pub fn prev_element_sibling(&self) -> Option<NodeRef<'a>>
         ensures { let row = later self.now.tree.now true self.now.id
             in result ≡ ref_to self.now.tree (find (element_at self.now.tree.now) row) }
@@ -101,7 +106,8 @@ impl<'a> NodeRef<'a> {
         self.node_of(TreeNodeOps::prev_element_sibling_of(self.tree.nodes(), &self.id))
     }
 
-    /// As `prev_element_sibling`.
+    /// Returns the nearest element among the siblings before this node, or `None` when there is
+    /// none. It is another name of `prev_element_sibling`.
     pub fn prev_sibling_element(&self) -> Option<NodeRef<'a>>
         ensures { let row = later self.now.tree.now true self.now.id
             in result ≡ ref_to self.now.tree (find (element_at self.now.tree.now) row) }
@@ -109,7 +115,7 @@ impl<'a> NodeRef<'a> {
         self.prev_element_sibling()
     }
 
-    /// The first child that is an element.
+    /// Returns the first child that is an element, or `None` when there is none.
     pub fn first_element_child(&self) -> Option<NodeRef<'a>>
         ensures { let row = children_of self.now.tree.now self.now.id
             in result ≡ ref_to self.now.tree (find (element_at self.now.tree.now) row) }
@@ -117,7 +123,8 @@ impl<'a> NodeRef<'a> {
         self.node_of(TreeNodeOps::first_element_child_of(self.tree.nodes(), &self.id))
     }
 
-    /// The first child that is an element of that local name.
+    /// Returns the first child that is an element with this local name, or `None` when there is
+    /// none.
     pub(crate) fn child_named(&self, name: &str) -> Option<NodeRef<'a>>
         ensures { let child = child_named self.now.tree.now self.now.id name.now
             in result ≡ ref_to self.now.tree child }
@@ -131,15 +138,15 @@ impl<'a> NodeRef<'a> {
         None
     }
 
-    /// The children, in order.
+    /// Returns the children, in order. It fails with `OutOfMemory` when memory is refused.
     pub fn children(&self) -> Result<Vec<NodeRef<'a>>, OutOfMemory>
         ensures { ListsNodes result self.now.tree (children_of self.now.tree.now self.now.id) }
     {
         Ok(self.children_it(false).collect(self.tree.allocator())?)
     }
 
-    /// The ancestors, from the parent on; at most `max_depth` of them, where that is neither none
-    /// nor 0.
+    /// Returns the ancestors, from the parent up, at most `max_depth` of them; `None` or 0 means no
+    /// limit. It fails with `OutOfMemory` when memory is refused.
     pub fn ancestors(&self, max_depth: Option<usize>) -> Result<Vec<NodeRef<'a>>, OutOfMemory>
         ensures { let above = limited max_depth (ancestors self.now.tree.now self.now.id)
             in ListsNodes result self.now.tree above }
@@ -147,14 +154,16 @@ impl<'a> NodeRef<'a> {
         Ok(self.ancestors_it(max_depth).collect(self.tree.allocator())?)
     }
 
-    /// The nodes below this one, each before what is below it.
+    /// Returns the descendants in document order. Template contents aren't visited. It fails with
+    /// `OutOfMemory` when memory is refused.
     pub fn descendants(&self) -> Result<Vec<NodeRef<'a>>, OutOfMemory>
-        ensures { ListsNodes result self.now.tree (walk_below self.now.tree.now self.now.id) }
+        ensures { ListsNodes result self.now.tree (descendants_in_order self.now.tree.now self.now.id) }
     {
         Ok(self.descendants_it().collect(self.tree.allocator())?)
     }
 
-    /// The children that are elements, in order.
+    /// Returns the children that are elements, in order. It fails with `OutOfMemory` when memory is
+    /// refused.
     pub fn element_children(&self) -> Result<Vec<NodeRef<'a>>, OutOfMemory>
         ensures { let all = children_of self.now.tree.now self.now.id
             in ListsNodes result self.now.tree (filter (element_at self.now.tree.now) all) }

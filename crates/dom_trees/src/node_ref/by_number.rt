@@ -1,5 +1,5 @@
-//! The calls of a tree that return references: a node by its number, the nodes around it, and the
-//! parts of a page.
+//! Methods of `Tree` that return references: a node by its id, the nodes around it, and the parts
+//! of a page.
 
 ghost use Rattle.std.specs.Prelude.{◌≡◌, ◌≤◌, MatchOption, codes, false, find, length};
 ghost use Rattle.std.specs.Option.{option_copied};
@@ -16,7 +16,7 @@ use dom_nodes::fault::OutOfMemory;
 use dom_nodes::node_id::NodeId;
 
 impl Tree {
-    /// The node of that number, if the tree has one.
+    /// Returns the node with this id, or `None` for an unknown id.
     pub fn get(&self, id: &NodeId) -> Option<NodeRef<'_>>
         ensures { MatchOption result (length self.now.content ≤ id.now)
             (λ node. node ≡ record { id = id.now; tree = self.entry }) }
@@ -27,41 +27,44 @@ impl Tree {
         Some(self.get_unchecked(id))
     }
 
-    /// The node of that number, without a look whether it is one.
+    /// Returns a reference to the node with this id. It isn't checked that the node exists.
     pub fn get_unchecked(&self, id: &NodeId) -> NodeRef<'_>
         ensures { result ≡ record { id = id.now; tree = self.entry } }
     {
         NodeRef::new(*id, self)
     }
 
-    /// The root.
+    /// Returns the root.
     pub fn root(&self) -> NodeRef<'_>
         ensures { result ≡ record { id = 0; tree = self.entry } }
     {
         self.get_unchecked(&NodeId::root())
     }
 
-    /// The first child of the root that is an element.
+    /// Returns the first child of the root that is an element, or `None` when there is none.
     pub fn html_root(&self) -> Option<NodeRef<'_>>
         ensures { result ≡ ref_to self.entry (find (element_at self.now) (children_of self.now 0)) }
     {
         self.root().first_element_child()
     }
 
-    /// The first child `head` of the root's first child `html`.
+    /// Returns the `head` of the page: the first child `head` of the root's first child `html`, or
+    /// `None` when one is missing.
     pub fn head(&self) -> Option<NodeRef<'_>>
         ensures { result ≡ ref_to self.entry (page_part self.now (codes "head")) }
     {
         self.page_part("head")
     }
 
-    /// The first child `body` of the root's first child `html`.
+    /// Returns the `body` of the page: the first child `body` of the root's first child `html`, or
+    /// `None` when one is missing.
     pub fn body(&self) -> Option<NodeRef<'_>>
         ensures { result ≡ ref_to self.entry (page_part self.now (codes "body")) }
     {
         self.page_part("body")
     }
 
+    /// Returns the first child with this local name of the root's first child `html`.
     fn page_part(&self, name: &str) -> Option<NodeRef<'_>>
         ensures { result ≡ ref_to self.entry (page_part self.now name.now) }
     {
@@ -71,7 +74,8 @@ impl Tree {
         html.child_named(name)
     }
 
-    /// The value of the first attribute `href` of the head's first child `base`.
+    /// Returns the value of the first attribute `href` of the first child `base` of `head`, or
+    /// `None` when one is missing.
     pub fn base_uri(&self) -> Option<&str>
         ensures { option_copied result ≡ base_uri self.now }
     {
@@ -84,57 +88,58 @@ impl Tree {
         base.attr("href")
     }
 
-    /// The parent of a node.
+    /// Returns the parent of a node, or `None` when there is none.
     pub fn parent_of(&self, id: &NodeId) -> Option<NodeRef<'_>>
         ensures { result ≡ ref_to self.entry (parent self.now id.now) }
     {
         self.get_unchecked(id).parent()
     }
 
-    /// The first child of a node.
+    /// Returns the first child of a node, or `None` when there is none.
     pub fn first_child_of(&self, id: &NodeId) -> Option<NodeRef<'_>>
         ensures { result ≡ ref_to self.entry (first (children_of self.now id.now)) }
     {
         self.get_unchecked(id).first_child()
     }
 
-    /// The last child of a node.
+    /// Returns the last child of a node, or `None` when there is none.
     pub fn last_child_of(&self, id: &NodeId) -> Option<NodeRef<'_>>
         ensures { result ≡ ref_to self.entry (last (children_of self.now id.now)) }
     {
         self.get_unchecked(id).last_child()
     }
 
-    /// Who stands right before a node.
+    /// Returns the previous sibling of a node, or `None` when there is none.
     pub fn prev_sibling_of(&self, id: &NodeId) -> Option<NodeRef<'_>>
         ensures { result ≡ ref_to self.entry (before (siblings self.now id.now) id.now) }
     {
         self.get_unchecked(id).prev_sibling()
     }
 
-    /// Who stands right after a node.
+    /// Returns the next sibling of a node, or `None` when there is none.
     pub fn next_sibling_of(&self, id: &NodeId) -> Option<NodeRef<'_>>
         ensures { result ≡ ref_to self.entry (after (siblings self.now id.now) id.now) }
     {
         self.get_unchecked(id).next_sibling()
     }
 
-    /// The last of a node's later siblings; none where it is the last of its list.
+    /// Returns the last one of the siblings after a node, or `None` when there is none after it.
     pub fn last_sibling_of(&self, id: &NodeId) -> Option<NodeRef<'_>>
         ensures { result ≡ ref_to self.entry (last (later self.now false id.now)) }
     {
         self.get_unchecked(id).last_sibling()
     }
 
-    /// The children of a node, in order.
+    /// Returns the children of a node, in order. It fails with `OutOfMemory` when memory is
+    /// refused.
     pub fn children_of(&self, id: &NodeId) -> Result<Vec<NodeRef<'_>>, OutOfMemory>
         ensures { ListsNodes result self.entry (children_of self.now id.now) }
     {
         self.get_unchecked(id).children()
     }
 
-    /// The ancestors of a node, from its parent on; at most `max_depth` of them, where that is
-    /// neither none nor 0.
+    /// Returns the ancestors of a node, from its parent up, at most `max_depth` of them; `None` or
+    /// 0 means no limit. It fails with `OutOfMemory` when memory is refused.
     pub fn ancestors_of(
         &self,
         id: &NodeId,

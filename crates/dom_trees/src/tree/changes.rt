@@ -1,4 +1,4 @@
-//! Changes of what a node is. Its number, its kind, its template contents and all links stay.
+//! Changes of one node's own data. Its id, its kind, its template contents and all links stay.
 
 ghost use Rattle.std.specs.Prelude.{◌≡◌, ◌<◌, false, IfErr, OnErr, OnOk, length};
 ghost use Rattle.std.specs.Fn.{FnOnceReturnsAtMut};
@@ -15,9 +15,9 @@ use dom_nodes::node_data::{Change, NodeEdit};
 use dom_nodes::node_id::NodeId;
 
 impl Tree {
-    /// Lets the closure change what a node is: the name and the attributes of an element, or the
-    /// contents of a text or a comment. Its kind and its template contents stay. Takes no memory.
-    /// Only an `UnknownNode` is refused.
+    /// Calls the closure with the name and the attributes of an element, or with the contents of a
+    /// text or a comment, and stores what it leaves. For other kinds of nodes nothing changes. It
+    /// allocates no memory, and fails with `UnknownNode` only.
     pub fn update_node<F: FnOnce(&mut NodeEdit) + Drop>(
         &mut self,
         id: &NodeId,
@@ -36,7 +36,7 @@ impl Tree {
         Ok(())
     }
 
-    /// As `update_node`; an unknown node changes nothing.
+    /// Does what `update_node` does, but for an unknown id it changes nothing instead of failing.
     pub(crate) fn change_node<F: FnOnce(&mut NodeEdit) + Drop>(&mut self, id: &NodeId, change: F)
         requires { F.IsAlwaysCallable change }
         ensures { IsUpdatedAt (λ edit left. FnOnceReturnsAtMut F.FnOnce change edit tt left)
@@ -46,8 +46,8 @@ impl Tree {
         changes::update(&mut self.nodes, alloc, *id, change);
     }
 
-    /// Makes a change of a node. Refused as `UnknownNode`, and as `Memory` of an element, where the
-    /// change allocates memory.
+    /// Applies a change to an element; a node of another kind is unchanged. It fails with
+    /// `UnknownNode`, or with `Memory` for an element, when the change needs memory (see `Change`).
     pub fn try_change_of(&mut self, id: &NodeId, change: Change) -> Result<(), EditFault>
         ensures { Edits result self.old self.new (changing id.now change.entry) }
     {
@@ -58,7 +58,7 @@ impl Tree {
         }
     }
 
-    /// Makes a change that allocates no memory; an unknown number changes nothing.
+    /// Applies a change that allocates no memory. For an unknown id nothing changes.
     pub(crate) fn change_of(&mut self, id: &NodeId, change: Change)
         requires { may_allocate change ≡ false }
         ensures { self.new ≡ with_content id.now (changed change.entry) self.old }

@@ -1,4 +1,4 @@
-//! Copies of nodes with all that is below them, and of a whole tree.
+//! Copies of nodes with their subtrees, and of a whole tree.
 
 ghost use Rattle.std.specs.Prelude.{◌≡◌, [], IfErr, IfOk, MatchResult};
 ghost use Rattle.dom_nodes.specs.declared.fault.EditFault.TheVariants.{Memory};
@@ -15,26 +15,29 @@ use dom_nodes::node_id::NodeId;
 use std::alloc::Global;
 
 impl Tree {
-    /// Makes copies of nodes of another tree with all that is below them, and returns the copies'
-    /// numbers. Each is a run of its own. The copies are numbered from the old length on in walk
-    /// order, contents before children; copied contents are new ones. All are made or none. Refused
-    /// as `UnknownNode`; as `RootOrFragment`, where a document or a fragment is named; as
-    /// `TooManyNodes` or `Memory`.
+    /// Copies nodes of another tree with their subtrees, and returns the ids of the copies, in
+    /// order. Each copy is detached. The new nodes get consecutive ids in document order; template
+    /// contents are copied too, and come immediately after their element. It fails with
+    /// `UnknownNode` for an id that `other` doesn't have, with `RootOrFragment` for a document or a
+    /// fragment, and with `TooManyNodes` or `Memory`. After an error the tree is unchanged.
     pub fn merge(&mut self, other: &Tree, ids: &[NodeId]) -> Result<Vec<NodeId>, EditFault>
         ensures { Copies result self.old self.new other.now ids.now }
     {
         copies::merge(&mut self.nodes, &other.nodes, ids)
     }
 
-    /// Makes copies of nodes of this tree, as `merge` does of another's.
+    /// Copies nodes of this tree with their subtrees, and returns the ids of the copies, in order.
+    /// Each copy is detached. The new nodes get ids as in `merge`. It fails with `UnknownNode` for
+    /// an unknown id, with `RootOrFragment` for a document or a fragment, and with `TooManyNodes`
+    /// or `Memory`. After an error the tree is unchanged.
     pub fn copy_nodes(&mut self, ids: &[NodeId]) -> Result<Vec<NodeId>, EditFault>
         ensures { Copies result self.old self.new self.old ids.now }
     {
         copies::copy_nodes(&mut self.nodes, ids)
     }
 
-    /// A fragment: a tree whose root is a fragment, with an element `html` below it, and copies of
-    /// nodes of another tree as the children of that. Refused as `merge` is.
+    /// Returns a new tree whose root is a fragment with one child, an element `html`; the children
+    /// of that are copies of nodes of another tree. It fails as `merge` does.
     pub fn fragment_of(other: &Tree, ids: &[NodeId]) -> Result<Tree, EditFault>
         ensures ok { IfOk result (λ tree. tree ≡ fragment_of html_root_element other.now ids.now) }
         ensures cause { IfErr result
@@ -46,7 +49,8 @@ impl Tree {
         })
     }
 
-    /// The same tree: every node at its number as it is, cut-out ones too.
+    /// Returns a copy of the whole tree in which every node has the same id, detached nodes
+    /// included. It fails with `OutOfMemory` when memory is refused.
     pub fn try_clone(&self) -> Result<Tree, OutOfMemory>
         ensures { IfOk result (λ copy. copy ≡ self.now) }
     {
@@ -55,7 +59,7 @@ impl Tree {
     }
 }
 
-/// The same nodes.
+/// Returns a copy of the nodes.
 fn cloned(alloc: Global, nodes: &[TreeNode]) -> Result<Vec<TreeNode>, OutOfMemory>
     ensures { IfOk result (λ made. made.items ≡ nodes.now) }
 {
@@ -64,8 +68,9 @@ fn cloned(alloc: Global, nodes: &[TreeNode]) -> Result<Vec<TreeNode>, OutOfMemor
     Ok(made)
 }
 
-/// No nodes, with room for so many, and for half as many more where there is memory for them: a
-/// copy is mostly made to be changed, and then isn't moved by the first node that comes.
+/// Returns an empty vector with room for `count` nodes, and for half as many more if there is
+/// memory for them: a copy is mostly made to be changed, and then it needn't grow for the first new
+/// node.
 fn with_room(alloc: Global, count: usize) -> Result<Vec<TreeNode>, OutOfMemory>
     ensures { IfOk result (λ made. made.items ≡ []) }
 {
@@ -75,7 +80,7 @@ fn with_room(alloc: Global, count: usize) -> Result<Vec<TreeNode>, OutOfMemory>
     }
 }
 
-/// An element `html`. Refused as `Memory`.
+/// Returns the data of an element `html`. It fails with `Memory`.
 fn html_root_element(alloc: Global) -> Result<NodeData, EditFault>
     ensures { MatchResult result (λ made. made ≡ html_root_element) (λ fault. fault ≡ Memory) }
 {

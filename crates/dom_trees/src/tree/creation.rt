@@ -1,4 +1,4 @@
-//! New nodes.
+//! Making new nodes.
 
 ghost use Rattle.std.specs.Prelude.{◌≡◌, MatchResult};
 ghost use Rattle.dom_nodes.specs.declared.fault.EditFault.TheVariants.{Memory};
@@ -16,27 +16,28 @@ use dom_nodes::text::{RareText, Text};
 use std::alloc::Global;
 
 impl Tree {
-    /// Makes room for so many more nodes, if there is memory for them. A tree grows without it too,
-    /// but a tree whose size is known is then made in one piece.
+    /// Makes room for `additional` more nodes. A refusal of memory is ignored: the tree also grows
+    /// without it, but with it a tree of known size is allocated only once.
     pub fn reserve(&mut self, additional: usize)
         ensures { self.new ≡ self.old }
     {
         let _ = self.nodes.reserve(additional);
     }
 
-    /// Makes a node that stands alone, with the contents that it names. Refused as `BadContents`,
-    /// where these are no free fragment; as `TooManyNodes` or `Memory`.
+    /// Makes a detached node and returns its id. If the data has template contents, these become
+    /// the element's contents. It fails with `BadContents` when they aren't free (a fragment other
+    /// than the root that is no element's contents), and with `TooManyNodes` or `Memory`.
     pub fn create_node(&mut self, content: NodeData) -> Result<NodeId, EditFault>
         ensures { Makes result self.old self.new (making content) }
     {
         TreeNodeOps::create_node(&mut self.nodes, content)
     }
 
-    /// Makes a node as the last child of another. With the contents that it names it counts as
-    /// moved there. Refused as `UnknownNode`; as `NoChildrenHere` by the other one; as
-    /// `RootOrFragment`, where it is a document or a fragment; as `BadContents`, where its contents
-    /// are no free fragment, and `Cycle`, where they reach the other one; as `TooManyNodes` or
-    /// `Memory`.
+    /// Makes a node as the last child of the node `id` and returns the id of the new one. It fails
+    /// with `UnknownNode` when `id` is unknown; with `NoChildrenHere` when that node can't have
+    /// children; with `RootOrFragment` when the data is a document or a fragment; with
+    /// `BadContents` when its template contents aren't free; with `Cycle` when the node `id` is
+    /// inside these contents; with `TooManyNodes` or `Memory`.
     #[inline(always)]
     pub fn append_child_data_of(
         &mut self,
@@ -48,8 +49,9 @@ impl Tree {
         TreeNodeOps::append_child_data_of(&mut self.nodes, *id, content)
     }
 
-    /// Makes an HTML element of that local name, without prefix and attributes. It stands alone.
-    /// Refused as `TooManyNodes` or `Memory`.
+    /// Makes a detached HTML element with this local name, without prefix and attributes, and
+    /// returns its id. The name is taken as it is and isn't checked. It fails with `TooManyNodes`
+    /// or `Memory`.
     pub fn new_element(&mut self, name: &str) -> Result<NodeId, EditFault>
         ensures { Makes result self.old self.new (making (bare_element (html_name name.now))) }
     {
@@ -58,8 +60,8 @@ impl Tree {
         self.new_element_qualname(QualName::html(local))
     }
 
-    /// Makes an element of that name without attributes. It stands alone. Refused as
-    /// `TooManyNodes` or `Memory`.
+    /// Makes a detached element with this name, without attributes, and returns its id. It fails
+    /// with `TooManyNodes` or `Memory`.
     pub fn new_element_qualname(&mut self, name: QualName) -> Result<NodeId, EditFault>
         ensures { Makes result self.old self.new (making (bare_element name)) }
     {
@@ -67,7 +69,7 @@ impl Tree {
         self.create_node(NodeData::Element(Element::new(name, attrs, None, false)))
     }
 
-    /// Makes a text. It stands alone. Refused as `TooManyNodes` or `Memory`.
+    /// Makes a detached text node and returns its id. It fails with `TooManyNodes` or `Memory`.
     pub fn new_text(&mut self, text: &str) -> Result<NodeId, EditFault>
         ensures { Makes result self.old self.new (making (text_node text.now)) }
     {
@@ -77,7 +79,7 @@ impl Tree {
     }
 }
 
-/// The text. Refused as `Memory`.
+/// Returns a copy of the text. It fails with `Memory`.
 pub(crate) fn owned_text(alloc: Global, text: &str) -> Result<Text, EditFault>
     ensures { MatchResult result (λ made. made ≡ text.now) (λ fault. fault ≡ Memory) }
 {
@@ -87,7 +89,7 @@ pub(crate) fn owned_text(alloc: Global, text: &str) -> Result<Text, EditFault>
     }
 }
 
-/// Such a text behind a pointer.
+/// Returns a copy of the text behind a pointer. It fails with `Memory`.
 pub(crate) fn rare_text(alloc: Global, text: &str) -> Result<RareText, EditFault>
     ensures { MatchResult result (λ made. made ≡ text.now) (λ fault. fault ≡ Memory) }
 {
@@ -97,7 +99,7 @@ pub(crate) fn rare_text(alloc: Global, text: &str) -> Result<RareText, EditFault
     }
 }
 
-/// The local name. Refused as `Memory`.
+/// Returns the local name. It fails with `Memory`.
 fn local_name(alloc: Global, name: &str) -> Result<LocalName, EditFault>
     ensures { MatchResult result (λ made. made ≡ name.now) (λ fault. fault ≡ Memory) }
 {

@@ -1,22 +1,23 @@
-//! What a parser makes of a tree while it fills it: elements with their flags, texts that are
-//! joined to texts, attributes that are still missing.
+//! The calls with which a parser builds a tree: elements with flags, comments, doctypes, text that
+//! joins the text before it, and missing attributes.
 
 ghost use Rattle.dom_trees.specs.Edits.{Edits, Makes, appending, making};
-ghost use Rattle.dom_trees.specs.Growing.{adding_attrs, adding_text, making_element};
+ghost use Rattle.dom_trees.specs.TreeUnderConstruction.{adding_attrs, adding_text, making_element};
 ghost use Rattle.dom_trees.specs.NewNodes.{comment_node, doctype_node, instruction_node};
 
 use crate::checks::{check_known, check_open, check_room, target_of};
 use crate::tree::Tree;
 use crate::tree::creation::{owned_text, rare_text};
-use dom_links::gap::Gap;
+use dom_links::gap::InsertionPoint;
 use dom_links::ops::{add_text, changes, templates};
 use dom_nodes::fault::EditFault;
 use dom_nodes::name::QualName;
 use dom_nodes::node_data::{Attrs, Element, NodeData};
 use dom_nodes::node_id::NodeId;
 
-/// What an element is made with besides its name and attributes: contents of its own, as a template
-/// has, and the mark of a MathML annotation that holds HTML.
+/// What an element is made with besides name and attributes: template contents of its own, and the
+/// flag that a MathML `annotation-xml` element is an HTML integration point (HTML Standard,
+/// 13.2.6).
 #[derive(Clone, Copy, PartialEq, Eq, Debug, Drop)]
 pub struct ElementFlags {
     pub template: bool,
@@ -24,9 +25,9 @@ pub struct ElementFlags {
 }
 
 impl Tree {
-    /// Makes an element that stands alone. The contents of a template are a new fragment, whose
-    /// number is the next one; both are made or none. Refused as `TooManyNodes`, where there is no
-    /// number left, or no two for a template; as `Memory`.
+    /// Makes a detached element and returns its id. With the flag `template` it also makes a
+    /// fragment for its template contents, with the next id; either both are made or neither. It
+    /// fails with `TooManyNodes` when there are no ids left for them, and with `Memory`.
     pub fn create_element(
         &mut self,
         name: QualName,
@@ -47,7 +48,7 @@ impl Tree {
         templates::create_template(&mut self.nodes, NodeData::Element(element))
     }
 
-    /// Makes a comment. It stands alone. Refused as `TooManyNodes` or `Memory`.
+    /// Makes a detached comment and returns its id. It fails with `TooManyNodes` or `Memory`.
     pub fn new_comment(&mut self, text: &str) -> Result<NodeId, EditFault>
         ensures { Makes result self.old self.new (making (comment_node text.now)) }
     {
@@ -56,7 +57,8 @@ impl Tree {
         self.create_node(NodeData::Comment { contents })
     }
 
-    /// Makes a processing instruction. It stands alone. Refused as `TooManyNodes` or `Memory`.
+    /// Makes a detached processing instruction and returns its id. It fails with `TooManyNodes` or
+    /// `Memory`.
     pub fn new_instruction(&mut self, target: &str, contents: &str) -> Result<NodeId, EditFault>
         ensures { Makes result self.old self.new
             (making (instruction_node target.now contents.now)) }
@@ -67,8 +69,9 @@ impl Tree {
         self.create_node(NodeData::ProcessingInstruction { target, contents })
     }
 
-    /// Makes a doctype as the last child of a node. Refused as `UnknownNode`; as `NoChildrenHere`;
-    /// as `TooManyNodes` or `Memory`.
+    /// Makes a doctype as the last child of a node and returns its id. It fails with `UnknownNode`,
+    /// with `NoChildrenHere` when the node can't have children, and with `TooManyNodes` or
+    /// `Memory`.
     pub fn append_doctype_of(
         &mut self,
         id: &NodeId,
@@ -93,10 +96,11 @@ impl Tree {
         )
     }
 
-    /// Puts a text at a gap. Where a text stands right before the gap, that one grows; else a new
-    /// one is made there. Refused as `UnknownNode`; as `NoChildrenHere` or `RootOrFragment` by the
-    /// node that the gap names; as `TooManyNodes`, where a new text is to be made; as `Memory`.
-    pub fn add_text_at(&mut self, gap: Gap, text: &str) -> Result<(), EditFault>
+    /// Adds text at an insertion point: the text node immediately before it grows; if there is
+    /// none, a new text node is made there (HTML Standard, 13.2.6.1, "insert a character"). It
+    /// fails with `UnknownNode`; with `NoChildrenHere` or `RootOrFragment` when nodes can't be put
+    /// there; with `TooManyNodes` when a new text node is needed; and with `Memory`.
+    pub fn add_text_at(&mut self, gap: InsertionPoint, text: &str) -> Result<(), EditFault>
         ensures { Edits result self.old self.new (adding_text gap text.now) }
     {
         check_known(&self.nodes, target_of(&gap))?;
@@ -104,9 +108,9 @@ impl Tree {
         add_text::add_text(&mut self.nodes, gap, text)
     }
 
-    /// Adds the attributes to an element whose names it lacks, at the end. Names are the same where
-    /// prefix, namespace and local name are. A node that is no element stays. Refused as
-    /// `UnknownNode`, and as `Memory` of an element.
+    /// Appends the attributes whose names an element doesn't have. Two names are equal when prefix,
+    /// namespace and local name are. A node of another kind is unchanged. It fails with
+    /// `UnknownNode`, or with `Memory` for an element.
     pub fn add_missing_attrs_of(&mut self, id: &NodeId, attrs: Attrs) -> Result<(), EditFault>
         ensures { Edits result self.old self.new (adding_attrs id.now attrs) }
     {

@@ -1,4 +1,4 @@
-//! Copies of nodes that go to a place in the tree.
+//! Inserting copies of nodes at a place in the tree.
 
 ghost use Rattle.dom_trees.specs.Edits.{Edits, inserting};
 
@@ -10,10 +10,12 @@ use dom_nodes::fault::EditFault;
 use dom_nodes::node_id::NodeId;
 
 impl Tree {
-    /// Makes copies of nodes of another tree, as `merge` does, and puts them, in their order, at a
-    /// place given by a node. All is done or nothing, also where there is nothing to copy.
-    /// Refused as `UnknownNode`; as `NoChildrenHere`, where the place is among the children of a
-    /// node that has none; as `RootOrFragment` by the node beside the place; and as `merge` is.
+    /// Copies nodes of another tree, as `merge` does, and inserts the copies, in their order, at a
+    /// place relative to the node `id`. It fails with `UnknownNode` when `id` is unknown; with
+    /// `NoChildrenHere` when the place is among the children of a node that can't have any; with
+    /// `RootOrFragment` when it is beside the root, a document or a fragment; and as `merge` does.
+    /// These tests are made even when there is nothing to copy. After an error the tree is
+    /// unchanged.
     pub fn merge_at(
         &mut self,
         id: &NodeId,
@@ -27,7 +29,8 @@ impl Tree {
         insertions::merge_at(&mut self.nodes, *id, place, &other.nodes, ids)
     }
 
-    /// Makes copies of this tree's nodes and puts them at a place, as `merge_at` does another's.
+    /// Copies nodes of this tree and inserts the copies, in their order, at a place relative to the
+    /// node `id`. It fails as `merge_at` does, and then the tree is unchanged.
     pub fn copy_at(&mut self, id: &NodeId, place: Place, ids: &[NodeId]) -> Result<(), EditFault>
         ensures { Edits result self.old self.new (inserting self.old ids.now place id.now) }
     {

@@ -1,23 +1,25 @@
-//! The moves: what is moved is cut out of its list, and put at a gap or left a run of its own. They
-//! take no memory.
+//! Moves of nodes: they are detached, and then put at an insertion point or left detached. The
+//! moves allocate no memory. When one fails, the tree is unchanged.
 
-ghost use Rattle.dom_links.specs.declared.gap.Gap.TheVariants.{After, Before, EndOf, FrontOf};
-ghost use Rattle.dom_links.specs.declared.gap.Moving.TheVariants.{Node, WholeList, WithLater};
+ghost use Rattle.dom_links.specs.declared.gap.InsertionPoint.TheVariants.{After, Before, EndOf, FrontOf};
+ghost use Rattle.dom_links.specs.declared.gap.MovedNodes.TheVariants.{Node, WholeList, WithLater};
 ghost use Rattle.dom_trees.specs.Edits.{Edits, moving_to, removing, removing_children, reparenting};
 ghost use Rattle.dom_trees.specs.Edits.{replacing, unwrapping, wrapping};
 
 use crate::checks::{check_known, check_move, check_reparent, check_wrap};
 use crate::tree::Tree;
-use dom_links::gap::{Gap, Moving};
+use dom_links::gap::{InsertionPoint, MovedNodes};
 use dom_links::ops::{TreeNodeOps, lists};
 use dom_nodes::fault::EditFault;
 use dom_nodes::node_id::NodeId;
 
 impl Tree {
-    /// Moves nodes to a gap. Refused as `UnknownNode`; as `NoChildrenHere`, where the gap is among
-    /// the children of a node that has none; as `RootOrFragment` by the node beside the gap or a
-    /// moved node; as `Cycle` by a moved node.
-    pub fn move_to(&mut self, gap: Gap, moving: Moving) -> Result<(), EditFault>
+    /// Moves nodes to an insertion point. It fails with `UnknownNode` when the target or the moved
+    /// node is unknown; with `NoChildrenHere` when the target would get children and can't have
+    /// any; with `RootOrFragment` when the target would get siblings and is the root, a document or
+    /// a fragment, or when a moved node is one of these; with `Cycle` when the target is a moved
+    /// node or inside one, by children or template contents.
+    pub fn move_to(&mut self, gap: InsertionPoint, moving: MovedNodes) -> Result<(), EditFault>
         ensures { Edits result self.old self.new (moving_to gap moving) }
     {
         check_move(&self.nodes, &gap, &moving)?;
@@ -25,53 +27,61 @@ impl Tree {
         Ok(())
     }
 
-    /// Moves a node to the end of the children of another.
+    /// Moves a node to the end of the children of the node `id`. It fails as `move_to` does.
     pub fn append_child_of(&mut self, id: &NodeId, new_child: &NodeId) -> Result<(), EditFault>
         ensures { Edits result self.old self.new (moving_to (EndOf id.now) (Node new_child.now)) }
     {
-        self.move_to(Gap::EndOf(*id), Moving::Node(*new_child))
+        self.move_to(InsertionPoint::EndOf(*id), MovedNodes::Node(*new_child))
     }
 
-    /// Moves a node to the front of the children of another.
+    /// Moves a node to the front of the children of the node `id`. It fails as `move_to` does.
     pub fn prepend_child_of(&mut self, id: &NodeId, new_child: &NodeId) -> Result<(), EditFault>
         ensures { Edits result self.old self.new (moving_to (FrontOf id.now) (Node new_child.now)) }
     {
-        self.move_to(Gap::FrontOf(*id), Moving::Node(*new_child))
+        self.move_to(InsertionPoint::FrontOf(*id), MovedNodes::Node(*new_child))
     }
 
-    /// Moves a node to the place right before another.
+    /// Moves a node to the place immediately before the node `id`. It fails as `move_to` does.
     pub fn insert_before_of(&mut self, id: &NodeId, new_sibling: &NodeId) -> Result<(), EditFault>
         ensures { Edits result self.old self.new
             (moving_to (Before id.now) (Node new_sibling.now)) }
     {
-        self.move_to(Gap::Before(*id), Moving::Node(*new_sibling))
+        self.move_to(InsertionPoint::Before(*id), MovedNodes::Node(*new_sibling))
     }
 
-    /// Moves a node to the place right after another.
+    /// Moves a node to the place immediately after the node `id`. It fails as `move_to` does.
     pub fn insert_after_of(&mut self, id: &NodeId, new_sibling: &NodeId) -> Result<(), EditFault>
         ensures { Edits result self.old self.new (moving_to (After id.now) (Node new_sibling.now)) }
     {
-        self.move_to(Gap::After(*id), Moving::Node(*new_sibling))
+        self.move_to(InsertionPoint::After(*id), MovedNodes::Node(*new_sibling))
     }
 
-    /// Moves a node and its later siblings to the end of the children of another.
+    /// Moves a node and its later siblings to the end of the children of the node `id`. It fails as
+    /// `move_to` does.
     pub fn append_children_of(&mut self, id: &NodeId, new_child: &NodeId) -> Result<(), EditFault>
         ensures { Edits result self.old self.new
             (moving_to (EndOf id.now) (WithLater new_child.now)) }
     {
-        self.move_to(Gap::EndOf(*id), Moving::WithLater(*new_child))
+        self.move_to(
+            InsertionPoint::EndOf(*id),
+            MovedNodes::WithLater(*new_child),
+        )
     }
 
-    /// Moves the whole list of a node, it and all its siblings, to the front of the children of
-    /// another.
+    /// Moves a node and all its siblings to the front of the children of the node `id`. It fails as
+    /// `move_to` does.
     pub fn prepend_children_of(&mut self, id: &NodeId, new_child: &NodeId) -> Result<(), EditFault>
         ensures { Edits result self.old self.new
             (moving_to (FrontOf id.now) (WholeList new_child.now)) }
     {
-        self.move_to(Gap::FrontOf(*id), Moving::WholeList(*new_child))
+        self.move_to(
+            InsertionPoint::FrontOf(*id),
+            MovedNodes::WholeList(*new_child),
+        )
     }
 
-    /// Moves a node and its later siblings to the place right before another.
+    /// Moves a node and its later siblings to the place immediately before the node `id`. It fails
+    /// as `move_to` does.
     pub fn insert_siblings_before(
         &mut self,
         id: &NodeId,
@@ -80,10 +90,14 @@ impl Tree {
         ensures { Edits result self.old self.new
             (moving_to (Before id.now) (WithLater new_sibling.now)) }
     {
-        self.move_to(Gap::Before(*id), Moving::WithLater(*new_sibling))
+        self.move_to(
+            InsertionPoint::Before(*id),
+            MovedNodes::WithLater(*new_sibling),
+        )
     }
 
-    /// Moves a node and its later siblings to the place right after another.
+    /// Moves a node and its later siblings to the place immediately after the node `id`. It fails
+    /// as `move_to` does.
     pub fn insert_siblings_after(
         &mut self,
         id: &NodeId,
@@ -92,10 +106,14 @@ impl Tree {
         ensures { Edits result self.old self.new
             (moving_to (After id.now) (WithLater new_sibling.now)) }
     {
-        self.move_to(Gap::After(*id), Moving::WithLater(*new_sibling))
+        self.move_to(
+            InsertionPoint::After(*id),
+            MovedNodes::WithLater(*new_sibling),
+        )
     }
 
-    /// Cuts a node out of its list. It is then a run of its own. Only an `UnknownNode` is refused.
+    /// Detaches a node from its parent and its siblings. A node that is detached already stays as
+    /// it is. It fails with `UnknownNode` only.
     pub fn remove_from_parent(&mut self, id: &NodeId) -> Result<(), EditFault>
         ensures { Edits result self.old self.new (removing id.now) }
     {
@@ -104,8 +122,8 @@ impl Tree {
         Ok(())
     }
 
-    /// Cuts the children of a node out. They are then a run of their own. Only an `UnknownNode` is
-    /// refused.
+    /// Detaches the children of a node. They stay siblings of each other. It fails with
+    /// `UnknownNode` only.
     pub fn remove_children_of(&mut self, id: &NodeId) -> Result<(), EditFault>
         ensures { Edits result self.old self.new (removing_children id.now) }
     {
@@ -114,9 +132,10 @@ impl Tree {
         Ok(())
     }
 
-    /// Moves the children of a node to the end of those of another; without one they are then a run
-    /// of their own. Refused as `UnknownNode`; as `NoChildrenHere` by the other one, also where
-    /// there are no children to move; as `Cycle` by one of the children.
+    /// Moves the children of a node to the end of the children of `new_parent`. Without a new
+    /// parent they are detached, and stay siblings of each other. It fails with `UnknownNode`; with
+    /// `NoChildrenHere` when the new parent can't have children, even if there are none to move;
+    /// with `Cycle` when the new parent is one of the children or inside one.
     pub fn reparent_children_of(
         &mut self,
         id: &NodeId,
@@ -130,17 +149,23 @@ impl Tree {
         Ok(())
     }
 
-    /// Puts a node right before another, and cuts that one out. Refused where the first step is.
+    /// Moves a node to the place immediately before the node `id`, and then detaches that one. It
+    /// fails when the first step does, with the faults of `move_to`.
     pub fn replace_with(&mut self, id: &NodeId, new_node: &NodeId) -> Result<(), EditFault>
         ensures { Edits result self.old self.new (replacing id.now new_node.now) }
     {
-        check_move(&self.nodes, &Gap::Before(*id), &Moving::Node(*new_node))?;
+        check_move(
+            &self.nodes,
+            &InsertionPoint::Before(*id),
+            &MovedNodes::Node(*new_node),
+        )?;
         lists::replace_with(&mut self.nodes, *id, *new_node);
         Ok(())
     }
 
-    /// Puts the wrapper right before a node, and then the node to the end of the children of the
-    /// wrapper. Refused where one of the steps is.
+    /// Moves `wrapper` to the place immediately before the node `id`, and then that node to the end
+    /// of the wrapper's children. It fails with the faults of `move_to` when one of the steps isn't
+    /// allowed.
     pub fn wrap_node(&mut self, id: &NodeId, wrapper: &NodeId) -> Result<(), EditFault>
         ensures { Edits result self.old self.new (wrapping id.now wrapper.now) }
     {
@@ -149,9 +174,8 @@ impl Tree {
         Ok(())
     }
 
-    /// Where the parent of a node and its parent are elements, puts the parent's children right
-    /// before the parent and cuts the parent out. Else nothing changes. Only an `UnknownNode` is
-    /// refused.
+    /// Removes the parent of a node and keeps the parent's children in its place. If the parent or
+    /// the grandparent is no element, nothing changes. It fails with `UnknownNode` only.
     pub fn unwrap_node(&mut self, id: &NodeId) -> Result<(), EditFault>
         ensures { Edits result self.old self.new (unwrapping id.now) }
     {

@@ -1,4 +1,4 @@
-//! Reading calls by number. An unknown number reads as nothing or the default.
+//! Queries by node id. For an unknown id the answer is nothing or the default.
 
 ghost use Rattle.std.specs.Prelude.{◌≡◌, ◌<◌, ◌≤◌, ◌⊎◌, MatchOption, length, slice_get};
 ghost use Rattle.std.specs.Fn.{FnOnceReturnsAt, FnOnceReturnsAtPair};
@@ -12,7 +12,7 @@ use dom_nodes::node_data::{Element, NodeData, TreeNode};
 use dom_nodes::node_id::NodeId;
 
 impl Tree {
-    /// What the closure returns for the node.
+    /// Calls the closure with the node and returns its result, or `None` for an unknown id.
     pub fn query_node<T, F: FnOnce(&TreeNode) -> T + Drop>(&self, id: &NodeId, f: F) -> Option<T>
         requires { F.IsAlwaysCallable f }
         ensures { MatchOption result (length self.now.content ≤ id.now)
@@ -22,7 +22,7 @@ impl Tree {
         Some(f(node))
     }
 
-    /// What the closure returns for the node, or the default.
+    /// Calls the closure with the node and returns its result, or `default` for an unknown id.
     pub fn query_node_or<T: Drop, F: FnOnce(&TreeNode) -> T + Drop>(
         &self,
         id: &NodeId,
@@ -40,7 +40,7 @@ impl Tree {
         }
     }
 
-    /// What the closure returns for two nodes; nothing where one is unknown.
+    /// Calls the closure with two nodes and returns its result, or `None` when an id is unknown.
     pub fn compare_node<T, F: FnOnce(&TreeNode, &TreeNode) -> T + Drop>(
         &self,
         a: &NodeId,
@@ -57,14 +57,16 @@ impl Tree {
         Some(f(first, second))
     }
 
-    /// The name of the element that the node is.
+    /// Returns the element's name with its prefix and namespace, or `None` when the node is no
+    /// element.
     pub fn get_name(&self, id: &NodeId) -> Option<NameRef<'_>>
         ensures { result ≡ node_qual_name self.now id.now }
     {
         Some(self.element(id)?.name())
     }
 
-    /// Whether the node is an element that is flagged as a MathML annotation's integration point.
+    /// Returns whether the node is an element with the flag that a MathML `annotation-xml` element
+    /// is an HTML integration point.
     pub fn is_mathml_annotation_xml_integration_point(&self, node_id: &NodeId) -> bool
         ensures { result ≡ is_integration_point self.now node_id.now }
     {
@@ -73,14 +75,14 @@ impl Tree {
         )
     }
 
-    /// What the node is.
+    /// Returns the node's data, or `None` for an unknown id.
     pub(crate) fn content(&self, id: &NodeId) -> Option<&NodeData>
         ensures { option_copied result ≡ slice_get self.now.content id.now }
     {
         Some(&self.tree_node(id)?.content)
     }
 
-    /// The element that the node is.
+    /// Returns the element's data, or `None` when the node is no element.
     pub(crate) fn element(&self, id: &NodeId) -> Option<&Element>
         ensures { option_copied result ≡ node_element self.now id.now }
     {

@@ -1,11 +1,11 @@
-//! New elements with contents.
+//! Making elements with template contents.
 
 ghost use Rattle.std.specs.Prelude.{◌≡◌, ◌+◌, IfOk, length};
 ghost use Rattle.dom_trees.specs.Edits.{Edits, appending_template};
 
 use crate::checks::{check_known, check_open};
 use crate::tree::Tree;
-use dom_links::gap::Gap;
+use dom_links::gap::InsertionPoint;
 use dom_links::ops::templates;
 use dom_nodes::fault::EditFault;
 use dom_nodes::name::QualName;
@@ -13,10 +13,11 @@ use dom_nodes::node_data::{Attrs, Element, NodeData};
 use dom_nodes::node_id::NodeId;
 
 impl Tree {
-    /// Makes an element with contents as the last child of a node, and returns the numbers of both.
-    /// The contents are a new fragment, whose number is the next one. Both are made or none.
-    /// Refused as `UnknownNode`; as `NoChildrenHere`, where the node has no children; as
-    /// `TooManyNodes`, where there are no two numbers left; as `Memory`.
+    /// Makes an element with template contents as the last child of a node, and returns the ids of
+    /// the element and of the contents. The contents are a new fragment with the id after that of
+    /// the element; either both are made or neither. It fails with `UnknownNode`, with
+    /// `NoChildrenHere` when the node can't have children, with `TooManyNodes` when there are no
+    /// two ids left, and with `Memory`.
     pub fn append_template_of(
         &mut self,
         id: &NodeId,
@@ -28,7 +29,7 @@ impl Tree {
         ensures contents { IfOk result (λ made. made.1 ≡ length self.old.content + 1) }
     {
         check_known(&self.nodes, *id)?;
-        check_open(&self.nodes, &Gap::EndOf(*id))?;
+        check_open(&self.nodes, &InsertionPoint::EndOf(*id))?;
         let Some(contents) = NodeId::new(self.nodes.len() + 1) else {
             return Err(EditFault::TooManyNodes);
         };

@@ -1,4 +1,4 @@
-//! The texts of a tree, changed by number.
+//! Edits of the texts of a tree, by node id.
 
 ghost use Rattle.std.specs.Prelude.{◌≡◌, map};
 ghost use Rattle.dom_links.specs.Stripped.{stripped};
@@ -11,9 +11,9 @@ use dom_nodes::fault::EditFault;
 use dom_nodes::node_id::NodeId;
 
 impl Tree {
-    /// Puts one text in the place of an element's children, or of a text's contents; any other node
-    /// stays. Refused as `UnknownNode`; as `TooManyNodes` of an element; as `Memory` of an element
-    /// or a text.
+    /// Replaces the children of an element by one text node, or the contents of a text node. Other
+    /// nodes are left alone. It fails with `UnknownNode`; with `TooManyNodes` for an element; with
+    /// `Memory` for an element or a text.
     pub fn set_text_of(&mut self, id: &NodeId, text: &str) -> Result<(), EditFault>
         ensures { Edits result self.old self.new (setting_text id.now text.now) }
     {
@@ -21,8 +21,9 @@ impl Tree {
         TreeNodeOps::set_text(&mut self.nodes, *id, text)
     }
 
-    /// Joins each row of texts below the node: the first that is not empty holds them all, and the
-    /// others are cut out and hold nothing. Refused as `UnknownNode` or `Memory`.
+    /// Joins adjacent text nodes among the node's descendants. In each sequence of adjacent texts
+    /// the first one that isn't empty gets the text of all; the others are detached and emptied. It
+    /// fails with `UnknownNode` or `Memory`.
     pub fn normalize_of(&mut self, id: &NodeId) -> Result<(), EditFault>
         ensures { Edits result self.old self.new (normalizing id.now) }
     {
@@ -31,8 +32,8 @@ impl Tree {
         TreeNodeOps::normalize(alloc, &mut self.nodes, *id)
     }
 
-    /// Replaces each element below the node whose local name is one of the names by its children.
-    /// The node itself stays; an unknown number changes nothing. Takes no memory.
+    /// Replaces each element below the node whose local name is in `names` by its children. The
+    /// node itself stays. It allocates no memory. For an unknown id nothing changes.
     pub fn strip_elements_of(&mut self, id: &NodeId, names: &[&str])
         ensures { self.new ≡ stripped (map (λ name. name.now) names.now) id.now self.old }
     {

@@ -1,4 +1,4 @@
-//! Attributes.
+//! The attribute states (13.2.5.32 to 13.2.5.39).
 
 ghost use Rattle.std.specs.Prelude.{◌≡◌, [], string_bytes};
 
@@ -33,7 +33,7 @@ impl Tokenizer {
         }
     }
 
-    /// Begins an attribute with the first character of its name.
+    /// Starts an attribute with the first character of its name.
     fn begin_attr_name(&mut self, c: char) -> Progress {
         self.begin_attr()?;
         self.attr_name(c)
@@ -51,8 +51,8 @@ impl Tokenizer {
         }
     }
 
-    /// A character behind the name of an attribute. An earlier attribute of that name is noted
-    /// here, before the value is read.
+    /// Processes the character after an attribute's name. A repeated name is reported here, before
+    /// the value is read.
     fn attr_name_ends(&mut self, c: char) -> Progress {
         self.note_repeated_name()?;
         match c {
@@ -63,7 +63,7 @@ impl Tokenizer {
         }
     }
 
-    /// Notes an attribute whose name an earlier one has, where errors are collected.
+    /// Reports an attribute whose name an earlier one has, if errors are collected.
     fn note_repeated_name(&mut self) -> Result<(), AllocError> {
         if self.errors.is_some() && self.tag.repeats_name(self.alloc)? {
             self.error(ParseError::DuplicateAttribute);
@@ -139,7 +139,7 @@ impl Tokenizer {
         Ok(())
     }
 
-    /// The attribute that was read is the tag's, unless one of that name is.
+    /// Adds the finished attribute to the tag, unless the tag has one with that name.
     pub(super) fn finish_attr(&mut self) -> Result<(), AllocError>
         ensures only_tag { self.new ≡ record self.old { tag = self.new.tag } }
         ensures none { string_bytes self.old.tag.attr_name ≡ [] → self.new ≡ self.old }

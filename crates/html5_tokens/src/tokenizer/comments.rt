@@ -1,19 +1,19 @@
-//! Comments.
+//! The comment states (13.2.5.41 and 13.2.5.43 to 13.2.5.52).
 
 use super::state::{CommentState, Place};
 use super::{Progress, State, Tokenizer};
 use crate::parse_error::ParseError;
 use crate::token::TokenKind;
 
-/// What a character in a comment comes to.
+/// What a character in a comment does.
 #[derive(Clone, Copy, Drop)]
 enum CommentStep {
     Ends,
-    /// The character is a part of the comment.
+    /// The character is part of the comment.
     Letter,
-    /// The text is a part of the comment, and may be the beginning of its end.
+    /// The text is part of the comment, and what follows may be its end.
     Then(&'static str, CommentState),
-    /// The text was no part of an end, and the comment goes on with the character.
+    /// The text read was not the end of the comment, which continues with the character.
     Again(&'static str),
 }
 
@@ -49,7 +49,7 @@ fn comment_step(state: CommentState, c: char) -> CommentStep {
     }
 }
 
-/// What was read of an end of the comment.
+/// Returns the part of a comment's end that was read in this state.
 fn begun_end(state: CommentState) -> &'static str {
     match state {
         CommentState::StartDash | CommentState::LessThanBangDash | CommentState::EndDash => "-",
@@ -59,7 +59,7 @@ fn begun_end(state: CommentState) -> &'static str {
     }
 }
 
-/// The parse error that a character in a comment is.
+/// Returns the parse error for a character in a comment, if it is one.
 fn comment_error(state: CommentState, c: char) -> Option<ParseError> {
     match (state, c) {
         (CommentState::Start | CommentState::StartDash, '>') => {
@@ -85,14 +85,14 @@ impl Tokenizer {
         }
     }
 
-    /// Goes on in a state, with a text that is a part of the comment.
+    /// Appends a text to the comment and changes to a state.
     fn comment_then(&mut self, text: &str, state: CommentState) -> Progress {
         let put = self.comment.push_str(text);
         self.keep(put);
         self.then(State::Comment(state))
     }
 
-    /// What was read of an end is a part of the comment, and it goes on with this character.
+    /// Appends the text of what was not an end to the comment, and continues with this character.
     fn comment_again(&mut self, text: &str, c: char) -> Progress {
         let put = self.comment.push_str(text);
         self.keep(put);
@@ -106,7 +106,7 @@ impl Tokenizer {
         }
     }
 
-    /// Hands out the comment that was read.
+    /// Ends the comment.
     pub(super) fn emit_comment(&mut self) -> Progress {
         self.state = State::Data;
         Ok(Some(TokenKind::Comment))

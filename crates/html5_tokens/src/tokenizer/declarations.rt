@@ -1,11 +1,12 @@
-//! What stands behind `<!`: a comment, a doctype or a CDATA section.
+//! The markup declaration open state (13.2.5.42): after `<!` comes a comment, a doctype or a CDATA
+//! section.
 
 use super::state::{CdataState, CommentState, DoctypeState, Seen};
 use super::{Progress, State, Tokenizer, push};
 use crate::parse_error::ParseError;
 use crate::token::Doctype;
 
-/// Whether a word goes on with a letter behind the first so many.
+/// Returns whether the letter of the word at index `count` is this one.
 pub fn goes_on(word: &[u8], count: usize, letter: char) -> bool {
     match word.get(count) {
         Some(next) => char::from(*next) == letter,
@@ -13,7 +14,7 @@ pub fn goes_on(word: &[u8], count: usize, letter: char) -> bool {
     }
 }
 
-/// The state behind what was read and one more character.
+/// Returns the state after what was read and one more character.
 fn state_behind(seen: Seen, c: char) -> State {
     match (seen, c) {
         (Seen::Nothing, '-') => State::Declaration(Seen::Dash),
@@ -59,7 +60,7 @@ impl Tokenizer {
         }
     }
 
-    /// A CDATA section in foreign content, and else a bogus comment.
+    /// Starts a CDATA section in foreign content, and a bogus comment elsewhere.
     fn cdata_begins(&mut self, c: char) -> Progress {
         if self.in_foreign {
             return self.then(State::Cdata(CdataState::Section));

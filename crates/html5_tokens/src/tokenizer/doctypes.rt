@@ -1,4 +1,4 @@
-//! Doctypes.
+//! The doctype states (13.2.5.53 to 13.2.5.68).
 
 use super::declarations::goes_on;
 use super::state::{DoctypeState, Id, Quote};
@@ -8,16 +8,16 @@ use crate::token::TokenKind;
 use std::alloc::AllocError;
 use std::mem;
 
-/// The errors that an identifier of a doctype may have.
+/// The parse errors of a public or a system identifier.
 #[derive(Clone, Copy, Drop)]
 struct IdErrors {
     /// The doctype ends before the identifier.
     missing: ParseError,
-    /// No quote stands before the identifier.
+    /// There is no quote before the identifier.
     missing_quote: ParseError,
-    /// The identifier stands right behind the word.
+    /// There is no whitespace between the keyword and the identifier.
     missing_whitespace: ParseError,
-    /// The doctype ends in the identifier.
+    /// The doctype ends inside the identifier.
     abrupt: ParseError,
 }
 
@@ -44,7 +44,7 @@ impl Id {
     }
 }
 
-/// The parse error that a character in a doctype is.
+/// Returns the parse error for a character in a doctype, if it is one.
 fn doctype_error(state: DoctypeState, c: char) -> Option<ParseError> {
     match state {
         DoctypeState::Keyword(id, count) if !goes_on(keyword(id), count, c.to_ascii_lowercase()) =>
@@ -57,7 +57,7 @@ fn doctype_error(state: DoctypeState, c: char) -> Option<ParseError> {
     }
 }
 
-/// The parse error that the end of a doctype is.
+/// Returns the parse error for the end of a doctype in this state, if it is one.
 fn error_before_end(state: DoctypeState) -> Option<ParseError> {
     match state {
         DoctypeState::Begin | DoctypeState::BeforeName => Some(ParseError::MissingDoctypeName),
@@ -66,7 +66,8 @@ fn error_before_end(state: DoctypeState) -> Option<ParseError> {
     }
 }
 
-/// The parse error that a character between the parts of a doctype is, which is no space.
+/// Returns the parse error for a character between the parts of a doctype that is not whitespace,
+/// if it is one.
 fn error_outside(state: DoctypeState, c: char) -> Option<ParseError> {
     match state {
         DoctypeState::Begin => Some(ParseError::MissingWhitespaceBeforeDoctypeName),
@@ -94,7 +95,7 @@ fn is_quote(c: char) -> bool {
     matches!(c, '"' | '\'')
 }
 
-/// The word that stands before an identifier.
+/// Returns the keyword before an identifier.
 fn keyword(id: Id) -> &'static [u8] {
     match id {
         Id::Public => b"public",
@@ -102,7 +103,7 @@ fn keyword(id: Id) -> &'static [u8] {
     }
 }
 
-/// Whether a doctype that ends here has the document in quirks mode.
+/// Returns whether a doctype that ends in this state sets the force-quirks flag.
 fn breaks(state: DoctypeState) -> bool {
     matches!(
         state,
@@ -113,7 +114,7 @@ fn breaks(state: DoctypeState) -> bool {
     )
 }
 
-/// The state behind white space.
+/// Returns the state after whitespace.
 fn behind_space(state: DoctypeState) -> DoctypeState {
     match state {
         DoctypeState::Begin => DoctypeState::BeforeName,
@@ -138,7 +139,7 @@ impl Tokenizer {
         }
     }
 
-    /// A character between the parts of a doctype, or of its name.
+    /// Processes a character of a doctype's name, or between its parts.
     fn doctype_goes_on(&mut self, state: DoctypeState, c: char) -> Progress {
         match (state, c) {
             (DoctypeState::Begin | DoctypeState::BeforeName, _) => {
@@ -183,7 +184,7 @@ impl Tokenizer {
         self.then(State::Doctype(state))
     }
 
-    /// Begins an identifier with its quote.
+    /// Starts an identifier at its quote.
     fn begin_id(&mut self, id: Id, c: char) -> Progress {
         let quote = match c {
             '"' => Quote::Double,
@@ -220,7 +221,7 @@ impl Tokenizer {
         }
     }
 
-    /// Puts a run of characters behind what was read of an identifier.
+    /// Appends a run of characters to an identifier.
     pub(super) fn push_id(&mut self, id: Id, run: &str) -> Result<(), AllocError> {
         let text = match id {
             Id::Public => &mut self.doctype.public_id,
@@ -232,7 +233,7 @@ impl Tokenizer {
         }
     }
 
-    /// What goes on to the `>` of the doctype, which may not be well formed.
+    /// Reads on to the `>` of a malformed doctype. `breaks` sets the force-quirks flag.
     fn bogus_doctype(&mut self, c: char, breaks: bool) -> Progress {
         if c == '>' {
             return self.emit_doctype(breaks);
@@ -244,7 +245,7 @@ impl Tokenizer {
         self.then(State::Doctype(DoctypeState::Bogus))
     }
 
-    /// Hands out the doctype that was read; where it breaks the document is in quirks mode.
+    /// Ends the doctype. `breaks` sets the force-quirks flag.
     fn emit_doctype(&mut self, breaks: bool) -> Progress {
         if breaks {
             self.doctype.force_quirks = true;

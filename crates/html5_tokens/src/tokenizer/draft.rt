@@ -9,8 +9,8 @@ use crate::token::{Tag, TagKind};
 use std::alloc::{AllocError, Global};
 use std::mem;
 
-/// A tag as far as it is read. Its names are as they are written; an attribute is being read where
-/// its name isn't empty.
+/// A tag as far as it is read, with names as in the source. An attribute is being read if
+/// `attr_name` is not empty.
 #[derive(Drop)]
 pub struct TagDraft {
     pub kind: TagKind,
@@ -24,7 +24,7 @@ pub struct TagDraft {
 impl TagDraft {
     ghost use Rattle.html5_tokens.specs.Drafts.{IsTagOf};
 
-    /// No tag.
+    /// Returns a draft without a tag.
     pub fn new(alloc: Global) -> TagDraft {
         TagDraft {
             kind: TagKind::Start,
@@ -36,7 +36,7 @@ impl TagDraft {
         }
     }
 
-    /// Begins a tag.
+    /// Starts a tag of this kind, without a name and attributes.
     pub fn begin(&mut self, alloc: Global, kind: TagKind)
         ensures kind { self.new.kind ≡ kind }
         ensures self_closing { self.new.self_closing ≡ false }
@@ -54,14 +54,14 @@ impl TagDraft {
         self.attr_value.clear();
     }
 
-    /// Whether an earlier attribute has the name of the one that is being read.
+    /// Returns whether an earlier attribute has the name of the one that is being read.
     pub fn repeats_name(&self, alloc: Global) -> Result<bool, AllocError> {
         let mut name = String::from_str(alloc, self.attr_name.as_str())?;
         name.make_ascii_lowercase();
         Ok(self.attrs.has(name.as_str()))
     }
 
-    /// Ends the attribute that is being read, which is dropped where an earlier one has its name.
+    /// Finishes the attribute that is being read; it is dropped if an earlier one has its name.
     pub fn finish_attr(&mut self, alloc: Global) -> Result<(), AllocError>
         ensures { string_bytes self.old.attr_name ≡ [] → self.new ≡ self.old }
     {
@@ -76,8 +76,8 @@ impl TagDraft {
         added
     }
 
-    /// Puts the tag that was begun there, if one was, and returns whether one was. None is begun
-    /// then. The memory of the tag that was there serves for those to come.
+    /// Finishes the tag, stores it in `ended`, and returns `true`; returns `false` if no tag was
+    /// started. The memory of the earlier tag in `ended` is reused.
     pub fn finish(&mut self, alloc: Global, ended: &mut Option<Tag>) -> bool
         ensures { 0 < length (string_bytes self.old.name) →
             (result ≡ true) × IsSomeAnd ended.new (IsTagOf self.old) }
@@ -93,7 +93,7 @@ impl TagDraft {
         true
     }
 
-    /// Puts the tag where another one was.
+    /// Stores the tag in place of an earlier one.
     fn finish_in(&mut self, alloc: Global, tag: &mut Tag)
         requires some { 0 < length (string_bytes self.old.name) }
         requires folded { map to_ascii_lowercase (string_bytes self.old.name)
@@ -107,7 +107,7 @@ impl TagDraft {
         tag.self_closing = self.self_closing;
     }
 
-    /// The tag in memory of its own.
+    /// Returns the tag in new memory.
     fn finish_anew(&mut self, alloc: Global) -> Tag
         requires some { 0 < length (string_bytes self.old.name) }
         requires folded { map to_ascii_lowercase (string_bytes self.old.name)

@@ -10,7 +10,7 @@ use crate::parse_error::ParseError;
 use crate::token::TokenKind;
 use std::alloc::AllocError;
 
-/// The parse error that the end of the page is.
+/// Returns the parse error for the end of the page in this state, if it is one.
 fn error_at_end(state: State) -> Option<ParseError>
     ensures { state ≡ Data → result ≡ None }
 {
@@ -36,8 +36,9 @@ fn error_at_end(state: State) -> Option<ParseError>
 impl Tokenizer {
     ghost use Rattle.html5_tokens.specs.Reading.{IsInText, ReadsNoToken};
 
-    /// The page ends here: what was read of a mark is text, a comment or a doctype ends, a tag is
-    /// dropped. Hands out that comment or doctype.
+    /// Ends the page and returns the comment or doctype that ends with it, if there is one. An
+    /// unfinished tag is dropped; the beginning of other markup becomes text. Fails only when
+    /// memory runs out.
     pub fn end(&mut self) -> Step
         ensures text { IsInText self.old → ReadsNoToken self.old self.new [] result }
     {
@@ -45,7 +46,9 @@ impl Tokenizer {
         Ok(self.take_token(kind))
     }
 
-    /// The same; the comment or doctype is lent.
+    /// Ends the page like `end`, and returns the kind of the comment or doctype that ends with it;
+    /// the tokenizer keeps the token itself, as for `Tokenizer::comment`. Fails only when memory
+    /// runs out.
     pub fn end_kind(&mut self) -> Result<Option<TokenKind>, AllocError>
         ensures text { IsInText self.old → ReadsNoToken self.old self.new [] result }
     {
@@ -57,7 +60,7 @@ impl Tokenizer {
         self.settled(kind)
     }
 
-    /// The comment or the doctype that was begun ends; what was read of another mark is text.
+    /// Ends an unfinished comment or doctype; the beginning of other markup becomes text.
     fn end_of_mark(&mut self) -> Option<TokenKind>
         ensures { self.old.state ≡ Data → (result ≡ None) × (self.new ≡ self.old) }
     {
@@ -80,7 +83,7 @@ impl Tokenizer {
         }
     }
 
-    /// What was read of a mark is text, and a tag is dropped.
+    /// Appends the beginning of markup to the text; a tag is dropped.
     fn end_text(&mut self)
         ensures { self.old.state ≡ Data → self.new ≡ self.old }
     {

@@ -1,4 +1,4 @@
-//! Parse errors, collected only where they are asked for.
+//! Parse errors, which are collected only on request.
 
 ghost use Rattle.std.specs.Prelude.{◌≡◌, IfOk};
 
@@ -8,7 +8,7 @@ use crate::token::TokenKind;
 use std::alloc::AllocError;
 use std::mem;
 
-/// The parse error that a character of the page is by itself.
+/// Returns the parse error for a character that may not occur in a page, if it is one (13.2.3.5).
 fn input_error(c: char) -> Option<ParseError> {
     if is_noncharacter(u32::from(c)) {
         return Some(ParseError::NoncharacterInInputStream);
@@ -20,14 +20,13 @@ fn input_error(c: char) -> Option<ParseError> {
     }
 }
 
-/// Whether a number is that of a noncharacter.
+/// Returns whether the code point is a noncharacter.
 pub fn is_noncharacter(number: u32) -> bool {
     (number >= 0xfdd0 && number <= 0xfdef) || number & 0xfffe == 0xfffe
 }
 
 impl Tokenizer {
-    /// Whether parse errors are collected from here on. Those that were collected before are
-    /// dropped.
+    /// Sets whether parse errors are collected from now on. Those collected before are dropped.
     pub fn report_errors(&mut self, wanted: bool) {
         self.errors = if wanted {
             Some(Vec::new(self.alloc))
@@ -36,8 +35,8 @@ impl Tokenizer {
         };
     }
 
-    /// Takes the parse errors that were collected, in the order in which they were found.
-    /// Characters that may not stand in a page are found before the other errors of their stretch.
+    /// Takes the parse errors that were collected, in the order in which they were found. In each
+    /// part of the page, the characters that may not occur are found before the other errors.
     pub fn take_errors(&mut self) -> Vec<ErrorAt> {
         match &mut self.errors {
             Some(errors) => mem::replace(errors, Vec::new(self.alloc)),
@@ -45,8 +44,8 @@ impl Tokenizer {
         }
     }
 
-    /// Notes a parse error at the character that is being read. That memory is refused for it is
-    /// kept.
+    /// Collects a parse error at the character that is being read. If memory runs out for it, that
+    /// is remembered in `refused`.
     pub(super) fn error(&mut self, error: ParseError)
         ensures { self.old.errors ≡ None → self.new ≡ self.old }
     {
@@ -59,7 +58,7 @@ impl Tokenizer {
         }
     }
 
-    /// Keeps that memory was refused, if it was: what is being read then ends in an error.
+    /// Remembers that memory ran out; the call that reads the character then fails.
     pub(super) fn keep(&mut self, done: Result<(), AllocError>)
         ensures { self.new ≡ record self.old { refused = self.new.refused } }
     {
@@ -68,7 +67,7 @@ impl Tokenizer {
         }
     }
 
-    /// What a character or the end of the page came to, unless memory was refused for it.
+    /// Returns `made`, or an error if memory ran out.
     pub(super) fn settled(&self, made: Option<TokenKind>) -> Progress
         ensures { IfOk result (λ kind. kind ≡ made) }
     {
@@ -78,7 +77,7 @@ impl Tokenizer {
         Ok(made)
     }
 
-    /// Notes the characters of a stretch that may not stand in a page.
+    /// Collects an error for each character of the text that may not occur in a page.
     pub(super) fn check_input(&mut self, stretch: &str) -> Result<(), AllocError>
         ensures { self.new ≡ record self.old { errors = self.new.errors } }
     {
@@ -90,13 +89,13 @@ impl Tokenizer {
     }
 }
 
-/// Adds an error that was found at an offset.
+/// Appends an error at an offset.
 fn note(errors: &mut Vec<ErrorAt>, offset: usize, error: ParseError) -> Result<(), AllocError> {
     errors.push(ErrorAt { offset, error })?;
     Ok(())
 }
 
-/// Adds the errors that the characters behind an offset are by themselves.
+/// Appends an error for each character that may not occur in a page.
 fn note_input(errors: &mut Vec<ErrorAt>, offset: usize, text: &str) -> Result<(), AllocError> {
     for (at, c) in text.char_indices() {
         note_char(errors, offset.saturating_add(at), c)?;
@@ -104,7 +103,7 @@ fn note_input(errors: &mut Vec<ErrorAt>, offset: usize, text: &str) -> Result<()
     Ok(())
 }
 
-/// Adds the error that a character is by itself, if it is one.
+/// Appends an error for the character, if it may not occur in a page.
 fn note_char(errors: &mut Vec<ErrorAt>, offset: usize, c: char) -> Result<(), AllocError> {
     match input_error(c) {
         Some(error) => note(errors, offset, error),

@@ -1,17 +1,16 @@
-//! Named character references: the longest name wins.
+//! Named character references (13.2.5.73): the longest matching name counts.
 
 ghost use Rattle.std.specs.Prelude.{◌≡◌, [], None};
 ghost use Rattle.html5_tokens.specs.NamedReferences.{read_of, IsLongest};
 
 use crate::named_references::{Names, Value};
 
-/// The names that begin with what was read, and what the longest one stands for that was read
-/// whole.
+/// The names that start with the characters read, and the meaning of the longest whole name so far.
 #[derive(Clone, Copy, Drop)]
 pub struct Match {
     names: Names,
     pub value: Option<Value>,
-    /// Whether that name is all that was read.
+    /// Whether the characters read are exactly that name.
     pub is_whole: bool,
     /// Whether that name ends in a semicolon.
     pub closed: bool,
@@ -21,7 +20,7 @@ pub struct Match {
 impl Match {
     ghost use Rattle.html5_tokens.specs.Reading.{MatchesOn};
 
-    /// Nothing was read.
+    /// Returns a match that has read nothing.
     pub fn new() -> Match
         ensures read { read_of result.names ≡ [] }
         ensures value { result.value ≡ None }
@@ -34,8 +33,8 @@ impl Match {
         }
     }
 
-    /// What was read and this character, where a name goes on with both. Where none does, the value
-    /// is that of the longest name, whatever text follows.
+    /// Returns the match extended by this character, if a name continues with it. Otherwise the
+    /// value of the match is that of the longest name, whatever text follows.
     pub fn with(self, c: char) -> Option<Match>
         ensures { MatchesOn self c result }
     {

@@ -1,5 +1,5 @@
-//! Tags and references as they are mostly written, read in one go: without nulls, carriage returns,
-//! and in a tag without references. What isn't written so is left to the reading by characters.
+//! The fast path for tags and references in their usual form, which are read in one step: no nulls,
+//! no carriage returns, and in a tag no references. Any other form is read character by character.
 
 ghost use Rattle.std.specs.Prelude.{◌≡◌, ◌<◌, ◌∷◌, ◌++◌, List, ℕ, get_or, true, false};
 ghost use Rattle.std.specs.Prelude.{IfOk};
@@ -12,7 +12,7 @@ use super::{State, Tokenizer, append};
 use crate::token::{TagKind, TokenKind};
 use std::alloc::AllocError;
 
-/// The references that are mostly met, without `&`, and what they stand for.
+/// The most frequent references without their `&`, and what they mean.
 static REFERENCES: [(&str, &str); 5] = [
     ("amp;", "&"),
     ("gt;", ">"),
@@ -21,7 +21,7 @@ static REFERENCES: [(&str, &str); 5] = [
     ("nbsp;", "\u{a0}"),
 ];
 
-/// The first byte of a text; a null, which nothing plain begins with, where it is empty.
+/// Returns the first byte of a text, or a null if it is empty; no fast path starts with a null.
 #[inline(always)]
 pub fn first_byte(text: &str) -> u8
     ensures { result ≡ get_or text.now 0 0 }
@@ -32,7 +32,7 @@ pub fn first_byte(text: &str) -> u8
     }
 }
 
-/// What follows a byte at the front of a text.
+/// Returns the rest of the text, if it starts with this byte.
 #[inline(always)]
 fn behind(byte: u8, text: &str) -> Option<&str>
     ensures { (rest : List ℕ) → byte < 128 → text.now ≡ byte ∷ rest →
@@ -50,7 +50,7 @@ fn is_space_byte(byte: u8) -> bool {
     matches!(byte, b'\t' | b'\n' | 0xc | b' ')
 }
 
-/// What follows the spaces at the front of a text.
+/// Returns the text without the spaces at its start.
 #[inline(always)]
 fn skip_spaces(text: &str) -> &str {
     let mut count: usize = 0;
@@ -63,7 +63,7 @@ fn skip_spaces(text: &str) -> &str {
     text.get(count..).unwrap_or(text)
 }
 
-/// An attribute whose value is plain, and what follows it.
+/// An attribute in its usual form, and the text after it.
 #[derive(Drop)]
 struct PlainAttr<'a> {
     name: &'a str,
@@ -71,13 +71,13 @@ struct PlainAttr<'a> {
     rest: &'a str,
 }
 
-/// A value in single quotes, behind the first of them, and what follows the second.
+/// Splits a value off at its closing single quote; the opening one is already read.
 fn quoted_singly(text: &str) -> Option<(&str, &str)> {
     let (value, rest) = text.split_at(run_len(Run::AttrValue(Quote::Single), text));
     Some((value, behind(b'\'', rest)?))
 }
 
-/// A value without quotes, and what follows it.
+/// Splits off an unquoted value.
 fn unquoted(text: &str) -> Option<(&str, &str)> {
     let (value, rest) = text.split_at(run_len(Run::UnquotedValue, text));
     let byte = first_byte(rest);
@@ -88,7 +88,7 @@ fn unquoted(text: &str) -> Option<(&str, &str)> {
     }
 }
 
-/// The value behind `=`, and what follows it.
+/// Splits off the value after an `=`.
 #[inline(always)]
 fn plain_value(text: &str) -> Option<(&str, &str)> {
     if let Some(inner) = behind(b'"', text) {
@@ -101,7 +101,7 @@ fn plain_value(text: &str) -> Option<(&str, &str)> {
     }
 }
 
-/// The attribute at the front of a text.
+/// Returns the attribute at the start of the text, if it has the usual form.
 #[inline(always)]
 fn plain_attr(text: &str) -> Option<PlainAttr<'_>> {
     let (name, rest) = text.split_at(attr_name_len(text));
@@ -120,7 +120,7 @@ fn plain_attr(text: &str) -> Option<PlainAttr<'_>> {
     })
 }
 
-/// The kind of a tag, and the text from its name on, where a letter follows `<` or `</`.
+/// Returns the kind of a tag and the text from its name on, if a letter follows `<` or `</`.
 #[inline(always)]
 fn tag_begins(text: &str) -> Option<(TagKind, &str)>
     ensures { (kind : TagKind) (name rest : List ℕ) → IsPlainName name →
@@ -139,7 +139,7 @@ fn tag_begins(text: &str) -> Option<(TagKind, &str)>
     }
 }
 
-/// What a reference at the front of a text stands for, and what follows it.
+/// Returns what a frequent reference at the start of the text means, and the text after it.
 fn plain_reference(text: &str) -> Option<(&'static str, &str)> {
     let name = behind(b'&', text)?;
     for (written, meant) in &REFERENCES {
@@ -154,7 +154,7 @@ impl Tokenizer {
     ghost use Rattle.html5_tokens.specs.Reading.{IsInText};
     ghost use Rattle.html5_tokens.specs.Tags.{EndsTag, ReadsPlainTag};
 
-    /// Whether a tag may be read in one go here.
+    /// Returns whether the fast path may be taken here.
     #[inline(always)]
     fn is_plain(&self) -> bool
         ensures { IsInText self.now → self.now.errors ≡ None → result ≡ true }
@@ -162,8 +162,8 @@ impl Tokenizer {
         self.errors.is_none() && !self.after_return && !self.is_in_reference()
     }
 
-    /// Reads what is plain of a tag at the front of a text, and returns what follows it. Puts the
-    /// token there, if the tag ends.
+    /// Reads what has the usual form at the start of the text, and returns the text after it. If a
+    /// tag ends there, its kind is stored in `read`.
     #[inline(always)]
     pub(super) fn read_plain<'a>(
         &mut self,
@@ -190,7 +190,7 @@ impl Tokenizer {
         }
     }
 
-    /// Reads a common reference in a text or a value, if one is at the front of a text.
+    /// Reads a frequent reference in a text or a value, if the text starts with one.
     fn read_plain_reference<'a>(&mut self, text: &'a str) -> Result<&'a str, AllocError> {
         let Some((meant, rest)) = plain_reference(text) else {
             return Ok(text);
@@ -199,7 +199,7 @@ impl Tokenizer {
         Ok(rest)
     }
 
-    /// Puts what a reference stands for into the value or the text.
+    /// Appends what a reference means to the attribute value or the text.
     fn put_meant(&mut self, meant: &str) -> Result<(), AllocError> {
         if self.is_in_value() {
             append(&mut self.tag.attr_value, meant)
@@ -208,7 +208,7 @@ impl Tokenizer {
         }
     }
 
-    /// Reads what is plain of a tag from its name on.
+    /// Reads a tag from its name on, as far as it has the usual form.
     fn read_plain_tag<'a>(
         &mut self,
         kind: TagKind,
@@ -234,7 +234,7 @@ impl Tokenizer {
         self.read_plain_attrs(rest, read)
     }
 
-    /// Reads plain attributes, and the end of their tag.
+    /// Reads attributes in their usual form, and the end of their tag.
     fn read_plain_attrs<'a>(
         &mut self,
         text: &'a str,
@@ -261,8 +261,8 @@ impl Tokenizer {
         Ok(rest)
     }
 
-    /// Begins an attribute whose value stands in double quotes but isn't plain, and returns what
-    /// follows the first of them.
+    /// Starts an attribute whose double-quoted value needs the slow path, and returns the text
+    /// after the opening quote.
     fn begin_plain_attr<'a>(&mut self, text: &'a str) -> Result<&'a str, AllocError> {
         let (name, rest) = text.split_at(attr_name_len(text));
         let Some(inner) = rest.strip_prefix("=\"") else {
@@ -276,7 +276,7 @@ impl Tokenizer {
         Ok(inner)
     }
 
-    /// What follows the end of the tag, where that is next.
+    /// Returns the text after the end of the tag, if the tag ends here.
     #[inline(always)]
     fn plain_end<'a>(&mut self, text: &'a str) -> Option<&'a str> {
         if let Some(after) = behind(b'>', text) {

@@ -1,4 +1,5 @@
-//! Raw text ends at an end tag of the last start tag's name: what may be one.
+//! End tags in RCDATA, RAWTEXT and script data (13.2.5.9 to 13.2.5.17 and 13.2.5.23 to 13.2.5.25).
+//! Such text ends only at an end tag with the name of the last start tag.
 
 use super::state::{AttrState, EndTagState, Raw, ScriptState, TagState};
 use super::{Progress, State, Tokenizer, append, is_space, push};
@@ -61,7 +62,7 @@ impl Tokenizer {
         self.back_to(raw, c)
     }
 
-    /// What was read of an end tag is text.
+    /// Appends the beginning of what was no end tag to the text.
     pub(super) fn put_end_tag(&mut self, state: EndTagState) {
         match state {
             EndTagState::LessThan => self.put_text("<"),

@@ -1,4 +1,4 @@
-//! Character references.
+//! The character reference states (13.2.5.72 to 13.2.5.80).
 
 ghost use Rattle.std.specs.Prelude.{◌≡◌, ◌≤◌, ◌+◌, ◌*◌, [], true, false, min, None};
 ghost use Rattle.std.specs.Char.{is_ascii_alphanumeric};
@@ -12,15 +12,15 @@ use crate::named_references::Value;
 use crate::parse_error::ParseError;
 use std::alloc::AllocError;
 
-/// What of a reference was read.
+/// How much of a reference was read.
 #[derive(Clone, Copy, Drop)]
 pub enum Reference {
     None,
     /// The ampersand.
     Begun,
-    /// The front of a name.
+    /// The beginning of a name.
     Named(Match),
-    /// No name, but what may have been meant as one.
+    /// Letters and digits that are no name (the ambiguous ampersand state).
     Ambiguous,
     /// `&#`
     Number,
@@ -30,7 +30,7 @@ pub enum Reference {
     Decimal(u32),
 }
 
-/// The characters that the numbers 128 to 159 stand for.
+/// The characters for the numbers 128 to 159, which are those of windows-1252.
 #[rattlefmt::skip]
 const WINDOWS: [char; 32] = [
     '\u{20ac}', '\u{81}', '\u{201a}', '\u{192}', '\u{201e}', '\u{2026}', '\u{2020}', '\u{2021}',
@@ -39,7 +39,7 @@ const WINDOWS: [char; 32] = [
     '\u{2dc}', '\u{2122}', '\u{161}', '\u{203a}', '\u{153}', '\u{9d}', '\u{17e}', '\u{178}',
 ];
 
-/// The character that a number stands for.
+/// Returns the character that a numeric reference means.
 fn character(number: u32) -> char
     ensures { result ≡ character_of number }
 {
@@ -52,7 +52,7 @@ fn character(number: u32) -> char
     char::from_u32(number).unwrap_or(REPLACEMENT)
 }
 
-/// The number with one more digit; numbers past the last character stay there.
+/// Returns the number with one more digit. Numbers above the last code point are all 0x110000.
 fn with_digit(number: u32, base: u32, digit: u32) -> u32
     ensures { result ≡ min (number * base + digit) 1114112 }
 {
@@ -62,7 +62,7 @@ fn with_digit(number: u32, base: u32, digit: u32) -> u32
         .min(0x11_0000)
 }
 
-/// The number with one more digit, or the first one of a number.
+/// Returns the state with one more digit of the number, or with its first.
 fn number_with(number: Option<u32>, base: u32, digit: u32) -> Reference {
     let number = with_digit(number.unwrap_or(0), base, digit);
     match base {
@@ -71,7 +71,7 @@ fn number_with(number: Option<u32>, base: u32, digit: u32) -> Reference {
     }
 }
 
-/// What is wrong with a reference by that number.
+/// Returns the parse error for a reference by this number, if it is one.
 fn number_error(number: u32) -> Option<ParseError> {
     match number {
         0 => Some(ParseError::NullCharacterReference),
@@ -84,7 +84,7 @@ fn number_error(number: u32) -> Option<ParseError> {
     }
 }
 
-/// Puts what a name stands for, and what stands behind it, in place of a text.
+/// Replaces the text by what a name means and the characters after the name.
 fn put_value(text: &mut String, value: Value, behind: &str) -> Result<(), AllocError> {
     text.clear();
     text.push(value.first)?;
@@ -119,7 +119,7 @@ impl Tokenizer {
         )
     }
 
-    /// Reads a character in a reference, and returns whether it is a part of that.
+    /// Processes a character in a reference, and returns whether it is part of the reference.
     pub(super) fn reference(&mut self, c: char) -> bool
         ensures begins { self.old.reference ≡ Reference.Begun → is_ascii_alphanumeric c ≡ true →
             IsNameRead [] None c self.new.reference result }
@@ -158,7 +158,7 @@ impl Tokenizer {
         }
     }
 
-    /// A digit of a number, or what stands behind it.
+    /// Processes a digit of a number, or the character after the number.
     fn digit(&mut self, base: u32, c: char) -> bool
         requires least { 2 ≤ base }
         requires most { base ≤ 36 }
@@ -180,7 +180,8 @@ impl Tokenizer {
         true
     }
 
-    /// What is in the buffer of the reference is text.
+    /// Appends the buffer of the reference to the attribute value or the text, and ends the
+    /// reference.
     fn put_written(&mut self) {
         self.reference = Reference::None;
         let put = if self.is_in_value() {
@@ -200,7 +201,7 @@ impl Tokenizer {
         self.keep(put);
     }
 
-    /// What stands behind a number, or behind `&#` where there is none.
+    /// Processes the character after a number, or after `&#` if there is none.
     fn numbered(&mut self, number: Option<u32>, c: char) -> bool {
         let Some(number) = number else {
             self.error(ParseError::AbsenceOfDigitsInNumericCharacterReference);
@@ -251,7 +252,7 @@ impl Tokenizer {
         false
     }
 
-    /// Letters and digits behind an ampersand that begin no name are text.
+    /// Processes the characters after an ampersand that are no name; they are text.
     fn ambiguous(&mut self, c: char) -> bool
         ensures { result ≡ false }
     {
@@ -264,8 +265,8 @@ impl Tokenizer {
         false
     }
 
-    /// Whether a letter, a digit or `=` stands behind the longest name, in a value: then a name
-    /// without a semicolon is no reference.
+    /// Returns whether, in an attribute value, a letter, a digit or `=` follows the longest name. A
+    /// name without a semicolon is then no reference.
     fn is_part_of_word(&self, next: Option<char>) -> bool {
         if !self.is_in_value() {
             return false;
@@ -276,7 +277,7 @@ impl Tokenizer {
         }
     }
 
-    /// Puts what the longest name stands for, and what stands behind it.
+    /// Appends what the longest name means, and the characters after it.
     fn put_named(&mut self, found: Match, next: Option<char>) {
         if let Some(value) = found.value
             && (found.closed || !self.is_part_of_word(next))
@@ -290,7 +291,7 @@ impl Tokenizer {
         self.put_written();
     }
 
-    /// The page ends in the reference.
+    /// Ends a reference at the end of the page.
     pub(super) fn end_reference(&mut self)
         ensures { self.old.reference ≡ Reference.None → self.new ≡ self.old }
     {

@@ -1,4 +1,4 @@
-//! Stretches of a page, and in them the runs of characters that a state reads as they stand.
+//! The calls that read a page, and the runs of characters that a state copies unchanged.
 
 ghost use Rattle.std.specs.Prelude.{◌≡◌, ◌<◌, ◌≤◌, true, IfOk, IfSome, OnOk, length};
 ghost use Rattle.std.specs.Str.{IsCharBoundary};
@@ -14,10 +14,10 @@ use crate::token::{Token, TokenKind};
 use std::alloc::AllocError;
 use std::simd::prelude::*;
 
-/// The character that ends each token, and so a stretch of a page.
+/// The character that can end a token. A page can be split after each of them.
 pub const MARKS: char = '>';
 
-/// The characters that a state reads as they stand.
+/// The places whose characters are copied unchanged.
 #[derive(Clone, Copy, Drop)]
 pub enum Run {
     Text,
@@ -34,7 +34,7 @@ pub enum Run {
     Cdata,
 }
 
-/// The characters that the state reads as they stand, if there are such.
+/// Returns which characters the state copies unchanged, if it copies any.
 fn run_of(state: State) -> Option<Run>
     ensures { state ≡ State.Data → result ≡ Some Run.Text }
 {
@@ -57,7 +57,7 @@ fn run_of(state: State) -> Option<Run>
     }
 }
 
-/// Whether a byte ends a run of text: a null, a carriage return, `&` and `<` do.
+/// Returns whether a byte ends a run of text: null, carriage return, `&` or `<`.
 #[inline(always)]
 fn ends_text(byte: u8) -> bool
     ensures { result ≡ ends_text byte }
@@ -65,7 +65,7 @@ fn ends_text(byte: u8) -> bool
     matches!(byte, 0 | b'\r' | b'&' | b'<')
 }
 
-/// Whether a byte ends the name of a tag.
+/// Returns whether a byte ends a tag name.
 #[inline(always)]
 fn ends_tag_name(byte: u8) -> bool
     ensures ascii { result ≡ true → byte < 128 }
@@ -74,7 +74,7 @@ fn ends_tag_name(byte: u8) -> bool
     byte <= b'>' && matches!(byte, 0 | b'\t' | b'\n' | 0xc | b'\r' | b' ' | b'/' | b'>')
 }
 
-/// Whether a byte ends the name of an attribute, or is an error in it.
+/// Returns whether a byte ends an attribute name, or is a parse error in one.
 #[inline(always)]
 fn ends_attr_name(byte: u8) -> bool
     ensures { result ≡ true → byte < 128 }
@@ -82,7 +82,7 @@ fn ends_attr_name(byte: u8) -> bool
     byte <= b'>' && (ends_tag_name(byte) || matches!(byte, b'"' | b'\'' | b'<' | b'='))
 }
 
-/// Whether a byte ends a value in double quotes.
+/// Returns whether a byte ends a run in a double-quoted value.
 #[inline(always)]
 fn ends_value(byte: u8) -> bool
     ensures { result ≡ true → byte < 128 }
@@ -90,7 +90,7 @@ fn ends_value(byte: u8) -> bool
     matches!(byte, 0 | b'\r' | b'&' | b'"')
 }
 
-/// Whether a byte ends a value without quotes, or has a parse error or a reference begin in it.
+/// Returns whether a byte ends an unquoted value, starts a reference, or is a parse error there.
 #[inline(always)]
 fn ends_unquoted_value(byte: u8) -> bool {
     byte <= b'`'
@@ -99,7 +99,7 @@ fn ends_unquoted_value(byte: u8) -> bool {
 }
 
 impl Run {
-    /// Whether a byte ends the run. A null and a carriage return end each.
+    /// Returns whether a byte ends the run. A null and a carriage return end every run.
     #[inline(always)]
     fn ends_at(self, byte: u8) -> bool
         ensures ascii { result ≡ true → byte < 128 }
@@ -126,8 +126,8 @@ impl Run {
     }
 }
 
-/// How many bytes stand before the first of four bytes; fewer, if it is among the last fifteen,
-/// which aren't searched.
+/// Returns how many bytes come before the first of the four. The last bytes, fewer than sixteen,
+/// are not searched, so the result can be less.
 #[inline(always)]
 fn skip(bytes: &[u8], ends: [u8; 4]) -> usize {
     let (blocks, _) = bytes.as_chunks::<16>();
@@ -147,7 +147,7 @@ fn skip(bytes: &[u8], ends: [u8; 4]) -> usize {
     count
 }
 
-/// How many bytes stand before the first that ends a run of text.
+/// Returns how many bytes come before the first that ends a run of text.
 fn text_len(text: &str) -> usize
     ensures boundary { IsCharBoundary text.now result }
     ensures text { IsRun text.now → result ≡ length text.now }
@@ -161,7 +161,7 @@ fn text_len(text: &str) -> usize
     text.len()
 }
 
-/// How many bytes stand before the first that ends the name of a tag.
+/// Returns how many bytes come before the first that ends a tag name.
 pub fn tag_name_len(text: &str) -> usize
     ensures boundary { IsCharBoundary text.now result }
     ensures len { result ≡ tag_name_len_of text.now }
@@ -175,7 +175,7 @@ pub fn tag_name_len(text: &str) -> usize
     text.len()
 }
 
-/// How many bytes stand before the first that ends the name of an attribute.
+/// Returns how many bytes come before the first that ends an attribute name.
 pub fn attr_name_len(text: &str) -> usize
     ensures { IsCharBoundary text.now result }
 {
@@ -187,7 +187,7 @@ pub fn attr_name_len(text: &str) -> usize
     text.len()
 }
 
-/// How many bytes stand before the first that ends a value in double quotes.
+/// Returns how many bytes come before the first that ends a run in a double-quoted value.
 pub fn value_len(text: &str) -> usize
     ensures { IsCharBoundary text.now result }
 {
@@ -200,7 +200,7 @@ pub fn value_len(text: &str) -> usize
     text.len()
 }
 
-/// How many bytes stand before the first that ends the run.
+/// Returns how many bytes come before the first that ends the run.
 pub fn run_len(run: Run, text: &str) -> usize
     ensures boundary { IsCharBoundary text.now result }
     ensures text { run ≡ Run.Text → IsRun text.now → result ≡ length text.now }
@@ -226,7 +226,7 @@ pub fn run_len(run: Run, text: &str) -> usize
     text.len()
 }
 
-/// The first character, and what follows it.
+/// Splits off the first character.
 #[inline(always)]
 fn split_char(text: &str) -> Option<(char, &str)>
     ensures { IfSome result (λ found. length found.1.now < length text.now) }
@@ -241,9 +241,9 @@ impl Tokenizer {
     ghost use Rattle.html5_tokens.specs.Reading.{ReadsNoToken, ReadsRun, ReadsWhole};
     ghost use Rattle.html5_tokens.specs.Tags.{ReadsPlainTag, TakesPlainTag};
 
-    /// Reads a stretch of a page: a part of it in which [`MARKS`] stands nowhere but at the end, as
-    /// `split_inclusive` cuts it. Hands out the token that ends there, if one does. Errors where
-    /// memory is refused.
+    /// Reads a part of a page in which [`MARKS`] occurs at the end at most, as
+    /// `split_inclusive(MARKS)` cuts it. Returns the token that ends there, if one does. Fails only
+    /// when memory runs out.
     pub fn read_stretch(&mut self, stretch: &str) -> Step
         ensures text { IsInText self.old → IsRun stretch.now →
             ReadsNoToken self.old self.new stretch.now result }
@@ -252,8 +252,8 @@ impl Tokenizer {
         Ok(self.take_token(kind))
     }
 
-    /// Reads a text up to the end of the first token in it, which is put there, and returns what
-    /// follows that. Errors where memory is refused.
+    /// Reads the text up to the end of its first token, and returns the text after it. The token is
+    /// stored in `token`, which keeps its value if no token ends. Fails only when memory runs out.
     pub fn read_token<'a>(&mut self, text: &'a str, token: &mut Option<Token>) -> Rest<'a>
         ensures text { ReadsRun self.old self.new text.now token.old token.new result }
         ensures plain_tag { TakesPlainTag self.old self.new text.now token.new result }
@@ -264,9 +264,9 @@ impl Tokenizer {
         Ok(rest)
     }
 
-    /// Reads a text up to the end of the first token in it, and returns what follows that. The kind
-    /// of the token is put there; the token itself is lent, as by [`Tokenizer::tag`]. Errors where
-    /// memory is refused.
+    /// Reads the text up to the end of its first token, and returns the text after it. The kind of
+    /// the token is stored in `kind`, which keeps its value if no token ends; the tokenizer keeps
+    /// the token itself, for [`Tokenizer::tag`] and the like. Fails only when memory runs out.
     pub fn read_kind<'a>(&mut self, text: &'a str, kind: &mut Option<TokenKind>) -> Rest<'a>
         ensures text { ReadsRun self.old self.new text.now kind.old kind.new result }
         ensures plain_tag { ReadsPlainTag self.old self.new text.now kind.new result }
@@ -284,7 +284,7 @@ impl Tokenizer {
         self.read_mark(rest, kind)
     }
 
-    /// Reads a text up to the end of a token, without looking for a run at its front.
+    /// Reads the text up to the end of a token, without looking for a run at its start.
     fn read_mark<'a>(&mut self, text: &'a str, kind: &mut Option<TokenKind>) -> Rest<'a>
         ensures { ReadsPlainTag self.old self.new text.now kind.new result }
     {
@@ -297,7 +297,7 @@ impl Tokenizer {
         self.read_to_token(rest, kind)
     }
 
-    /// Reads the first stretch of a text, and returns what follows it.
+    /// Reads the text up to its first [`MARKS`], and returns the text after it.
     #[inline(never)]
     fn read_first<'a>(&mut self, text: &'a str, kind: &mut Option<TokenKind>) -> Rest<'a> {
         let Some(stretch) = text.split_inclusive(MARKS).next() else {
@@ -309,7 +309,7 @@ impl Tokenizer {
         Ok(text.get(stretch.len()..).unwrap_or(""))
     }
 
-    /// Reads a stretch of a page.
+    /// Reads a part of a page in which [`MARKS`] occurs at the end at most.
     fn stretch(&mut self, stretch: &str) -> Progress
         ensures text { IsInText self.old → IsRun stretch.now →
             ReadsNoToken self.old self.new stretch.now result }
@@ -324,7 +324,7 @@ impl Tokenizer {
         self.read_marks(rest)
     }
 
-    /// Reads a text that begins with a character that is no part of a run.
+    /// Reads a text whose first character is not part of a run.
     fn read_marks(&mut self, text: &str) -> Progress {
         let mut kind = None;
         let mut rest = text;
@@ -337,7 +337,7 @@ impl Tokenizer {
         Ok(kind)
     }
 
-    /// Reads a text up to the end of a token, if one ends in it.
+    /// Reads the text up to the end of a token, if one ends in it.
     fn read_to_token<'a>(&mut self, text: &'a str, kind: &mut Option<TokenKind>) -> Rest<'a> {
         let mut made = None;
         let mut rest = text;
@@ -355,7 +355,7 @@ impl Tokenizer {
         Ok(rest)
     }
 
-    /// Reads what is plain at the front of a text, or else a character.
+    /// Reads what has the usual form at the start of the text, or else one character.
     fn read_front<'a>(&mut self, text: &'a str, kind: &mut Option<TokenKind>) -> Rest<'a>
         ensures { ReadsPlainTag self.old self.new text.now kind.new result }
     {
@@ -369,7 +369,7 @@ impl Tokenizer {
         self.read_char(text, kind)
     }
 
-    /// Reads a character.
+    /// Reads one character.
     #[inline(never)]
     fn read_char<'a>(&mut self, text: &'a str, kind: &mut Option<TokenKind>) -> Rest<'a> {
         let Some((c, after)) = split_char(text) else {
@@ -381,7 +381,7 @@ impl Tokenizer {
         Ok(after)
     }
 
-    /// Reads the run at the front of a text as one slice, and returns what follows it.
+    /// Copies the run at the start of the text as one slice, and returns the text after it.
     fn read_run<'a>(&mut self, text: &'a str) -> Result<&'a str, AllocError>
         ensures less { IfOk result (λ rest. length rest.now ≤ length text.now) }
         ensures text { IsInText self.old → IsRun text.now →
@@ -399,7 +399,7 @@ impl Tokenizer {
         Ok(rest)
     }
 
-    /// Puts a run behind what its state has read.
+    /// Appends a run to what its state collects.
     fn push_run(&mut self, run: Run, front: &str) -> Result<(), AllocError>
         ensures { run ≡ Run.Text → OnOk result (AddsText self.old self.new front.now) }
     {

@@ -1,4 +1,5 @@
-//! Script data behind `<!--`.
+//! The escaped states of script data, which start at `<!--` (13.2.5.18 to 13.2.5.22 and 13.2.5.26
+//! to 13.2.5.31).
 
 use super::state::{DoubleState, EndTagState, Raw, ScriptState};
 use super::{Progress, State, Tokenizer, push};
@@ -19,7 +20,7 @@ impl Tokenizer {
             (ScriptState::DoubleStart, _) => self.double_name(false, c),
             (ScriptState::Double(DoubleState::LessThan), _) => self.double_less_than(c),
             (ScriptState::Double(DoubleState::End), _) => self.double_name(true, c),
-            (ScriptState::Double(double), _) => self.in_double(double, c),
+            (ScriptState::Double(double), _) => self.double_escaped(double, c),
             _ => self.in_escaped(state, c),
         }
     }
@@ -36,19 +37,19 @@ impl Tokenizer {
         self.text_then(shown, next)
     }
 
-    /// A character of the name of a tag: script data is escaped twice from a start tag `script` on,
-    /// up to its end tag.
+    /// Processes a character of a tag name in escaped script data. A start tag `script` makes the
+    /// data double escaped, and its end tag ends that.
     fn double_name(&mut self, is_end: bool, c: char) -> Progress {
         let is_script = self.letters.as_str() == "script";
         match c {
             '/' | '>' | '\t' | '\n' | '\u{c}' | ' ' => self.escape(c, is_script != is_end),
             'a'..='z' | 'A'..='Z' => self.double_letter(c),
-            _ if is_end => self.in_double(DoubleState::Escaped, c),
+            _ if is_end => self.double_escaped(DoubleState::Escaped, c),
             _ => self.in_escaped(ScriptState::Escaped, c),
         }
     }
 
-    /// Goes on in script data that is escaped once or twice, with a character that is text.
+    /// Appends the character to the text, and changes to escaped or double escaped script data.
     fn escape(&mut self, c: char, twice: bool) -> Progress {
         let state = if twice {
             ScriptState::Double(DoubleState::Escaped)
@@ -69,11 +70,11 @@ impl Tokenizer {
                 self.letters.clear();
                 self.text_then(c, State::ScriptData(ScriptState::Double(DoubleState::End)))
             }
-            _ => self.in_double(DoubleState::Escaped, c),
+            _ => self.double_escaped(DoubleState::Escaped, c),
         }
     }
 
-    fn in_double(&mut self, state: DoubleState, c: char) -> Progress {
+    fn double_escaped(&mut self, state: DoubleState, c: char) -> Progress {
         let next = match (c, state) {
             ('-', DoubleState::Escaped) => DoubleState::Dash,
             ('-', _) => DoubleState::DashDash,

@@ -1,12 +1,12 @@
 //! The states of the tokenizer.
 
-/// How characters are read up to an end tag that names the last start tag.
+/// The kinds of text that end at an end tag with the name of the last start tag.
 #[derive(Clone, Copy, Drop)]
 pub enum Raw {
     Rcdata,
     Rawtext,
     Script,
-    /// Script data behind `<!--`.
+    /// Script data that is escaped by `<!--`.
     Escaped,
 }
 
@@ -23,7 +23,7 @@ pub enum Id {
     System,
 }
 
-/// What was read behind `<!`: of the words, so many letters.
+/// What was read after `<!`; for the two words, the number of letters.
 #[derive(Clone, Copy, Drop)]
 pub enum Seen {
     Nothing,
@@ -32,7 +32,7 @@ pub enum Seen {
     Cdata(usize),
 }
 
-/// Where in a CDATA section.
+/// The states of a CDATA section.
 #[derive(Clone, Copy, Drop)]
 pub enum CdataState {
     Section,
@@ -40,7 +40,7 @@ pub enum CdataState {
     End,
 }
 
-/// Where in a tag, outside its attributes.
+/// The states of a tag, outside its attributes.
 #[derive(Clone, Copy, Drop)]
 pub enum TagState {
     Open,
@@ -49,7 +49,7 @@ pub enum TagState {
     SelfClosing,
 }
 
-/// Where in what may be an end tag.
+/// The states of what may be an end tag.
 #[derive(Clone, Copy, Drop)]
 pub enum EndTagState {
     LessThan,
@@ -57,7 +57,7 @@ pub enum EndTagState {
     Name,
 }
 
-/// Where in script data behind `<!--`.
+/// The states of script data after `<!--`.
 #[derive(Clone, Copy, Drop)]
 pub enum ScriptState {
     EscapeStart,
@@ -69,7 +69,7 @@ pub enum ScriptState {
     Double(DoubleState),
 }
 
-/// Where in script data that is escaped twice.
+/// The states of double escaped script data.
 #[derive(Clone, Copy, Drop)]
 pub enum DoubleState {
     Escaped,
@@ -79,7 +79,7 @@ pub enum DoubleState {
     End,
 }
 
-/// Where in the attributes of a tag.
+/// The states of the attributes of a tag.
 #[derive(Clone, Copy, Drop)]
 pub enum AttrState {
     BeforeName,
@@ -91,7 +91,7 @@ pub enum AttrState {
     AfterQuoted,
 }
 
-/// Where in a comment.
+/// The states of a comment.
 #[derive(Clone, Copy, Drop)]
 pub enum CommentState {
     Bogus,
@@ -107,14 +107,14 @@ pub enum CommentState {
     EndBang,
 }
 
-/// Where in a doctype.
+/// The states of a doctype.
 #[derive(Clone, Copy, Drop)]
 pub enum DoctypeState {
     Begin,
     BeforeName,
     Name,
     AfterName,
-    /// So many letters of `public` or `system` were read.
+    /// In the keyword `public` or `system`, with the number of letters that were read.
     Keyword(Id, usize),
     AfterKeyword(Id),
     BeforeId(Id),
@@ -124,7 +124,7 @@ pub enum DoctypeState {
     Bogus,
 }
 
-/// Where a character of a text, a comment or a tag goes.
+/// Where a character is appended.
 #[derive(Clone, Copy, Drop)]
 pub enum Place {
     Text,
@@ -134,7 +134,7 @@ pub enum Place {
     AttrValue,
 }
 
-/// How the next character is read. A caller switches to one of the first five.
+/// The state of the tokenizer (13.2.5). A caller may switch to one of the first five.
 #[derive(Clone, Copy, Drop)]
 pub enum State {
     Data,
@@ -153,7 +153,7 @@ pub enum State {
 }
 
 impl Raw {
-    /// The state in which the characters themselves are read.
+    /// Returns the state in which such text is read.
     pub fn state(self) -> State {
         match self {
             Raw::Rcdata => State::Rcdata,
@@ -165,7 +165,7 @@ impl Raw {
 }
 
 impl Quote {
-    /// The character that ends what is quoted.
+    /// Returns the quote character.
     pub fn letter(self) -> char {
         match self {
             Quote::Double => '"',

@@ -1,4 +1,4 @@
-//! Tags, outside their attributes.
+//! The tag states (13.2.5.6 to 13.2.5.8 and 13.2.5.40), outside attributes.
 
 ghost use Rattle.std.specs.Prelude.{◌≡◌, IfOk};
 
@@ -55,14 +55,14 @@ impl Tokenizer {
         }
     }
 
-    /// Begins a bogus comment with this character.
+    /// Starts a bogus comment with this character.
     fn bogus_comment(&mut self, c: char) -> Progress {
         self.comment.clear();
         self.state = State::Comment(CommentState::Bogus);
         self.in_comment(CommentState::Bogus, c)
     }
 
-    /// Begins a tag with the first letter of its name.
+    /// Starts a tag with the first letter of its name.
     fn begin_tag(&mut self, kind: TagKind, c: char) -> Progress {
         self.tag.begin(self.alloc, kind);
         self.state = State::Tag(TagState::Name);
@@ -92,7 +92,7 @@ impl Tokenizer {
         }
     }
 
-    /// Hands out the tag that was read. What follows it is data until a caller switches.
+    /// Ends the tag. The tokenizer is then in the data state until a caller switches it.
     pub(super) fn emit_tag(&mut self) -> Progress
         ensures { IsReadyDraft self.old → IfOk result (λ kind.
             (kind ≡ Some TokenKind.Tag) × IsEmitted self.old self.new) }
@@ -107,7 +107,7 @@ impl Tokenizer {
         Ok(Some(TokenKind::Tag))
     }
 
-    /// Notes what an end tag may not have.
+    /// Reports attributes and a trailing slash of an end tag, which are parse errors.
     fn check_end_tag(&mut self)
         ensures { self.old.errors ≡ None → self.new ≡ self.old }
     {
@@ -122,7 +122,7 @@ impl Tokenizer {
         }
     }
 
-    /// Keeps the name of a start tag: raw text ends at an end tag of that name.
+    /// Keeps the name of a start tag; raw text ends at an end tag with that name.
     fn note_start(&mut self) -> Result<(), AllocError>
         ensures { self.new ≡ record self.old { last_start = self.new.last_start } }
     {

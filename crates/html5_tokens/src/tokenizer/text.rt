@@ -5,19 +5,19 @@ use super::{Progress, REPLACEMENT, State, Tokenizer, append, push};
 use crate::parse_error::ParseError;
 
 impl Tokenizer {
-    /// Goes on in a state, with a character that is text.
+    /// Appends the character to the text and changes to a state.
     pub(super) fn text_then(&mut self, c: char, state: State) -> Progress {
         self.state = state;
         push(&mut self.text, c)
     }
 
-    /// Puts a text behind the characters that were read.
+    /// Appends a text to the characters that were read.
     pub(super) fn put_text(&mut self, text: &str) {
         let put = append(&mut self.text, text);
         self.keep(put);
     }
 
-    /// A character that goes there; a null is replaced.
+    /// Appends the character at a place; a null is replaced.
     pub(super) fn letter(&mut self, place: Place, c: char) -> Progress {
         let shown = self.shown(c);
         match place {
@@ -29,7 +29,7 @@ impl Tokenizer {
         }
     }
 
-    /// What stands in place of a character: a null is an error, and is replaced.
+    /// Returns the character, or the replacement character for a null, which is a parse error.
     pub(super) fn shown(&mut self, c: char) -> char {
         if c != '\0' {
             return c;
@@ -78,7 +78,7 @@ impl Tokenizer {
     }
 }
 
-/// What of the end of a CDATA section was read.
+/// Returns the part of a CDATA section's end that was read in this state.
 pub(super) fn brackets(state: CdataState) -> &'static str {
     match state {
         CdataState::Section => "",

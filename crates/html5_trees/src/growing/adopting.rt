@@ -1,4 +1,5 @@
-//! Reconstructing the active formatting elements, and the adoption agency algorithm.
+//! Reconstructing the active formatting elements (13.2.4.3), and the adoption agency algorithm
+//! (13.2.6.4.7).
 
 ghost use Rattle.std.specs.Prelude.{◌≡◌};
 ghost use Rattle.html5_trees.specs.Elements.{IsElement};
@@ -12,16 +13,16 @@ use crate::name::Name;
 use crate::stack::Open;
 use dom_nodes::node_id::NodeId;
 
-/// Where in the list the copy of the formatting element goes.
+/// The bookmark of the algorithm: where in the list the copy of the formatting element is inserted.
 #[derive(Clone, Copy, Drop)]
 struct Bookmark {
     index: usize,
-    /// Whether it is behind an element that was renewed.
+    /// Whether it is after an element that was replaced by a copy.
     renewed: bool,
 }
 
 impl Bookmark {
-    /// Behind the first entry that was renewed.
+    /// Returns the bookmark after the first entry that was replaced.
     fn behind(self, index: usize) -> Bookmark {
         if self.renewed {
             return self;
@@ -32,7 +33,7 @@ impl Bookmark {
         }
     }
 
-    /// Where it is once an entry is gone.
+    /// Returns the bookmark after an entry is removed.
     fn without(self, index: usize) -> Bookmark {
         if index >= self.index {
             return self;
@@ -45,15 +46,15 @@ impl Bookmark {
 }
 
 impl GrowingTree {
-    /// Reconstructs the active formatting elements: opens those again that aren't open.
+    /// Reconstructs the active formatting elements: inserts those again that are not open.
     pub fn reconstruct(&mut self, placing: Placing) -> Result<(), PageFault> {
         for index in self.first_closed()..self.formatting.len() {
-            self.open_again(index, placing)?;
+            self.reconstruct_formatting(index, placing)?;
         }
         Ok(())
     }
 
-    /// Where the entries behind the last marker and the last open element begin.
+    /// Returns the index of the first entry after the last marker and the last open element.
     fn first_closed(&self) -> usize {
         for index in (0..self.formatting.len()).rev() {
             match self.formatting.get(index) {
@@ -64,7 +65,8 @@ impl GrowingTree {
         0
     }
 
-    /// The adoption agency algorithm for a tag. False: the tag is read as any other end tag.
+    /// Runs the adoption agency algorithm for a tag. Returns `false` if the tag is to be processed
+    /// like any other end tag.
     pub fn adopt(&mut self, name: Name, foster: bool) -> Result<bool, PageFault> {
         if let Some(current) = self.stack.current()
             && current.is_html(name)
@@ -95,7 +97,7 @@ impl GrowingTree {
         Ok(true)
     }
 
-    /// The bookmark where the entry of an element stands.
+    /// Returns the bookmark at the entry of an element.
     fn bookmark_at(&self, id: NodeId) -> Bookmark {
         Bookmark {
             index: self.formatting.index_of(id).unwrap_or(0),
@@ -103,9 +105,12 @@ impl GrowingTree {
         }
     }
 
-    /// One round of the outer loop, with the places of the formatting element and of the furthest
-    /// block on the stack. From the block down what stands between them leaves the stack or is
-    /// renewed, so what was adopted last stands right behind each place that the loop comes to.
+    /// Runs the outer loop once. `place` and `furthest_place` are the indexes of the formatting
+    /// element and of the furthest block on the stack.
+    ///
+    /// The inner loop goes down from the block. It removes each element between the two from the
+    /// stack or replaces it by a copy, so the element that was moved last always follows the index
+    /// of the loop.
     fn adopt_once(
         &mut self,
         place: usize,
@@ -130,8 +135,8 @@ impl GrowingTree {
         }
     }
 
-    /// The inner loop at a place between the two: what stands there is renewed, where it is in the
-    /// list and among the first three, or leaves the stack, and the list too.
+    /// Runs the inner loop for one element. It is replaced by a copy if it is in the list and among
+    /// the first three; otherwise it is removed from the stack, and from the list too.
     fn pass(
         &mut self,
         place: usize,
@@ -154,8 +159,8 @@ impl GrowingTree {
         Ok(bookmark.without(index))
     }
 
-    /// A copy of an element takes its place on the stack and in the list; the element right behind
-    /// it goes below the copy.
+    /// Replaces an element by a copy on the stack and in the list, and moves the element after it
+    /// on the stack into the copy.
     fn renew(&mut self, place: usize, index: usize) -> Result<(), PageFault> {
         let Some(node) = self.stack.get(place) else {
             return Ok(());
@@ -169,8 +174,8 @@ impl GrowingTree {
         Ok(())
     }
 
-    /// Puts the element right behind a place of the stack below the one before it, or before a
-    /// table.
+    /// Moves the element after an index of the stack to the end of the one at the index before it,
+    /// or before a table (foster parenting).
     fn put_below(&mut self, place: usize, foster: bool) {
         let Some(last) = self.stack.behind(place) else {
             return;
@@ -180,8 +185,8 @@ impl GrowingTree {
         move_to(&mut self.tree, gap, last.id);
     }
 
-    /// The children of the furthest block go below a copy of the formatting element, and that below
-    /// the block. The copy is open in place of the element, right behind the block.
+    /// Moves the children of the furthest block into a copy of the formatting element, and the copy
+    /// into the block. On the stack the copy follows the block and replaces the formatting element.
     fn adopt_children(
         &mut self,
         place: usize,
@@ -201,12 +206,13 @@ impl GrowingTree {
         self.put_in_place(place, bookmark, &copy)
     }
 
-    /// Where in the list the element at a place of the stack is.
+    /// Returns the index in the list of the element at an index of the stack.
     fn entry_at(&self, place: usize) -> Option<usize> {
         self.formatting.index_of(self.stack.get(place)?.id)
     }
 
-    /// A copy takes the place of an element in the list, and that leaves the stack.
+    /// Replaces an element of the list by its copy at the bookmark, and removes the element from
+    /// the stack.
     fn put_in_place(
         &mut self,
         place: usize,
@@ -226,7 +232,7 @@ impl GrowingTree {
         Ok(())
     }
 
-    /// Adds an entry at an index of the list.
+    /// Inserts an entry at an index of the list.
     fn insert_entry(&mut self, index: usize, element: &Open) -> Result<(), PageFault>
         requires { IsElement self.old element.now.id }
         ensures { self.new ≡ self.old }

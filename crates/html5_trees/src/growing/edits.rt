@@ -1,12 +1,12 @@
-//! Edits of the tree that tree construction makes. Limits alone refuse them, and elements stay
-//! elements.
+//! The edits of the tree that tree construction makes. They fail only because of limits, and
+//! elements stay elements.
 
 ghost use Rattle.std.specs.Prelude.{◌≡◌, ◌∷◌, [], IfOk, None, OnErr, Some, false};
 ghost use Rattle.dom_links.specs.ListMoves.{reparented};
 ghost use Rattle.dom_links.specs.Moves.{moved_to};
 ghost use Rattle.dom_links.specs.Sound.{IsForest, IsOpenGap};
-ghost use Rattle.dom_links.specs.declared.gap.Gap.TheVariants.{EndOf};
-ghost use Rattle.dom_links.specs.declared.gap.Moving.TheVariants.{Node};
+ghost use Rattle.dom_links.specs.declared.gap.InsertionPoint.TheVariants.{EndOf};
+ghost use Rattle.dom_links.specs.declared.gap.MovedNodes.TheVariants.{Node};
 ghost use Rattle.dom_trees.specs.Edits.{MayMove, MayReparentOf};
 ghost use Rattle.html5_trees.specs.Elements.{Grows, IsAround, IsCopy, IsElement, IsFresh, IsInside};
 ghost use Rattle.html5_trees.specs.Elements.{IsMade, IsNew, IsRooted};
@@ -14,32 +14,32 @@ ghost use Rattle.html5_trees.specs.Elements.{IsMade, IsNew, IsRooted};
 use crate::attributes::{attrs_of, element_name, holds_html};
 use crate::fault::{PageFault, made, settled};
 use crate::name::Name;
-use crate::stack::{Ns, Open};
-use dom_links::gap::{Gap, Moving};
+use crate::stack::{ElementNamespace, Open};
+use dom_links::gap::{InsertionPoint, MovedNodes};
 use dom_nodes::name::QualName;
 use dom_nodes::node_data::{Attrs, Element, NodeData};
 use dom_nodes::node_id::NodeId;
 use dom_trees::tree::{ElementFlags, Tree};
 use html5_tokens::token::Tag;
 
-/// Every tree is a forest.
+/// Every tree is a well-formed forest. The function does nothing; it is called for its contract.
 pub fn is_forest(tree: &Tree)
     ensures { IsForest tree.now }
 {
     let _ = tree.nodes();
 }
 
-/// Moves a node to a gap where it may go.
-pub fn move_to(tree: &mut Tree, gap: Gap, id: NodeId)
+/// Moves a node to an insertion point at which it is allowed.
+pub fn move_to(tree: &mut Tree, gap: InsertionPoint, id: NodeId)
     requires { MayMove gap (Node id) tree.old }
     ensures { tree.new ≡ moved_to (id ∷ []) gap tree.old }
 {
-    let Ok(()) = tree.move_to(gap, Moving::Node(id)) else {
+    let Ok(()) = tree.move_to(gap, MovedNodes::Node(id)) else {
         unreachable!();
     };
 }
 
-/// Moves the children of an element below another, where they may go.
+/// Moves the children of an element to another, where they are allowed.
 pub fn reparent(tree: &mut Tree, id: NodeId, parent: NodeId)
     requires { MayReparentOf id (Some parent) tree.old }
     ensures { tree.new ≡ reparented id (Some parent) tree.old }
@@ -49,7 +49,7 @@ pub fn reparent(tree: &mut Tree, id: NodeId, parent: NodeId)
     };
 }
 
-/// Cuts an element out of its list.
+/// Detaches an element.
 pub fn cut_out(tree: &mut Tree, id: NodeId)
     requires { IsElement tree.old id }
     ensures { Grows tree.old tree.new }
@@ -59,8 +59,8 @@ pub fn cut_out(tree: &mut Tree, id: NodeId)
     };
 }
 
-/// Puts a text at a gap.
-pub fn put_text(tree: &mut Tree, gap: Gap, text: &str) -> Result<(), PageFault>
+/// Inserts a text at an insertion point.
+pub fn put_text(tree: &mut Tree, gap: InsertionPoint, text: &str) -> Result<(), PageFault>
     requires { IsOpenGap gap tree.old }
     ensures { Grows tree.old tree.new }
 {
@@ -68,7 +68,7 @@ pub fn put_text(tree: &mut Tree, gap: Gap, text: &str) -> Result<(), PageFault>
     settled(tree.add_text_at(gap, text))
 }
 
-/// Makes a comment, which stands alone.
+/// Makes a detached comment and returns its id.
 fn create_comment(tree: &mut Tree, text: &str) -> Result<NodeId, PageFault>
     ensures ok { IfOk result (IsNew tree.old tree.new) }
     ensures err { OnErr result (tree.new ≡ tree.old) }
@@ -76,8 +76,8 @@ fn create_comment(tree: &mut Tree, text: &str) -> Result<NodeId, PageFault>
     made(tree.new_comment(text))
 }
 
-/// Puts a new comment at a gap.
-pub fn put_comment(tree: &mut Tree, gap: Gap, text: &str) -> Result<(), PageFault>
+/// Inserts a new comment at an insertion point.
+pub fn put_comment(tree: &mut Tree, gap: InsertionPoint, text: &str) -> Result<(), PageFault>
     requires { IsOpenGap gap tree.old }
     ensures { Grows tree.old tree.new }
 {
@@ -88,7 +88,8 @@ pub fn put_comment(tree: &mut Tree, gap: Gap, text: &str) -> Result<(), PageFaul
     Ok(())
 }
 
-/// Puts a doctype at the end of what stands at the top: its name, public and system identifier.
+/// Inserts a doctype as the last child of the root: its name, public identifier and system
+/// identifier.
 pub fn put_doctype(tree: &mut Tree, parts: [&str; 3]) -> Result<(), PageFault>
     requires { IsRooted tree.old }
     ensures { Grows tree.old tree.new }
@@ -99,16 +100,20 @@ pub fn put_doctype(tree: &mut Tree, parts: [&str; 3]) -> Result<(), PageFault>
     Ok(())
 }
 
-/// Adds the attributes of a tag to an element that lacks them.
+/// Adds those attributes of a tag to an element that it doesn't have yet.
 pub fn add_attrs(tree: &mut Tree, id: NodeId, tag: &Tag) -> Result<(), PageFault>
     requires { IsElement tree.old id }
     ensures { Grows tree.old tree.new }
 {
-    let attrs = attrs_of(tree.allocator(), Ns::Html, tag.attrs.as_slice())?;
+    let attrs = attrs_of(
+        tree.allocator(),
+        ElementNamespace::Html,
+        tag.attrs.as_slice(),
+    )?;
     settled(tree.add_missing_attrs_of(&id, attrs))
 }
 
-/// Makes an element, which stands alone.
+/// Makes a detached element and returns its id.
 fn create(
     tree: &mut Tree,
     name: QualName,
@@ -122,20 +127,20 @@ fn create(
     made(tree.create_element(name, attrs, flags))
 }
 
-/// What is particular of the element of a tag: whether it is a template, or an `annotation-xml`
-/// whose encoding is HTML.
-fn flags_of(ns: Ns, name: Name, tag: &Tag) -> ElementFlags {
+/// Returns the flags of a tag's element: whether it is a template, or an `annotation-xml` whose
+/// encoding is HTML.
+fn flags_of(ns: ElementNamespace, name: Name, tag: &Tag) -> ElementFlags {
     ElementFlags {
-        template: ns == Ns::Html && name == Name::Template,
+        template: ns == ElementNamespace::Html && name == Name::Template,
         mathml_annotation_xml_integration_point: holds_html(ns, name, tag),
     }
 }
 
-/// Puts the element of a tag at a gap.
+/// Inserts the element of a tag at an insertion point.
 pub fn put_element(
     tree: &mut Tree,
-    gap: Gap,
-    ns: Ns,
+    gap: InsertionPoint,
+    ns: ElementNamespace,
     name: Name,
     tag: &Tag,
 ) -> Result<Open, PageFault>
@@ -158,10 +163,10 @@ pub fn put_element(
     })
 }
 
-/// Puts a new element at a gap.
+/// Inserts a new element at an insertion point and returns its id.
 fn put_new(
     tree: &mut Tree,
-    gap: Gap,
+    gap: InsertionPoint,
     name: QualName,
     attrs: Attrs,
     flags: ElementFlags,
@@ -173,17 +178,17 @@ fn put_new(
     if flags.template {
         return put_made(tree, gap, name, attrs, flags);
     }
-    let Gap::EndOf(parent) = gap else {
+    let InsertionPoint::EndOf(parent) = gap else {
         return put_made(tree, gap, name, attrs, flags);
     };
     let mathml = flags.mathml_annotation_xml_integration_point;
     append(tree, parent, Element::new(name, attrs, None, mathml))
 }
 
-/// Makes an element, which stands alone, and then puts it at a gap.
+/// Makes a detached element and then moves it to an insertion point.
 fn put_made(
     tree: &mut Tree,
-    gap: Gap,
+    gap: InsertionPoint,
     name: QualName,
     attrs: Attrs,
     flags: ElementFlags,
@@ -199,7 +204,7 @@ fn put_made(
     Ok(made)
 }
 
-/// Makes an element without contents as the last child of a node.
+/// Makes an element without template contents as the last child of a node.
 fn append(tree: &mut Tree, parent: NodeId, element: Element) -> Result<NodeId, PageFault>
     requires open { IsOpenGap (EndOf parent) tree.old }
     requires plain { element.template_contents ≡ None }
@@ -210,7 +215,7 @@ fn append(tree: &mut Tree, parent: NodeId, element: Element) -> Result<NodeId, P
     made(tree.append_child_data_of(&parent, NodeData::Element(element)))
 }
 
-/// The name and the attributes of an element.
+/// Returns copies of an element's name and attributes.
 fn copied(tree: &Tree, id: NodeId) -> Result<(QualName, Attrs), PageFault>
     requires { IsElement tree.now id }
 {
@@ -223,7 +228,7 @@ fn copied(tree: &Tree, id: NodeId) -> Result<(QualName, Attrs), PageFault>
     Ok((element.name().try_clone()?, element.attrs().try_clone()?))
 }
 
-/// The same element again, alone: its name and attributes.
+/// Makes a detached copy of an element, with its name and attributes and without children.
 fn copy_of(tree: &mut Tree, element: Open) -> Result<Open, PageFault>
     requires { IsElement tree.old element.id }
     ensures forest { IsForest tree.old }
@@ -247,8 +252,8 @@ fn copy_of(tree: &mut Tree, element: Open) -> Result<Open, PageFault>
     })
 }
 
-/// Puts a copy of an element at a gap.
-pub fn put_copy(tree: &mut Tree, gap: Gap, element: Open) -> Result<Open, PageFault>
+/// Inserts a copy of an element at an insertion point.
+pub fn put_copy(tree: &mut Tree, gap: InsertionPoint, element: Open) -> Result<Open, PageFault>
     requires gap { IsOpenGap gap tree.old }
     requires element { IsElement tree.old element.id }
     ensures grows { Grows tree.old tree.new }
@@ -259,7 +264,7 @@ pub fn put_copy(tree: &mut Tree, gap: Gap, element: Open) -> Result<Open, PageFa
     Ok(copy)
 }
 
-/// Puts an element into a copy of another one, which stands alone.
+/// Makes a detached copy of an element, and moves the node `id` into the copy.
 pub fn put_into_copy(tree: &mut Tree, element: Open, id: NodeId) -> Result<Open, PageFault>
     requires rooted { IsRooted tree.old }
     requires element { IsElement tree.old element.id }
@@ -268,11 +273,11 @@ pub fn put_into_copy(tree: &mut Tree, element: Open, id: NodeId) -> Result<Open,
     ensures element { IfOk result (λ copy. IsAround tree.old tree.new copy.id id) }
 {
     let copy = copy_of(tree, element)?;
-    move_to(tree, Gap::EndOf(copy.id), id);
+    move_to(tree, InsertionPoint::EndOf(copy.id), id);
     Ok(copy)
 }
 
-/// Puts the children of an element into a copy of another one, and that into the element.
+/// Moves the children of `parent` into a copy of `element`, and the copy into `parent`.
 pub fn put_children_into_copy(
     tree: &mut Tree,
     element: Open,
@@ -286,6 +291,6 @@ pub fn put_children_into_copy(
     let copy = copy_of(tree, element)?;
     reparent(tree, parent, copy.id);
     is_forest(tree);
-    move_to(tree, Gap::EndOf(parent), copy.id);
+    move_to(tree, InsertionPoint::EndOf(parent), copy.id);
     Ok(copy)
 }

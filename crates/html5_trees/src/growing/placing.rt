@@ -1,4 +1,4 @@
-//! The appropriate place for inserting a node.
+//! The appropriate place for inserting a node (13.2.6.1), with foster parenting.
 
 ghost use Rattle.std.specs.Prelude.{◌≡◌, IfSome, List, ℕ, true};
 ghost use Rattle.dom_links.specs.Sound.{IsOpenGap, children_allowed_at};
@@ -9,40 +9,40 @@ ghost use Rattle.html5_trees.specs.declared.stack.Open.{Open as AnOpen};
 
 use super::edits::is_forest;
 use crate::name::Name;
-use crate::stack::{Ns, Open, OpenElements};
-use dom_links::gap::Gap;
+use crate::stack::{ElementNamespace, Open, OpenElements};
+use dom_links::gap::InsertionPoint;
 use dom_nodes::node_id::NodeId;
 use dom_trees::tree::Tree;
 
-/// What bears on the place of a node besides the stack of open elements.
+/// What determines the place of a node, besides the stack of open elements.
 #[derive(Clone, Copy, Drop)]
 pub struct Placing {
-    /// Whether foster parenting is on.
+    /// Whether foster parenting is enabled.
     pub foster: bool,
-    /// Whether elements go into the head, behind which the current node stands.
+    /// Whether elements go into the head, which is closed already.
     pub in_head: bool,
-    /// So many elements may lie in one another.
+    /// The largest number of elements that may be nested.
     pub max_depth: usize,
 }
 
-/// Where a node goes.
+/// A place for a node.
 #[derive(Clone, Copy, Drop)]
 pub enum Place {
     EndOf(NodeId),
-    /// Right before a table that has a parent; else at the end of what another node holds.
+    /// Right before a table that has a parent, and otherwise at the end of the other node.
     Table(NodeId, NodeId),
 }
 
-/// Whether foster parenting moves what is put into that element.
+/// Returns whether foster parenting applies to what is inserted into that element.
 pub fn is_foster_target(target: &Open) -> bool {
-    target.ns == Ns::Html
+    target.ns == ElementNamespace::Html
         && matches!(
             target.name,
             Name::Table | Name::Tbody | Name::Tfoot | Name::Thead | Name::Tr
         )
 }
 
-/// The contents of a template; else the element itself.
+/// Returns the contents fragment of a template, and otherwise the element itself.
 fn inside(tree: &Tree, id: NodeId) -> NodeId
     requires { IsElement tree.now id }
     ensures open { children_allowed_at tree.now result ≡ true }
@@ -56,7 +56,7 @@ fn inside(tree: &Tree, id: NodeId) -> NodeId
     }
 }
 
-/// The place with the last of these open elements as the target.
+/// Returns the place with the last of these open elements as the target.
 fn place_in(tree: &Tree, elements: &[Open], foster: bool) -> Place
     requires root { IsRooted tree.now }
     requires open { AreOpen tree.now elements.now }
@@ -72,7 +72,7 @@ fn place_in(tree: &Tree, elements: &[Open], foster: bool) -> Place
     Place::EndOf(inside(tree, target.id))
 }
 
-/// The end of the root.
+/// Returns the place at the end of the root.
 fn root_place(tree: &Tree) -> Place
     requires { IsRooted tree.now }
     ensures place { IsPlace tree.now result }
@@ -82,7 +82,8 @@ fn root_place(tree: &Tree) -> Place
     Place::EndOf(tree.root_id())
 }
 
-/// Where foster parenting puts a node: before the last table, or into a template behind it.
+/// Returns the foster parent's place: before the last table, or in a template that was opened
+/// later.
 fn foster_place(tree: &Tree, elements: &[Open]) -> Place
     requires root { IsRooted tree.now }
     requires open { AreOpen tree.now elements.now }
@@ -95,7 +96,8 @@ fn foster_place(tree: &Tree, elements: &[Open]) -> Place
     }
 }
 
-/// Before the last table, if an element is open below it; or in a template behind it.
+/// Returns the place before the last table, if it has an element before it on the stack, or the
+/// place in a template that was opened later.
 fn table_place(tree: &Tree, elements: &[Open]) -> Option<Place>
     requires { AreOpen tree.now elements.now }
     ensures place { IfSome result (IsPlace tree.now) }
@@ -114,7 +116,7 @@ fn table_place(tree: &Tree, elements: &[Open]) -> Option<Place>
     None
 }
 
-/// The end of the element `html`, or of the root where nothing is open.
+/// Returns the place at the end of the outermost open element, or of the root if none is open.
 fn bottom_place(tree: &Tree, elements: &[Open]) -> Place
     requires root { IsRooted tree.now }
     requires open { AreOpen tree.now elements.now }
@@ -127,7 +129,7 @@ fn bottom_place(tree: &Tree, elements: &[Open]) -> Place
     }
 }
 
-/// The end of a node's parent, if it has one.
+/// Returns the place at the end of a node's parent, or of the node if it has none.
 fn place_above(tree: &Tree, id: NodeId) -> Place
     requires { children_allowed_at tree.now id ≡ true }
     ensures { IsPlace tree.now result }
@@ -139,8 +141,8 @@ fn place_above(tree: &Tree, id: NodeId) -> Place
     }
 }
 
-/// The gap at a place.
-fn gap_of(tree: &Tree, place: Place) -> Gap
+/// Returns the insertion point for a place.
+fn gap_of(tree: &Tree, place: Place) -> InsertionPoint
     requires { IsPlace tree.now place }
     ensures open { IsOpenGap result tree.now }
     ensures lies { (elements : List AnOpen) → LiesAt tree.now elements place
@@ -148,16 +150,16 @@ fn gap_of(tree: &Tree, place: Place) -> Gap
 {
     is_forest(tree);
     match place {
-        Place::EndOf(parent) => Gap::EndOf(parent),
+        Place::EndOf(parent) => InsertionPoint::EndOf(parent),
         Place::Table(table, other) => match tree.parent_of(&table) {
-            Some(_) => Gap::Before(table),
-            None => Gap::EndOf(inside(tree, other)),
+            Some(_) => InsertionPoint::Before(table),
+            None => InsertionPoint::EndOf(inside(tree, other)),
         },
     }
 }
 
-/// The gap where a node goes with the last of these open elements as the target.
-pub fn gap_in(tree: &Tree, elements: &[Open], foster: bool) -> Gap
+/// Returns the insertion point with the last of these open elements as the target.
+pub fn gap_in(tree: &Tree, elements: &[Open], foster: bool) -> InsertionPoint
     requires root { IsRooted tree.now }
     requires open { AreOpen tree.now elements.now }
     ensures open { IsOpenGap result tree.now }
@@ -166,9 +168,9 @@ pub fn gap_in(tree: &Tree, elements: &[Open], foster: bool) -> Gap
     gap_of(tree, place_in(tree, elements, foster))
 }
 
-/// The gap where a node goes. Where the elements lie as deep as they may, it is behind the current
-/// node, not in it.
-pub fn gap(tree: &Tree, stack: &OpenElements, placing: Placing) -> Gap
+/// Returns the insertion point for a node. If the elements are nested as deep as is allowed, it is
+/// in the parent of the current node instead.
+pub fn gap(tree: &Tree, stack: &OpenElements, placing: Placing) -> InsertionPoint
     requires root { IsRooted tree.now }
     requires stack { AreOpen tree.now stack.now.elements.items }
     ensures { IsOpenGap result tree.now }

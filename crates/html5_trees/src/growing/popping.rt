@@ -1,4 +1,5 @@
-//! Elements that leave the stack of open elements, and the list of active formatting elements.
+//! Removing elements from the stack of open elements and from the list of active formatting
+//! elements.
 
 ghost use Rattle.std.specs.Prelude.{◌≡◌};
 
@@ -6,22 +7,22 @@ use super::GrowingTree;
 use crate::fault::PageFault;
 use crate::formatting::Entry;
 use crate::name::Name;
-use crate::sets::{Context, Scope, has_implied_end};
+use crate::sets::{Scope, TableContext, has_implied_end};
 use crate::stack::Open;
 use dom_nodes::node_id::NodeId;
 
-/// What an end tag in foreign content comes to.
+/// What an end tag in foreign content does.
 #[derive(Clone, Copy, Drop)]
 pub enum ForeignEnd {
-    /// It ends the element at a place of the stack.
+    /// It closes the element at an index of the stack.
     At(usize),
-    /// An HTML element is met first, whose rules read the tag.
+    /// An HTML element comes first, so the rules for HTML content process the tag.
     Html,
     Nowhere,
 }
 
 impl GrowingTree {
-    /// Takes the current node off the stack.
+    /// Pops the current node off the stack of open elements.
     fn take(&mut self) -> Option<Open>
         ensures { self.new ≡ self.old }
     {
@@ -32,20 +33,20 @@ impl GrowingTree {
         let _ = self.take();
     }
 
-    /// Takes the current node off the stack, if it is an HTML element of that name.
+    /// Pops the current node, if it is an HTML element with that name.
     pub fn pop_if(&mut self, name: Name) {
         if self.stack.current_is(name) {
             self.pop();
         }
     }
 
-    /// Ends the option and the group of options that are open in a list.
+    /// Closes the open `option` and `optgroup`.
     pub fn pop_options(&mut self) {
         self.pop_if(Name::Option);
         self.pop_if(Name::Optgroup);
     }
 
-    /// Ends a group of options, and the option in it, if the current node is one of both.
+    /// Closes the open `optgroup`, and an `option` in it.
     pub fn end_optgroup(&mut self) {
         if self.stack.current_is(Name::Option)
             && let Some(open) = self.stack.get(self.stack.len().saturating_sub(2))
@@ -56,7 +57,7 @@ impl GrowingTree {
         self.pop_if(Name::Optgroup);
     }
 
-    /// Where an end tag in foreign content, where the current node is foreign, ends an element.
+    /// Returns which element an end tag in foreign content closes.
     pub fn foreign_end(&self, name: Name, written: &str) -> ForeignEnd {
         let html = self.stack.top_html();
         let top = self.stack.top_foreign(name, written);
@@ -69,28 +70,28 @@ impl GrowingTree {
         ForeignEnd::Nowhere
     }
 
-    /// Keeps the first open elements alone.
+    /// Pops elements until only the first `count` are open.
     pub fn truncate(&mut self, count: usize) {
         for _ in count..self.stack.len() {
             self.pop();
         }
     }
 
-    /// Marks all elements of the stack.
+    /// Brings the search index of the stack up to date.
     pub fn mark(&mut self)
         ensures { self.new ≡ self.old }
     {
         self.stack.mark();
     }
 
-    /// Takes the element at a place off the stack. `mark` is asked for later.
+    /// Removes the element at an index of the stack. The caller calls `mark` afterwards.
     pub fn remove_at(&mut self, place: usize)
         ensures { self.new ≡ self.old }
     {
         self.stack.remove_at(place);
     }
 
-    /// Takes an element off the stack.
+    /// Removes an element from the stack.
     pub fn remove(&mut self, element: &Open)
         ensures { self.new ≡ self.old }
     {
@@ -100,7 +101,7 @@ impl GrowingTree {
         }
     }
 
-    /// Pops elements up to the topmost one of that name, and that too.
+    /// Pops elements up to and including the last with that name.
     pub fn pop_to(&mut self, name: Name) {
         for _ in 0..self.stack.len() {
             match self.take() {
@@ -110,8 +111,8 @@ impl GrowingTree {
         }
     }
 
-    /// Closes the element of that name in scope, if there is one, with all that is open in it: what
-    /// has an implied end tag too. Returns whether there was one.
+    /// If an element with that name is in scope, pops elements up to and including it. Returns
+    /// whether one was.
     pub fn close(&mut self, name: Name, scope: Scope) -> bool {
         if !self.stack.in_scope(name, scope) {
             return false;
@@ -120,15 +121,15 @@ impl GrowingTree {
         true
     }
 
-    /// Any other end tag: what is open up to an element of that name is closed, unless a special
-    /// one lies between.
+    /// Processes any other end tag: pops elements up to and including the last with that name,
+    /// unless a special element comes first.
     pub fn close_named(&mut self, name: Name, written: &str) {
         if let Some(place) = self.stack.last_named(name, written) {
             self.truncate(place);
         }
     }
 
-    /// Leaves foreign content: pops elements up to one whose contents are read as HTML.
+    /// Leaves foreign content: pops elements up to one whose content is HTML, which stays.
     pub fn pop_foreign(&mut self) {
         for _ in 0..self.stack.len() {
             match self.stack.current() {
@@ -147,8 +148,8 @@ impl GrowingTree {
         }
     }
 
-    /// Pops elements up to one that ends the context, which stays.
-    pub fn clear_to(&mut self, context: Context) {
+    /// Pops elements up to one of the table context, which stays ("clear the stack back to").
+    pub fn clear_to(&mut self, context: TableContext) {
         for _ in 0..self.stack.len() {
             match self.stack.current() {
                 Some(open) if context.ends_at(&open) => return,
@@ -157,8 +158,8 @@ impl GrowingTree {
         }
     }
 
-    /// Adds the current node to the list. Of four that are the same since the last marker the
-    /// oldest goes.
+    /// Appends the current node to the list of active formatting elements. If three with the same
+    /// name and attributes follow the last marker, the earliest is removed.
     pub fn push_formatting(&mut self) -> Result<(), PageFault> {
         let Some(open) = self.stack.current() else {
             return Ok(());
@@ -174,7 +175,7 @@ impl GrowingTree {
         self.push_current(fingerprint)
     }
 
-    /// Adds the current node to the list, with that fingerprint.
+    /// Appends the current node to the list, with this hash of its attributes.
     fn push_current(&mut self, fingerprint: u32) -> Result<(), PageFault> {
         let Some(open) = self.stack.current() else {
             return Ok(());
@@ -189,7 +190,7 @@ impl GrowingTree {
         self.formatting.push(Entry::Marker)
     }
 
-    /// Takes the last entry off the list.
+    /// Removes the last entry of the list and returns it.
     fn take_entry(&mut self) -> Option<Entry> {
         self.formatting.take()
     }
@@ -203,14 +204,14 @@ impl GrowingTree {
         }
     }
 
-    /// Takes an entry out of the list.
+    /// Removes the entry at an index of the list.
     pub fn remove_entry(&mut self, index: usize)
         ensures { self.new ≡ self.old }
     {
         self.formatting.remove_at(index);
     }
 
-    /// Takes the entry of an element out of the list.
+    /// Removes an element's entry from the list.
     pub fn remove_formatting(&mut self, id: NodeId) {
         if let Some(index) = self.formatting.index_of(id) {
             self.remove_entry(index);

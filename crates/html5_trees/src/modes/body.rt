@@ -1,4 +1,4 @@
-//! Start tags by the rules for "in body".
+//! Start tags by the rules for "in body" (13.2.6.4.7).
 
 use super::groups::{Group, group_of};
 use super::is_start;
@@ -6,7 +6,7 @@ use crate::attributes::is_hidden;
 use crate::builder::{Mode, Next, TreeBuilder};
 use crate::name::Name;
 use crate::sets::{Scope, is_heading};
-use crate::stack::Ns;
+use crate::stack::ElementNamespace;
 use html5_tokens::token::Tag;
 use html5_tokens::tokenizer::State;
 
@@ -66,14 +66,14 @@ impl TreeBuilder {
             Group::Option => self.start_option(name, tag),
             Group::RubyBase => self.start_ruby(name, tag, None),
             Group::RubyText => self.start_ruby(name, tag, Some(Name::Rtc)),
-            Group::Math => self.insert_foreign(Ns::MathMl, name, tag),
-            Group::Svg => self.insert_foreign(Ns::Svg, name, tag),
+            Group::Math => self.insert_foreign(ElementNamespace::MathMl, name, tag),
+            Group::Svg => self.insert_foreign(ElementNamespace::Svg, name, tag),
             Group::Stray => Next::Done,
             _ => self.start_text(group, name, tag),
         }
     }
 
-    /// Elements whose characters are no markup, and all that no rule names.
+    /// Processes start tags of elements whose content is text, and those that no rule names.
     fn start_text(&mut self, group: Group, name: Name, tag: &Tag) -> Next {
         match group {
             Group::Plaintext => {
@@ -133,7 +133,7 @@ impl TreeBuilder {
         Next::Done
     }
 
-    /// An item of a list ends the one before it.
+    /// Inserts a list item, and closes the item before it.
     fn start_item(&mut self, name: Name, tag: &Tag) -> Next {
         if let Some(item) = self.tree.open().item_before(name) {
             self.tree.pop_to(item);

@@ -1,4 +1,4 @@
-//! End tags by the rules for "in body".
+//! End tags by the rules for "in body" (13.2.6.4.7).
 
 use super::groups::{Group, group_of};
 use crate::builder::{Mode, Next, TreeBuilder};
@@ -67,7 +67,7 @@ impl TreeBuilder {
         Next::Done
     }
 
-    /// Any other end tag; that of `br` stands for its start tag without attributes.
+    /// Processes any other end tag. `</br>` is treated as `<br>` without attributes.
     fn end_other(&mut self, name: Name, tag: &Tag) -> Next {
         if name == Name::Br {
             self.frameset_ok = false;

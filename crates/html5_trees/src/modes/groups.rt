@@ -1,12 +1,12 @@
-//! Which elements the rules for "in body" read alike.
+//! Groups of elements that the rules for "in body" treat alike.
 
 use crate::name::Name;
 
-/// Elements that are read alike in the body.
+/// A group of elements that the rules for "in body" treat alike.
 #[derive(Clone, Copy, Drop)]
 pub enum Group {
     Html,
-    /// What belongs into the head.
+    /// Elements of the head.
     Metadata,
     Template,
     Body,
@@ -17,14 +17,14 @@ pub enum Group {
     Pre,
     Form,
     Li,
-    /// The terms and details of a list of descriptions.
+    /// `dd` and `dt`.
     Description,
     Plaintext,
     Button,
     A,
     Formatting,
     Nobr,
-    /// What a marker is put down for.
+    /// Elements for which a marker is added to the list of active formatting elements.
     Object,
     Table,
     Void,
@@ -43,13 +43,13 @@ pub enum Group {
     RubyText,
     Math,
     Svg,
-    /// What has no place in the body.
+    /// Elements whose start tags are ignored in the body.
     Stray,
     Ordinary,
 }
 
 impl Group {
-    /// Whether such an element ends a `p` that is open.
+    /// Returns whether the start tag closes an open `p`.
     pub fn ends_paragraph(self) -> bool {
         matches!(
             self,
@@ -63,7 +63,7 @@ impl Group {
         )
     }
 
-    /// Whether no frameset may take the place of the body behind such an element.
+    /// Returns whether the start tag sets the frameset-ok flag to "not ok".
     pub fn fills_body(self) -> bool {
         matches!(
             self,
@@ -83,7 +83,8 @@ impl Group {
         )
     }
 
-    /// Whether the active formatting elements are opened again before such an element.
+    /// Returns whether the active formatting elements are reconstructed before the element is
+    /// inserted.
     pub fn continues_formatting(self) -> bool {
         matches!(
             self,
@@ -99,7 +100,7 @@ impl Group {
     }
 }
 
-/// The group of a name.
+/// Returns the group of a name.
 #[rattlefmt::skip]
 pub fn group_of(name: Name) -> Group {
     match name {
@@ -157,7 +158,7 @@ fn rare_group_of(name: Name) -> Group {
     }
 }
 
-/// Whether an element belongs into the head, wherever its start tag stands.
+/// Returns whether the rules for "in head" process the start tag, wherever it is.
 pub fn is_metadata(name: Name) -> bool {
     matches!(group_of(name), Group::Metadata | Group::Template)
 }

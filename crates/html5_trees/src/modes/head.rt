@@ -1,4 +1,4 @@
-//! Before the body.
+//! The modes before the body.
 
 use super::groups::is_metadata;
 use super::is_start;
@@ -60,7 +60,7 @@ impl TreeBuilder {
         self.done_in(Mode::InHead)
     }
 
-    /// A start tag `html` inside the document.
+    /// Adds the attributes of a later start tag `html` to the element.
     pub fn add_html_attrs(&mut self, tag: &Tag) -> Next {
         if !self.tree.open().has(Name::Template) {
             self.add_attrs(0, tag);
@@ -68,19 +68,19 @@ impl TreeBuilder {
         Next::Done
     }
 
-    /// Takes the current node off the stack, and reads the token again in that mode.
+    /// Pops the current node, and reprocesses the token in that mode.
     pub fn leave_for(&mut self, mode: Mode) -> Next {
         self.tree.pop();
         self.again_in(mode)
     }
 
-    /// The end tag of the current node, behind which that mode holds.
+    /// Pops the current node at its end tag, and switches to that mode.
     pub fn end_in_mode(&mut self, mode: Mode) -> Next {
         self.tree.pop();
         self.done_in(mode)
     }
 
-    /// A start tag that belongs into the head, wherever it stands.
+    /// Processes the start tag of an element of the head, wherever it is.
     pub fn head_element(&mut self, name: Name, tag: &Tag) -> Next {
         match name {
             Name::Title => self.insert_text_element(name, tag, State::Rcdata),
@@ -191,7 +191,8 @@ impl TreeBuilder {
         }
     }
 
-    /// An element that belongs into the head, behind it.
+    /// Processes the start tag of an element of the head after the head is closed; the element is
+    /// inserted into the head.
     fn in_head_again(&mut self, name: Name, tag: &Tag) -> Next {
         if !self.tree.has_head() {
             return Next::Done;

@@ -1,10 +1,10 @@
-//! Resetting the insertion mode appropriately.
+//! Resetting the insertion mode appropriately (13.2.4.1).
 
 use crate::builder::{Mode, TreeBuilder};
 use crate::name::Name;
-use crate::stack::Ns;
+use crate::stack::ElementNamespace;
 
-/// The elements that ask for a mode. The outermost open element asks for one whatever it is.
+/// The elements that determine a mode. The outermost open element always determines one.
 const ASKING: [Name; 15] = [
     Name::Select,
     Name::Td,
@@ -24,7 +24,7 @@ const ASKING: [Name; 15] = [
 ];
 
 impl TreeBuilder {
-    /// Resets the insertion mode to what the stack of open elements asks for.
+    /// Sets the insertion mode that the stack of open elements determines.
     pub fn reset_mode(&mut self) {
         self.mode = self.mode_of_stack();
     }
@@ -37,11 +37,11 @@ impl TreeBuilder {
         self.mode_at(place).unwrap_or(Mode::InBody)
     }
 
-    /// The mode that the element at a place of the stack asks for, if it asks for one.
+    /// Returns the mode that the element at an index of the stack determines, if any.
     fn mode_at(&self, place: usize) -> Option<Mode> {
         let last = place == 0;
-        let open = self.tree.adjusted(place)?;
-        if open.ns != Ns::Html {
+        let open = self.tree.adjusted_current_node(place)?;
+        if open.ns != ElementNamespace::Html {
             return if last { Some(Mode::InBody) } else { None };
         }
         match open.name {
@@ -65,7 +65,7 @@ impl TreeBuilder {
         }
     }
 
-    /// The current template insertion mode.
+    /// Returns the current template insertion mode.
     fn template_mode(&self) -> Mode {
         match self.template_modes.last().copied() {
             Some(mode) => mode,
@@ -73,7 +73,7 @@ impl TreeBuilder {
         }
     }
 
-    /// The mode of a `select` that is the topmost of the elements that ask.
+    /// Returns the mode for an open `select`.
     fn select_mode(&self, last: bool) -> Mode {
         if !last && self.tree.open().is_in_table() {
             Mode::InSelectInTable

@@ -1,4 +1,4 @@
-//! Lists to choose from.
+//! The insertion modes of `select`.
 
 use super::{is_start, next_if};
 use crate::builder::{Next, TreeBuilder};
@@ -6,7 +6,7 @@ use crate::name::Name;
 use crate::sets::Scope;
 use html5_tokens::token::Tag;
 
-/// Whether a tag of that name ends a list in a table.
+/// Returns whether a tag with that name closes a `select` in a table.
 fn leaves_select(name: Name) -> bool {
     matches!(
         name,

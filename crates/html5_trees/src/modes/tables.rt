@@ -4,10 +4,10 @@ use super::{Token, is_start, next_if};
 use crate::attributes::is_hidden;
 use crate::builder::{Mode, Next, TreeBuilder};
 use crate::name::Name;
-use crate::sets::{Context, Scope};
+use crate::sets::{Scope, TableContext};
 use html5_tokens::token::Tag;
 
-/// Whether an element stands between a table and its cells, or is a cell.
+/// Returns whether the name is of an element between a table and its cells, or of a cell.
 #[rattlefmt::skip]
 fn is_table_part(name: Name) -> bool {
     matches!(
@@ -25,7 +25,7 @@ fn is_cell(name: Name) -> bool {
     matches!(name, Name::Td | Name::Th)
 }
 
-/// Elements whose end tags are dropped where a table is open.
+/// Returns whether an end tag with that name is ignored in a table.
 fn is_dropped_end(name: Name) -> bool {
     matches!(
         name,
@@ -34,7 +34,7 @@ fn is_dropped_end(name: Name) -> bool {
 }
 
 impl TreeBuilder {
-    /// A tag by the rules for "in table".
+    /// Processes a tag by the rules for "in table".
     pub fn table_tag(&mut self, name: Name, tag: &Tag) -> Next {
         if is_start(tag) {
             return self.table_start(name, tag);
@@ -50,7 +50,7 @@ impl TreeBuilder {
         }
     }
 
-    /// Ends a table, if there is one.
+    /// Closes the open table, and returns whether there was one.
     fn end_table(&mut self) -> bool {
         let ended = self.tree.close(Name::Table, Scope::Table);
         if ended {
@@ -59,7 +59,8 @@ impl TreeBuilder {
         ended
     }
 
-    /// What doesn't belong into a table is read by the rules for "in body", with foster parenting.
+    /// Processes a token that can't be in a table by the rules for "in body", with foster
+    /// parenting.
     pub fn fostered(&mut self, token: Token<'_>) -> Next {
         self.placing.foster = true;
         let step = self.body_step(token);
@@ -81,7 +82,7 @@ impl TreeBuilder {
     }
 
     fn start_table_part(&mut self, name: Name, tag: &Tag) -> Next {
-        self.tree.clear_to(Context::Table);
+        self.tree.clear_to(TableContext::Table);
         match name {
             Name::Caption => {
                 self.push_marker();
@@ -102,7 +103,7 @@ impl TreeBuilder {
     }
 
     fn start_table_form(&mut self, tag: &Tag) -> Next {
-        if !self.tree.bars_form() {
+        if !self.tree.ignores_form() {
             self.insert(Name::Form, tag);
             self.tree.set_form();
             self.tree.pop();
@@ -110,7 +111,7 @@ impl TreeBuilder {
         Next::Done
     }
 
-    /// Ends a caption, if there is one.
+    /// Closes the open caption, and returns whether there was one.
     fn end_caption(&mut self) -> bool {
         if !self.tree.close(Name::Caption, Scope::Table) {
             return false;
@@ -138,7 +139,7 @@ impl TreeBuilder {
         }
     }
 
-    /// Ends a column group, if it is the current node.
+    /// Closes the column group if it is the current node, and reprocesses the token.
     pub fn leave_column_group(&mut self) -> Next {
         if !self.tree.open().current_is(Name::Colgroup) {
             return Next::Done;
@@ -175,12 +176,12 @@ impl TreeBuilder {
     }
 
     fn end_section(&mut self) {
-        self.tree.clear_to(Context::Section);
+        self.tree.clear_to(TableContext::Section);
         self.tree.pop();
         self.mode = Mode::InTable;
     }
 
-    /// Ends a `tbody`, `thead` or `tfoot`, if there is one.
+    /// Closes the `tbody`, `thead` or `tfoot` in scope, if there is one, and reprocesses the token.
     fn leave_section(&mut self) -> Next {
         if !self.has_section_in_scope() {
             return Next::Done;
@@ -209,11 +210,11 @@ impl TreeBuilder {
     fn table_body_start(&mut self, name: Name, tag: &Tag) -> Next {
         match name {
             Name::Tr => {
-                self.tree.clear_to(Context::Section);
+                self.tree.clear_to(TableContext::Section);
                 self.insert_then(name, tag, Mode::InRow)
             }
             Name::Th | Name::Td => {
-                self.tree.clear_to(Context::Section);
+                self.tree.clear_to(TableContext::Section);
                 self.imply(Name::Tr, "tr", Mode::InRow)
             }
             _ if is_table_part(name) => self.leave_section(),
@@ -221,12 +222,12 @@ impl TreeBuilder {
         }
     }
 
-    /// Ends a row, if there is one.
+    /// Closes the row in scope, if there is one, and reprocesses the token.
     fn leave_row(&mut self) -> Next {
         if !self.tree.open().in_scope(Name::Tr, Scope::Table) {
             return Next::Done;
         }
-        self.tree.clear_to(Context::Row);
+        self.tree.clear_to(TableContext::Row);
         self.tree.pop();
         self.mode = Mode::InTableBody;
         Next::Again
@@ -264,13 +265,13 @@ impl TreeBuilder {
     }
 
     fn start_cell(&mut self, name: Name, tag: &Tag) -> Next {
-        self.tree.clear_to(Context::Row);
+        self.tree.clear_to(TableContext::Row);
         self.insert(name, tag);
         self.push_marker();
         self.done_in(Mode::InCell)
     }
 
-    /// Ends a cell of that name, if there is one.
+    /// Closes the cell with that name, and returns whether there was one in scope.
     fn end_cell(&mut self, name: Name) -> bool {
         if !self.tree.close(name, Scope::Table) {
             return false;
@@ -280,7 +281,7 @@ impl TreeBuilder {
         true
     }
 
-    /// Ends the cell that is open, if there is one.
+    /// Closes the open cell, if there is one, and reprocesses the token.
     fn leave_cell(&mut self) -> Next {
         next_if(self.end_cell(Name::Td) || self.end_cell(Name::Th))
     }
@@ -308,7 +309,7 @@ impl TreeBuilder {
         self.body_tag(name, tag)
     }
 
-    /// Ends the cell that is open, if it lies in an element of that name.
+    /// Closes the open cell and reprocesses the token, if an element with that name is in scope.
     fn leave_cell_in(&mut self, name: Name) -> Next {
         if self.tree.open().in_scope(name, Scope::Table) {
             return self.leave_cell();

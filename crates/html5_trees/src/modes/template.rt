@@ -1,4 +1,4 @@
-//! Templates.
+//! The insertion mode of templates.
 
 use super::groups::is_metadata;
 use super::is_start;

@@ -1,28 +1,29 @@
-//! What is known of the open elements without a walk over them.
+//! A search index over the stack of open elements: each search takes constant time.
 
-use super::{Ns, Open};
+use super::{ElementNamespace, Open};
 use crate::fault::PageFault;
 use crate::name::{COUNT, Name};
 use crate::sets::{ends_default_scope, is_crossed_by_items, is_special};
 use std::alloc::Global;
 
-/// What is known of an element and of those below it: places, each with one added; 0 stands for
-/// none.
+/// The answers for an element and those before it on the stack. Each is one more than an index of
+/// the stack, and 0 means that there is none.
 #[derive(Clone, Copy, Drop)]
 pub struct Mark {
-    /// The next element of the same name below it that is an HTML element, or foreign, as it is.
+    /// The previous element with the same name that is an HTML element or a foreign one, like this
+    /// one.
     same: usize,
-    /// The topmost HTML element, it or one below.
+    /// The last HTML element up to here.
     html: usize,
-    /// The topmost special element, it or one below.
+    /// The last special element up to here.
     special: usize,
-    /// The topmost one that ends the default scope.
+    /// The last element up to here that ends the default scope.
     ends: usize,
-    /// The topmost special one that items of lists don't cross.
+    /// The last special element up to here that ends the search for an open list item.
     item_ends: usize,
 }
 
-/// The mark where nothing is open.
+/// The answers for an empty stack.
 const NOTHING: Mark = Mark {
     same: 0,
     html: 0,
@@ -31,19 +32,19 @@ const NOTHING: Mark = Mark {
     item_ends: 0,
 };
 
-/// That place if it is one of those, else the one below.
+/// Returns this position if the element qualifies, and otherwise the one found before.
 fn topmost_of(is_one: bool, top: usize, below: usize) -> usize {
     if is_one { top } else { below }
 }
 
-/// The topmost elements of a name, the HTML one and the foreign one.
+/// The last HTML element and the last foreign element with some name, as one more than an index.
 #[derive(Clone, Copy, Drop)]
 pub struct Tops {
     pub html: usize,
     pub foreign: usize,
 }
 
-/// No elements of a name.
+/// There is no element with the name.
 const NONE: Tops = Tops {
     html: 0,
     foreign: 0,
@@ -55,14 +56,14 @@ fn put(all: &mut [Tops], index: usize, tops: Tops) {
     }
 }
 
-/// The marks of the open elements, the outermost first. Those from a place on may be missing while
-/// elements there change.
+/// The index over the stack, one entry for each element. The entries from some position on may be
+/// missing while elements there change.
 #[derive(Drop)]
 pub struct Marks {
     rows: Vec<Mark>,
-    /// For each name the topmost elements that have marks.
+    /// For each name, the last elements that have entries.
     tops: [Tops; COUNT],
-    /// The same for each number of a name that no rule names.
+    /// For each number of a name that is not in `Name`, the last elements that have entries.
     others: Vec<Tops>,
 }
 
@@ -79,22 +80,23 @@ impl Marks {
         self.rows.last().copied().unwrap_or(NOTHING)
     }
 
-    /// The topmost special element, with one added to its place as in all that follow.
+    /// Returns the last special element. Like all searches below, it returns one more than an
+    /// index, and 0 if there is none.
     pub fn special(&self) -> usize {
         self.last().special
     }
 
-    /// The topmost element that ends the default scope.
+    /// Returns the last element that ends the default scope.
     pub fn ends(&self) -> usize {
         self.last().ends
     }
 
-    /// The topmost special element that items of lists don't cross.
+    /// Returns the last special element that ends the search for an open list item.
     pub fn item_ends(&self) -> usize {
         self.last().item_ends
     }
 
-    /// The topmost HTML element.
+    /// Returns the last HTML element.
     pub fn html(&self) -> usize {
         self.last().html
     }
@@ -103,22 +105,22 @@ impl Marks {
         self.tops.get(name as usize).copied().unwrap_or(NONE)
     }
 
-    /// The topmost HTML element of that name, which a rule names.
+    /// Returns the last HTML element with that name, which is not `Other`.
     pub fn top(&self, name: Name) -> usize {
         self.tops(name).html
     }
 
-    /// The topmost foreign element of that name, which a rule names.
+    /// Returns the last foreign element with that name, which is not `Other`.
     pub fn top_foreign(&self, name: Name) -> usize {
         self.tops(name).foreign
     }
 
-    /// The topmost elements of the name that has that number.
+    /// Returns the last elements with the name that has this number.
     pub fn top_other(&self, number: u32) -> Tops {
         self.others.get(number as usize).copied().unwrap_or(NONE)
     }
 
-    /// The topmost HTML element that has one of these names.
+    /// Returns the last HTML element with one of these names.
     pub fn topmost(&self, names: &[Name]) -> usize {
         let mut topmost = 0;
         for name in names {
@@ -127,7 +129,8 @@ impl Marks {
         topmost
     }
 
-    /// The next HTML element of the same name below the one at a place.
+    /// Returns the previous element like the one at an index: with the same name, and an HTML
+    /// element or a foreign one like it.
     pub fn same(&self, place: usize) -> usize {
         match self.rows.get(place) {
             Some(mark) => mark.same,
@@ -135,7 +138,7 @@ impl Marks {
         }
     }
 
-    /// The topmost elements of an element's name.
+    /// Returns the last elements with the name of this element.
     fn tops_of(&self, open: &Open) -> Tops {
         match open.name {
             Name::Other => self.top_other(open.number),
@@ -146,7 +149,7 @@ impl Marks {
     fn set_top(&mut self, open: &Open, top: usize) {
         let old = self.tops_of(open);
         let tops = match open.ns {
-            Ns::Html => Tops { html: top, ..old },
+            ElementNamespace::Html => Tops { html: top, ..old },
             _ => Tops {
                 foreign: top,
                 ..old
@@ -158,7 +161,7 @@ impl Marks {
         }
     }
 
-    /// Takes memory for the topmost elements of the name that has that number.
+    /// Reserves memory for the name that has this number.
     pub fn make_room(&mut self, number: u32) -> Result<(), PageFault> {
         if number as usize >= self.others.len() {
             self.others.push(NONE)?;
@@ -166,13 +169,13 @@ impl Marks {
         Ok(())
     }
 
-    /// Takes memory for the marks of so many elements.
+    /// Reserves memory for the entries of a stack of `count` elements.
     pub fn reserve(&mut self, count: usize) -> Result<(), PageFault> {
         self.rows.reserve(count.saturating_sub(self.rows.len()))?;
         Ok(())
     }
 
-    /// Takes off the marks of the elements from a place on.
+    /// Removes the entries from an index on.
     pub fn cut(&mut self, place: usize, elements: &[Open]) {
         for index in (place..self.rows.len()).rev() {
             if let Some(mark) = self.rows.pop()
@@ -183,7 +186,7 @@ impl Marks {
         }
     }
 
-    /// Marks the elements whose marks are missing. The memory for these is there.
+    /// Adds the missing entries, whose memory is already reserved.
     pub fn fill(&mut self, elements: &[Open]) {
         for index in self.rows.len()..elements.len() {
             if let Some(open) = elements.get(index) {
@@ -204,7 +207,7 @@ impl Marks {
     fn mark_of(&self, open: &Open, top: usize) -> Mark {
         let below = self.last();
         let special = is_special(open);
-        let is_html = open.ns == Ns::Html;
+        let is_html = open.ns == ElementNamespace::Html;
         let same = self.tops_of(open);
         Mark {
             same: if is_html { same.html } else { same.foreign },

@@ -1,10 +1,10 @@
-//! Numbers of names that no rule names.
+//! Numbers for element names that are not in `Name`.
 
 use crate::fault::PageFault;
 use std::alloc::Global;
 use std::collections::BTreeMap;
 
-/// The names that no rule names and that elements bore, with a number for each.
+/// The names outside `Name` that elements of the page have, with a number for each.
 #[derive(Drop)]
 pub struct OtherNames {
     numbers: BTreeMap<String, u32>,
@@ -17,12 +17,13 @@ impl OtherNames {
         }
     }
 
-    /// The number of a name, if an element bore it.
+    /// Returns the number of a name, if an element had it.
     pub fn get(&self, name: &str) -> Option<u32> {
         self.numbers.get(name).copied()
     }
 
-    /// The number of a name, which is the next one where no element bore it.
+    /// Returns the number of a name; a new name gets the next number. Fails with `Memory`, or with
+    /// `TooManyNodes` if there are too many names.
     pub fn number_of(&mut self, alloc: Global, name: &str) -> Result<u32, PageFault> {
         if let Some(number) = self.get(name) {
             return Ok(number);

@@ -1,5 +1,5 @@
 use Rattle.std.proofs.Common.{◌++◌, drop}
-use Rattle.dom_links.specs.Trees.{walk_below}
+use Rattle.dom_links.specs.Trees.{descendants_in_order}
 use Rattle.dom_index.specs.Collected.{collected, set_left}
 use Rattle.dom_index.proofs.CollectLemmas.{Collected}
 use Rattle.dom_index.proofs.collect.collect_below.Given as goal
@@ -8,5 +8,5 @@ use Rattle.dom_index.proofs.collect.collect_below.Given as goal
 abbrev pub invariant-loop-i : goal.invariant-loop-i
 invariant-loop-i l =
     let forest = l.preorder.tree.now in
-    let walk = walk_below forest l.fn.root in
+    let walk = descendants_in_order forest l.fn.root in
     Collected forest l.found.items l.table.items (drop l.i l.row) (l.fn.found.items ++ collected forest l.fn.table.items walk) (set_left forest l.fn.table.items walk)

@@ -1,6 +1,6 @@
 use Rattle.std.proofs.Common.{◌≡◌, ◌++◌, length, drop}
 use Rattle.std.specs.List.{flat_map}
-use Rattle.dom_links.specs.Trees.{walk_below}
+use Rattle.dom_links.specs.Trees.{descendants_in_order}
 use Rattle.dom_index.specs.Collected.{collected}
 use Rattle.dom_index.proofs.collect.collect_matches.Given as goal
 
@@ -10,5 +10,5 @@ invariant-loop-root l =
     let forest = l.preorder.tree.now in
     record {
       long : length l.table.items ≡ length forest.content;
-      all : l.found.items ++ collected forest l.table.items (flat_map (walk_below forest) (drop l.root-index l.roots)) ≡ collected forest l.fn.table.items (flat_map (walk_below forest) l.roots);
+      all : l.found.items ++ collected forest l.table.items (flat_map (descendants_in_order forest) (drop l.root-index l.roots)) ≡ collected forest l.fn.table.items (flat_map (descendants_in_order forest) l.roots);
     }

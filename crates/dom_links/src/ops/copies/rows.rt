@@ -1,4 +1,4 @@
-//! The rows of nodes of which copies are still to be made.
+//! The stack of rows that are still to be copied.
 
 ghost use Rattle.std.specs.Prelude.{◌≡◌, ◌∷◌, ◌++◌, [], IfErr, MatchOption, OnErr, OnOk};
 ghost use Rattle.dom_nodes.specs.declared.fault.EditFault.TheVariants.{Memory};
@@ -8,8 +8,8 @@ use dom_nodes::fault::EditFault;
 use std::alloc::Global;
 use std::marker::Model;
 
-/// Rows. The last of them lies apart, so that one row needs no memory. A contract sees them as a
-/// list.
+/// A stack of rows. The top lies outside the vector, so that a stack of one row needs no
+/// allocation. In a contract it is the list of the rows, the top last.
 #[derive(Drop)]
 pub(super) struct Rows {
     others: Vec<Row>,
@@ -27,7 +27,7 @@ impl Model for Rows {
 }
 
 impl Rows {
-    /// No rows.
+    /// Returns an empty stack. It allocates no memory.
     #[inline(always)]
     pub(super) fn new(alloc: Global) -> Rows
         ensures { result ≡ [] }
@@ -38,7 +38,7 @@ impl Rows {
         }
     }
 
-    /// Adds a row at the end.
+    /// Pushes a row. It fails with `Memory`, and the stack is then unchanged.
     #[inline(always)]
     pub(super) fn push(&mut self, row: Row) -> Result<(), EditFault>
         ensures ok { OnOk result (self.new ≡ self.old ++ row ∷ []) }
@@ -52,7 +52,7 @@ impl Rows {
         Ok(())
     }
 
-    /// Takes the last row.
+    /// Pops the top row, or returns `None` when the stack is empty.
     #[inline(always)]
     pub(super) fn pop(&mut self) -> Option<Row>
         ensures { MatchOption result ((self.old ≡ []) × (self.new ≡ []))

@@ -19,5 +19,5 @@ returns-in_err-document-clause-cause g c =
 pub returns-clause-begun : goal.returns-clause-begun
 returns-clause-begun g c =
     let read = c.in_ok-document.ensures.ok in
-    on_err_weaker c.do_commands.result (λ begun. began-from c.one_reading.ensures c.one_reading-2.ensures _ _ _ _ read.0 _ _ _
-    c.in_ok-commands.ensures.ok read.1 read.2 c.deref.ensures.value read.3 begun) c.do_commands.ensures.begun
+    on_err_weaker c.run_commands.result (λ begun. began-from c.one_reading.ensures c.one_reading-2.ensures _ _ _ _ read.0 _ _ _
+    c.in_ok-commands.ensures.ok read.1 read.2 c.deref.ensures.value read.3 begun) c.run_commands.ensures.begun

@@ -3,9 +3,9 @@ use Rattle.std.specs.List.{flat_map}
 use Rattle.std.specs.Result.{IfOk}
 use Rattle.std.proofs.lemmas.List.{get_or-replicate}
 use Rattle.std.proofs.lemmas.Result.{IfOk-weaker}
-use Rattle.dom_links.specs.Trees.{walk_below}
+use Rattle.dom_links.specs.Trees.{descendants_in_order}
 use Rattle.dom_selectors.specs.ValuesAsTrees.{read_list}
-use Rattle.dom_select.specs.Meaning.{Means}
+use Rattle.dom_select.specs.Meaning.{MatchesNode}
 use Rattle.dom_select.specs.Selected.{Selected}
 use Rattle.dom_index.specs.Index.{Indexed}
 use Rattle.dom_index.specs.TestCounts.{AddsTests, Counts, SelectionTests, SelectorsTests}
@@ -22,8 +22,8 @@ returns-clause-found c =
     let all = c.deref.result.now in
     let filled : all ≡ replicate c.len.result true = c.deref.ensures.value ∙ c.in_ok-all.ensures.items_if_clones_equal (λ y h. h) in
     let everywhere : (n : ℕ) → n < length forest.content → in_set all n ≡ true = λ n known. ap (λ cells. in_set cells n) filled ∙ get_or-replicate c.len.result n true _ (omega (arith, c.len.ensures, c.self.inside.preorder.ordered.long)) in
-    let answer = subst (λ list. IsSetOf table (length forest.content) (Means list forest)) c.selectors.ensures (decided_anywhere all table (length forest.content) _ everywhere c.in_ok-table.ensures.table) in
-    let ids = collected forest table (flat_map (walk_below forest) c.args.roots.now) in
+    let answer = subst (λ list. IsSetOf table (length forest.content) (MatchesNode list forest)) c.selectors.ensures (decided_anywhere all table (length forest.content) _ everywhere c.in_ok-table.ensures.table) in
+    let ids = collected forest table (flat_map (descendants_in_order forest) c.args.roots.now) in
     let selected = collected_selected forest c.args.matcher.now c.args.roots.now table (walks_inside forest c.args.roots.now c.walk_laws.ensures) answer in
     subst (λ (it : Indexed). IfOk c.collect_matches.result (λ found. Selected it.tree.now c.args.roots.now c.args.matcher.now found.items)) c.self.view_is
     (IfOk-weaker c.collect_matches.result _ _ (λ found e. subst (Selected forest c.args.roots.now c.args.matcher.now) (sym e) selected) c.collect_matches.ensures)

@@ -5,7 +5,7 @@ use Rattle.dom_links.specs.Forest.{IsArenaOf, forest_of, parent, siblings}
 use Rattle.dom_links.proofs.moves.Kept.{removed}
 use Rattle.dom_links.proofs.forest.Written.{link-read}
 use Rattle.dom_links.proofs.moves.Cuts.{parent_known, prev_known, next_known}
-use Rattle.dom_links.proofs.moves.OneCuts.{arena-cut}
+use Rattle.dom_links.proofs.moves.OneCuts.{arena-detach}
 use Rattle.dom_links.proofs.ops.TreeNodeOps.remove_from_parent.Goals as goal
 
 -- what is read at x is the forest's
@@ -35,7 +35,7 @@ join-requires-clause-right_known c =
 
 pub returns-clause-arena : goal.returns-clause-arena
 returns-clause-arena c =
-    arena-cut (forest_of c.args.nodes.now) c.args.nodes.now c.join.new.nodes c.set_links.new.nodes c.args.x _ _ _ c.requires.linked c.requires.known
+    arena-detach (forest_of c.args.nodes.now) c.args.nodes.now c.join.new.nodes c.set_links.new.nodes c.args.x _ _ _ c.requires.linked c.requires.known
     (c.get-parent.ensures ∙ read_parent c.args.nodes.now c.value.result c.args.x c.index-nodes-value.result c.requires.linked c.requires.known c.value.ensures.number)
     (c.get-prev.ensures ∙ read_prev c.args.nodes.now c.value.result c.args.x c.index-nodes-value.result c.requires.linked c.requires.known c.value.ensures.number)
     (c.get-next.ensures ∙ read_next c.args.nodes.now c.value.result c.args.x c.index-nodes-value.result c.requires.linked c.requires.known c.value.ensures.number)

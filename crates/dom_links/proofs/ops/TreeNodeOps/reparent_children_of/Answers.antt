@@ -1,7 +1,7 @@
 use Rattle.std.proofs.Common.{◌∙◌, ap, arith, length, subst, ◌<◌, ◌≡◌, false}
 use Rattle.std.proofs.lemmas.Grind.{common_steps}
 use Rattle.std.specs.Option.{IfSome}
-use Rattle.dom_links.specs.Lists.{stands_in}
+use Rattle.dom_links.specs.Lists.{is_member}
 use Rattle.dom_links.specs.Forest.{forest_of, children_of}
 use Rattle.dom_links.specs.Moves.{end_of}
 use Rattle.dom_links.specs.ListMoves.{MovedList}
@@ -15,12 +15,12 @@ returns-in_default-first_child_of c =
 
 pub append_children_of-requires : goal.append_children_of-requires
 append_children_of-requires c =
-    let out : stands_in c.in-Some.t (children_of (forest_of c.args.nodes.now) c.args.x) ≡ false = subst (λ o. IfSome o (λ t. stands_in t (children_of (forest_of c.args.nodes.now) c.args.x) ≡ false)) c.in-Some.is c.requires.apart in
+    let out : is_member c.in-Some.t (children_of (forest_of c.args.nodes.now) c.args.x) ≡ false = subst (λ o. IfSome o (λ t. is_member t (children_of (forest_of c.args.nodes.now) c.args.x) ≡ false)) c.in-Some.is c.requires.apart in
     record {
       linked = c.requires.linked;
       target_known = subst (λ o. IfSome o (λ t. t < length c.args.nodes.now)) c.in-Some.is c.requires.target_known;
       known = grind (arith, common_steps);
-      apart = ap (stands_in c.in-Some.t) c.in-Some-first_child_of.ensures.all ∙ out;
+      apart = ap (is_member c.in-Some.t) c.in-Some-first_child_of.ensures.all ∙ out;
     }
 
 pub returns : goal.returns

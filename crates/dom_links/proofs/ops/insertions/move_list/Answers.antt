@@ -1,5 +1,5 @@
 use Rattle.std.proofs.Common.{◌∙◌, ap, sym}
-use Rattle.dom_links.specs.Lists.{stands_in}
+use Rattle.dom_links.specs.Lists.{is_member}
 use Rattle.dom_links.specs.Sound.{target}
 use Rattle.dom_links.proofs.copies.Gathering.{none_moved}
 use Rattle.dom_links.proofs.moves.BlockMoves.{IsRun, is_run, run_moved}
@@ -18,7 +18,7 @@ put_at-requires-clause-run c =
 
 pub put_at-requires-clause-apart : goal.put_at-requires-clause-apart
 put_at-requires-clause-apart c =
-    ap (stands_in (target c.args.gap)) (IsRun.all (is_run c.args.nodes.now c.gather.new.nodes c.args.moved.now c.in-Some.start c.requires.linked c.requires.moved c.gather.ensures.arena (sym c.gather.ensures.start ∙ c.in-Some.is))) ∙ c.requires.apart
+    ap (is_member (target c.args.gap)) (IsRun.all (is_run c.args.nodes.now c.gather.new.nodes c.args.moved.now c.in-Some.start c.requires.linked c.requires.moved c.gather.ensures.arena (sym c.gather.ensures.start ∙ c.in-Some.is))) ∙ c.requires.apart
 
 pub returns : goal.returns
 returns c =

@@ -1,5 +1,5 @@
 use Rattle.std.proofs.Common.{◌∙◌, sym, ap, subst, ◌≡◌, Some, arith}
-use Rattle.dom_links.specs.Lists.{stands_in}
+use Rattle.dom_links.specs.Lists.{is_member}
 use Rattle.dom_links.specs.Forest.{forest_of}
 use Rattle.dom_links.specs.Moves.{before_node}
 use Rattle.dom_links.specs.ListMoves.{MovedList, wrapper}
@@ -18,7 +18,7 @@ move_to-requires c =
       linked = c.requires.linked;
       target_known = omega arith;
       known = c.requires.known;
-      apart = ap (stands_in c.in-Some.parent) (siblings_child (forest_of c.args.nodes.now) c.args.x c.in-Some.parent (IsWrapper.parent_is is)) ∙ wrapper_apart (forest_of c.args.nodes.now) c.in-Some.parent c.requires.forest;
+      apart = ap (is_member c.in-Some.parent) (siblings_child (forest_of c.args.nodes.now) c.args.x c.in-Some.parent (IsWrapper.parent_is is)) ∙ wrapper_apart (forest_of c.args.nodes.now) c.in-Some.parent c.requires.forest;
     }
 
 pub remove_from_parent-requires-clause-known : goal.remove_from_parent-requires-clause-known

@@ -1,6 +1,6 @@
 use Rattle.std.proofs.Common.{arith}
 use Rattle.std.proofs.lemmas.Grind.{elements}
-use Rattle.dom_links.proofs.ops.moves.insertion_point_at.Goals as goal
+use Rattle.dom_links.proofs.ops.moves.resolved_point_at.Goals as goal
 
 pub returns-in-EndOf-clause-left : goal.returns-in-EndOf-clause-left
 returns-in-EndOf-clause-left c = grind (arith, elements)

@@ -10,12 +10,12 @@ attach_run-requires-clause-known c = start_known (forest_of c.args.nodes.now) c.
 
 pub attach_run-requires-clause-point_known : goal.attach_run-requires-clause-point_known
 attach_run-requires-clause-point_known c = record {
-  owner = owner_known (forest_of c.args.nodes.now) c.args.nodes.now c.args.gap _ c.requires.linked c.requires.target_known c.insertion_point_at-room.ensures.owner;
-  left = left_known (forest_of c.args.nodes.now) c.args.nodes.now c.args.gap _ c.requires.linked c.requires.target_known c.insertion_point_at-room.ensures.left;
-  right = right_known (forest_of c.args.nodes.now) c.args.nodes.now c.args.gap _ c.requires.linked c.requires.target_known c.insertion_point_at-room.ensures.right;
+  owner = owner_known (forest_of c.args.nodes.now) c.args.nodes.now c.args.gap _ c.requires.linked c.requires.target_known c.resolved_point_at-room.ensures.owner;
+  left = left_known (forest_of c.args.nodes.now) c.args.nodes.now c.args.gap _ c.requires.linked c.requires.target_known c.resolved_point_at-room.ensures.left;
+  right = right_known (forest_of c.args.nodes.now) c.args.nodes.now c.args.gap _ c.requires.linked c.requires.target_known c.resolved_point_at-room.ensures.right;
 }
 
 pub returns : goal.returns
 returns c =
     run_put (forest_of c.args.nodes.now) c.args.nodes.now c.attach_run.new.nodes c.args.gap c.args.x _ _ _ c.requires.linked c.requires.run c.requires.target_known c.requires.apart
-    c.insertion_point_at-room.ensures.owner c.insertion_point_at-room.ensures.left c.insertion_point_at-room.ensures.right c.attach_run.ensures
+    c.resolved_point_at-room.ensures.owner c.resolved_point_at-room.ensures.left c.resolved_point_at-room.ensures.right c.attach_run.ensures

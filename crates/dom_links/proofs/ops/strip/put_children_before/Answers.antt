@@ -1,7 +1,7 @@
 use Rattle.std.proofs.Common.{◌∙◌, ap, arith, subst}
 use Rattle.std.proofs.lemmas.Grind.{common_steps}
 use Rattle.dom_links.specs.Forest.{forest_of}
-use Rattle.dom_links.specs.Lists.{stands_in}
+use Rattle.dom_links.specs.Lists.{is_member}
 use Rattle.dom_links.specs.ListMoves.{MovedList}
 use Rattle.dom_links.specs.Moves.{before_node}
 use Rattle.dom_links.proofs.moves.Dissolving.{known_in}
@@ -16,7 +16,7 @@ move_to-requires c = record {
   linked = c.requires.sound.arena;
   target_known = known_in c.args.nodes.now c.args.p c.requires.placed.0 c.requires.sound c.requires.placed.1;
   known = grind (arith, common_steps);
-  apart = ap (stands_in c.args.p) c.in-Some.ensures.all ∙ wrapper_apart (forest_of c.args.nodes.now) c.args.p c.requires.sound.forest;
+  apart = ap (is_member c.args.p) c.in-Some.ensures.all ∙ wrapper_apart (forest_of c.args.nodes.now) c.args.p c.requires.sound.forest;
 }
 
 pub returns-in_default : goal.returns-in_default

@@ -1,5 +1,5 @@
 use Rattle.std.proofs.Common.{◌∙◌, ap}
-use Rattle.dom_markup.specs.Growing.{part_of}
+use Rattle.dom_markup.specs.TreeUnderConstruction.{part_of}
 use Rattle.dom_markup.proofs.rows.GrowingLemmas.{given_one}
 use Rattle.dom_markup.proofs.document.growing.give.Goals as goal
 

@@ -1,6 +1,6 @@
 use Rattle.std.proofs.Common.{◌≡◌, take}
 use Rattle.std.specs.Rc.{rc_value}
-use Rattle.dom_markup.specs.Growing.{with_lists}
+use Rattle.dom_markup.specs.TreeUnderConstruction.{with_lists}
 use Rattle.dom_markup.proofs.document.growing.give.Given as goal
 
 -- the first elements have their attributes

@@ -1,5 +1,5 @@
 use Rattle.std.proofs.Common.{◌≡◌, take}
-use Rattle.dom_markup.specs.LateTexts.{joined}
+use Rattle.dom_markup.specs.DeferredTexts.{joined}
 use Rattle.dom_markup.proofs.document.late_texts.block_of.Given as goal
 
 -- the first texts stand in the list

@@ -1,5 +1,5 @@
 use Rattle.std.proofs.Common.{◌≡◌, length, take}
-use Rattle.dom_markup.specs.LateTexts.{joined, with_texts}
+use Rattle.dom_markup.specs.DeferredTexts.{joined, with_texts}
 use Rattle.dom_markup.proofs.document.late_texts.share.Given as goal
 
 -- the first texts have their contents, and the next one lies behind theirs

@@ -1,5 +1,5 @@
 use Rattle.std.proofs.Common.{◌≡◌, ◌↔◌, ◌∷◌, IsTrue, Some, false, true≢false, refl, inl, ◌<◌, ◌≤◌, ℕ, inr, length, ap, map, sym, ◌∙◌, subst, arith}
-use Rattle.dom_links.specs.Lists.{stands_in}
+use Rattle.dom_links.specs.Lists.{is_member}
 use Rattle.dom_selectors.specs.ListsAsTrees.{steps_of}
 use Rattle.dom_selectors.specs.ValuesAsTrees.{read_compound, read_step}
 use Rattle.dom_select.specs.Chains.{BeginsChain, binding_level}
@@ -184,13 +184,13 @@ relative_matches-returns-clause-is t c = (
   λ s.
       let r = reached_from c.args.caches.now (rw c.tree-tree.ensures at c.line_laws.ensures) c.args.lead (read_compound c.args.first.now) (steps_of (map read_step c.args.steps.now)) c.args.id s in
       let there = c.loop-top.invariant.left r.0 r.1 r.2 in
-      let none : stands_in r.0 (search_roots_from c.args.caches.now c.args.lead c.loop-top.top) ≡ false = ap (λ o. stands_in r.0 (search_roots_from c.args.caches.now c.args.lead o)) c.in_default.is in
+      let none : is_member r.0 (search_roots_from c.args.caches.now c.args.lead c.loop-top.top) ≡ false = ap (λ o. is_member r.0 (search_roots_from c.args.caches.now c.args.lead o)) c.in_default.is in
       absurd (true≢false (sym there ∙ none)),
 )
 
 pub matches_within-returns-then-chain_matches-2-clause-is : goal.matches_within-returns-then-chain_matches-2-clause-is
 matches_within-returns-then-chain_matches-2-clause-is t c =
-    (c.in-Some.y, inr (c.loop-y.invariant.among c.in-Some.y (ap (stands_in c.in-Some.y) c.in-Some.ensures.steps.first ∙ stands_first c.in-Some.y _)), (rw c.loop-y.invariant.kept at c.chain_matches-in-loop-y.ensures.is).0 c.if-chain_matches-2.true)
+    (c.in-Some.y, inr (c.loop-y.invariant.among c.in-Some.y (ap (is_member c.in-Some.y) c.in-Some.ensures.steps.first ∙ stands_first c.in-Some.y _)), (rw c.loop-y.invariant.kept at c.chain_matches-in-loop-y.ensures.is).0 c.if-chain_matches-2.true)
 
 pub relative_matches-holds_beside-requires : goal.relative_matches-holds_beside-requires
 relative_matches-holds_beside-requires t c = (omega (arith, c.decreases), (c.is_near.ensures c.if-is_near.true).1)
@@ -293,7 +293,7 @@ matches_in_row-returns-clause-is t c = (
       let r = reached_from forest (rw c.tree-tree.ensures at c.line_laws.ensures) c.args.lead (read_compound c.args.first.now) (steps_of (map read_step c.args.steps.now)) c.args.id s in
       let y = r.2.0 in
       let there = c.loop-next.invariant.left y r.2.2 in
-      let none : stands_in y (right_row forest (row_combinator c.args.lead) c.loop-next.next) ≡ false = ap (λ o. stands_in y (right_row forest (row_combinator c.args.lead) o)) c.in_default.is in
+      let none : is_member y (right_row forest (row_combinator c.args.lead) c.loop-next.next) ≡ false = ap (λ o. is_member y (right_row forest (row_combinator c.args.lead) o)) c.in_default.is in
       absurd (true≢false (sym there ∙ none)),
 )
 

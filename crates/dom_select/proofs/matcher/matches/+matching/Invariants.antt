@@ -1,12 +1,12 @@
 use Rattle.std.proofs.Common.{ℕ, List, true, ◌⊎◌, ◌≡◌, ◌+◌, ◌≤◌, map, drop, length, ◌↔◌}
 use Rattle.dom_links.specs.Forest.{Forest}
-use Rattle.dom_links.specs.Lists.{stands_in}
-use Rattle.dom_links.specs.Trees.{walk_below}
+use Rattle.dom_links.specs.Lists.{is_member}
+use Rattle.dom_links.specs.Trees.{descendants_in_order}
 use Rattle.dom_select.specs.declared.matcher.has.Start.TheVariants.{Relative}
 use Rattle.dom_selectors.specs.declared.syntax.Selector.{Selector}
 use Rattle.dom_selectors.specs.ListsAsTrees.{lists_of, steps_of}
 use Rattle.dom_select.specs.Leftward.{line, ends_at}
-use Rattle.dom_select.specs.Meaning.{HasHolds, ListsHold, Means, RelativeMatches}
+use Rattle.dom_select.specs.Meaning.{HasHolds, ListsHold, MatchesNode, RelativeMatches}
 use Rattle.dom_selectors.specs.ValuesAsTrees.{read_compound, read_list, read_nested, read_step}
 use Rattle.dom_selectors.proofs.Weights.{compound_weight, lists_weight, list_weight, selectors_weight, steps_weight}
 use Rattle.dom_select.proofs.ReachLemmas.{IsMeant, SomeOnLine}
@@ -68,7 +68,7 @@ invariant-holds_of-loop-list l =
     }
 
 abbrev pub invariant-means_node-loop-selector : goal.invariant-means_node-loop-selector
-invariant-means_node-loop-selector l = LeftDecide (λ list. Means list l.fn.caches l.id) l.selectors l.selector-index l.fn.caches l.caches
+invariant-means_node-loop-selector l = LeftDecide (λ list. MatchesNode list l.fn.caches l.id) l.selectors l.selector-index l.fn.caches l.caches
 
 -- the steps are followed so far
 abbrev pub invariant-match_suffix-loop-last : goal.invariant-match_suffix-loop-last
@@ -113,8 +113,8 @@ invariant-has_holds-loop-selector l = LeftDecide (λ list. HasHolds list l.fn.ca
 abbrev pub invariant-relative_matches-loop-top : goal.invariant-relative_matches-loop-top
 invariant-relative_matches-loop-top l = record {
   kept : l.caches ≡ l.fn.caches;
-  left : (t : ℕ) → stands_in t (search_roots l.fn.caches l.fn.lead l.fn.id) ≡ true →
-      MatchesWithin (Relative l.fn.lead l.fn.id) (read_compound l.first) (steps_of (map read_step l.steps)) l.fn.caches t → stands_in t (search_roots_from l.fn.caches l.fn.lead l.top) ≡ true;
+  left : (t : ℕ) → is_member t (search_roots l.fn.caches l.fn.lead l.fn.id) ≡ true →
+      MatchesWithin (Relative l.fn.lead l.fn.id) (read_compound l.first) (steps_of (map read_step l.steps)) l.fn.caches t → is_member t (search_roots_from l.fn.caches l.fn.lead l.top) ≡ true;
 }
 
 abbrev pub decreases-relative_matches-loop-top : goal.decreases-relative_matches-loop-top
@@ -124,9 +124,9 @@ decreases-relative_matches-loop-top l = length (search_roots_from l.fn.caches l.
 abbrev pub invariant-matches_within-loop-y : goal.invariant-matches_within-loop-y
 invariant-matches_within-loop-y l = record {
   kept : l.caches ≡ l.fn.caches;
-  left : (y : ℕ) → ((y ≡ l.fn.top) ⊎ (stands_in y (walk_below l.fn.caches l.fn.top) ≡ true)) →
-      SelectorMatches l.start (read_compound l.first) (steps_of (map read_step l.steps)) l.fn.caches y → stands_in y l.y-iterator.left ≡ true;
-  among : (y : ℕ) → stands_in y l.y-iterator.left ≡ true → stands_in y (walk_below l.fn.caches l.fn.top) ≡ true;
+  left : (y : ℕ) → ((y ≡ l.fn.top) ⊎ (is_member y (descendants_in_order l.fn.caches l.fn.top) ≡ true)) →
+      SelectorMatches l.start (read_compound l.first) (steps_of (map read_step l.steps)) l.fn.caches y → is_member y l.y-iterator.left ≡ true;
+  among : (y : ℕ) → is_member y l.y-iterator.left ≡ true → is_member y (descendants_in_order l.fn.caches l.fn.top) ≡ true;
 }
 
 abbrev pub decreases-holds_beside : goal.decreases-holds_beside
@@ -152,7 +152,7 @@ decreases-matches_in_row l = 10 + compound_weight (read_compound l.first.now) + 
 abbrev pub invariant-matches_in_row-loop-next : goal.invariant-matches_in_row-loop-next
 invariant-matches_in_row-loop-next l = record {
   kept : l.caches ≡ l.fn.caches;
-  left : (y : ℕ) → SelectorMatches (Relative l.fn.lead l.fn.id) (read_compound l.first) (steps_of (map read_step l.steps)) l.fn.caches y → stands_in y (right_row l.fn.caches (row_combinator l.fn.lead) l.next) ≡ true;
+  left : (y : ℕ) → SelectorMatches (Relative l.fn.lead l.fn.id) (read_compound l.first) (steps_of (map read_step l.steps)) l.fn.caches y → is_member y (right_row l.fn.caches (row_combinator l.fn.lead) l.next) ≡ true;
 }
 
 abbrev pub decreases-matches_in_row-loop-next : goal.decreases-matches_in_row-loop-next

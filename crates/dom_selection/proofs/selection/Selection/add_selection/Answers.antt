@@ -1,6 +1,6 @@
 use Rattle.std.proofs.Common.{◌∙◌, ◌++◌, ◌+◌, List, ap, arith, drop, not, sym, subst}
 use Rattle.std.proofs.lemmas.Grind.{common_steps}
-use Rattle.dom_links.specs.Lists.{stands_in, without}
+use Rattle.dom_links.specs.Lists.{is_member, without}
 use Rattle.dom_trees.specs.declared.node_ref.NodeRef.{NodeRef}
 use Rattle.dom_selection.specs.Selections.{HasOneTree, ids_of, refs_in}
 use Rattle.dom_selection.proofs.GatherLemmas.{left_from}
@@ -13,7 +13,7 @@ loop-node-preserved c =
     let items = c.nodes-node-items.result.now in
     let node = c.node-item.result in
     let split = left_from items c.loop-node.node-index node c.loop-node-test.true c.node-item.is in
-    let seen = ap not (c.has.ensures ∙ c.in_ok-ours.ensures node.id ∙ ap (λ (ns : List NodeRef). stands_in node.id (ids_of ns)) c.nodes.ensures.nodes) in
+    let seen = ap not (c.has.ensures ∙ c.in_ok-ours.ensures node.id ∙ ap (λ (ns : List NodeRef). is_member node.id (ids_of ns)) c.nodes.ensures.nodes) in
     ap (λ (ns : List NodeRef). ns ++ refs_in ours (without (ids_of ours) (ids_of (drop (c.loop-node.node-index + 1) items)))) c.in_ok-push_if.ensures
     ∙ add_step ours c.loop-node.all.items c.in-Some.tree c.new.result node.id (ids_of (drop (c.loop-node.node-index + 1) items)) _ (not c.has.result) (sym c.in-Some.ensures.tree) c.new.ensures seen
     (ap (λ (ns : List NodeRef). c.loop-node.all.items ++ refs_in ours (without (ids_of ours) (ids_of ns))) (sym split) ∙ c.loop-node.invariant)

@@ -2,7 +2,7 @@ use Rattle.std.proofs.Common.{◌≡◌, arith, ap, length, rules, ◌∙◌}
 use Rattle.std.proofs.lemmas.Grind.{common_steps}
 use Rattle.std.proofs.lemmas.List.{with_items_is}
 use Rattle.dom_links.specs.Forest.{forest_of, children_of}
-use Rattle.dom_links.specs.Moves.{cut}
+use Rattle.dom_links.specs.Moves.{detach}
 use Rattle.dom_trees.proofs.tree.Tree.remove_children_of.Goals as goal
 
 pub returns : goal.returns
@@ -11,8 +11,8 @@ returns c =
     let long : length c.remove_children.new.nodes ≡ c.self.inside.nodes.len = same ∙ c.deref_mut.ensures.len in
     record {
       ok = ap forest_of (with_items_is c.self.inside.nodes c.remove_children.new.nodes long) ∙ c.remove_children.ensures.made
-          ∙ ap (λ nodes. cut (children_of (forest_of nodes) c.args.id.now) (forest_of nodes)) c.deref_mut.ensures.value
-          ∙ ap (λ forest. cut (children_of forest c.args.id.now) forest) c.self.view_is;
+          ∙ ap (λ nodes. detach (children_of (forest_of nodes) c.args.id.now) (forest_of nodes)) c.deref_mut.ensures.value
+          ∙ ap (λ forest. detach (children_of forest c.args.id.now) forest) c.self.view_is;
       allowed = search rules;
       err = search rules;
       cause = search rules;

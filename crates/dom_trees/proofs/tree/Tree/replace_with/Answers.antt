@@ -3,8 +3,8 @@ use Rattle.std.proofs.lemmas.Grind.{common_steps}
 use Rattle.std.proofs.lemmas.List.{with_items_is}
 use Rattle.dom_nodes.specs.declared.node_data.TreeNode.{TreeNode}
 use Rattle.dom_links.specs.Forest.{forest_of}
-use Rattle.dom_links.specs.declared.gap.Gap.TheVariants.{Before}
-use Rattle.dom_links.specs.declared.gap.Moving.TheVariants.{Node}
+use Rattle.dom_links.specs.declared.gap.InsertionPoint.TheVariants.{Before}
+use Rattle.dom_links.specs.declared.gap.MovedNodes.TheVariants.{Node}
 use Rattle.dom_links.specs.Sound.{IsSoundArena}
 use Rattle.dom_trees.specs.Edits.{MayMove}
 use Rattle.dom_trees.proofs.Whole.{replaced_sound}

@@ -3,7 +3,7 @@ use Rattle.dom_nodes.specs.declared.name.NameParts.{NameParts}
 use Rattle.dom_links.specs.Growth.{with_child, with_template}
 use Rattle.dom_trees.specs.NewNodes.{element_with}
 use Rattle.dom_markup.specs.Bytes.{folded}
-use Rattle.dom_markup.specs.Growing.{plain_element}
+use Rattle.dom_markup.specs.TreeUnderConstruction.{plain_element}
 use Rattle.dom_markup.specs.Names.{is_template}
 use Rattle.dom_markup.specs.Reader.{Grows, parent_number}
 use Rattle.dom_markup.proofs.rows.Steps.{plain_made, template_made}

@@ -1,6 +1,6 @@
 use Rattle.std.proofs.Common.{refl, ℕ, length, subst}
 use Rattle.dom_links.specs.Growth.{with_child}
-use Rattle.dom_markup.specs.Growing.{GrowsTo, plain_element}
+use Rattle.dom_markup.specs.TreeUnderConstruction.{GrowsTo, plain_element}
 use Rattle.dom_markup.proofs.rows.Steps.{may_grow}
 use Rattle.dom_markup.proofs.document.reader.Reader.append_plain.Goals as goal
 

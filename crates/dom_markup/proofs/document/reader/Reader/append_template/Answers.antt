@@ -1,7 +1,7 @@
 use Rattle.std.proofs.Common.{refl, ◌+◌, ℕ, length, subst}
 use Rattle.dom_links.specs.Growth.{with_template}
 use Rattle.dom_trees.specs.NewNodes.{element_with}
-use Rattle.dom_markup.specs.Growing.{GrowsTo}
+use Rattle.dom_markup.specs.TreeUnderConstruction.{GrowsTo}
 use Rattle.dom_markup.proofs.rows.Steps.{may_grow}
 use Rattle.dom_markup.proofs.document.reader.Reader.append_template.Goals as goal
 

@@ -1,13 +1,13 @@
 use Rattle.std.proofs.Common.{◌++◌, ap, sym, ◌∙◌}
 use Rattle.std.specs.List.{flat_map}
-use Rattle.dom_links.specs.Trees.{walk_below}
+use Rattle.dom_links.specs.Trees.{descendants_in_order}
 use Rattle.dom_select.specs.Roots.{root_ids}
 use Rattle.dom_select.proofs.SeveralLemmas.{next_root, still_none}
 use Rattle.dom_select.proofs.matcher.several.Walks.next.Goals as goal
 
 pub returns-in-Some : goal.returns-in-Some
 returns-in-Some c =
-    sym c.self.view_is ∙ sym c.loop-id.invariant ∙ ap (λ ns. ns ++ flat_map (walk_below c.loop-id.self-inside.tree.now) (root_ids c.loop-id.self-inside.roots)) c.in-Some.ensures
+    sym c.self.view_is ∙ sym c.loop-id.invariant ∙ ap (λ ns. ns ++ flat_map (descendants_in_order c.loop-id.self-inside.tree.now) (root_ids c.loop-id.self-inside.roots)) c.in-Some.ensures
 
 pub returns-in_err-root : goal.returns-in_err-root
 returns-in_err-root c =

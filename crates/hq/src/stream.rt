@@ -1,0 +1,239 @@
+//! Streams of pages: a line of JSON is read, and a line of JSON answers it.
+
+use crate::pages::change;
+use dom_query::{
+    Command, Document, DocumentSelect, Matcher, NodeMarkup, NodeRef, parse_page_bytes, run_commands,
+};
+use hq_pages::addresses::make_whole_at;
+use hq_pages::faults::Fault;
+use hq_pages::json::summary_value;
+use hq_pages::options::{Job, Options, Printing, Show};
+use hq_pages::page_lines::{PageLine, address_of, put, put_error, read_line};
+use hq_pages::pages::page_options;
+use hq_pages::showing::text_of;
+use serde_json::{Map, Value};
+use std::alloc::Global;
+use std::fs;
+use std::io::{BufRead, BufReader, Write};
+use std::time::Instant;
+
+/// What has been read and answered so far.
+#[derive(Clone, Copy, Drop)]
+pub struct Counts {
+    pub pages: u64,
+    pub bytes: u64,
+    pub faults: u64,
+    /// Whether something matched in one of the pages.
+    pub matched: bool,
+}
+
+impl Counts {
+    fn new() -> Counts {
+        Counts {
+            pages: 0,
+            bytes: 0,
+            faults: 0,
+            matched: false,
+        }
+    }
+}
+
+/// Answers the lines of all files, and returns whether something matched. A file that can't be read
+/// ends the run.
+pub fn answer_files<W: Write>(
+    rt: &HostRuntime,
+    options: &Options<'_>,
+    out: &mut W,
+) -> Result<bool, Fault> {
+    let begun = Instant::now(rt).ok();
+    let mut counts = Counts::new();
+    for name in options.files.as_slice() {
+        answer_file(rt, name, options, &mut counts, out)?;
+    }
+    if options.stream.progress {
+        out.flush()?;
+        report_counts(rt, counts, begun);
+    }
+    Ok(counts.matched)
+}
+
+fn answer_file<W: Write>(
+    rt: &HostRuntime,
+    name: &str,
+    options: &Options<'_>,
+    counts: &mut Counts,
+    out: &mut W,
+) -> Result<(), Fault> {
+    let alloc = rt.alloc();
+    if name == "-" {
+        let mut reader = BufReader::new(alloc, rt.stdin())?;
+        return answer_lines(alloc, &mut reader, options, counts, out);
+    }
+    match fs::open(rt, name) {
+        Ok(file) => {
+            let mut reader = BufReader::new(alloc, file)?;
+            answer_lines(alloc, &mut reader, options, counts, out)
+        }
+        Err(fault) => Err(Fault::File(fault)),
+    }
+}
+
+/// Answers each line of a reader.
+fn answer_lines<R: BufRead, W: Write>(
+    alloc: Global,
+    reader: &mut R,
+    options: &Options<'_>,
+    counts: &mut Counts,
+    out: &mut W,
+) -> Result<(), Fault> {
+    let mut line = Vec::new(alloc);
+    for _ in 0..u64::MAX {
+        line.clear();
+        match reader.read_until(b'\n', &mut line) {
+            Ok(0) => break,
+            Ok(_) => answer_line(alloc, &line, options, counts, out)?,
+            Err(fault) => return Err(Fault::File(fault)),
+        }
+    }
+    Ok(())
+}
+
+/// Answers a line; an empty one has no answer.
+fn answer_line<W: Write>(
+    alloc: Global,
+    line: &[u8],
+    options: &Options<'_>,
+    counts: &mut Counts,
+    out: &mut W,
+) -> Result<(), Fault> {
+    if line.trim_ascii().is_empty() {
+        return Ok(());
+    }
+    counts.pages = counts.pages.saturating_add(1);
+    counts.bytes = counts.bytes.saturating_add(line.len() as u64);
+    let answer = Value::Object(answer_of(alloc, line, options, counts)?).to_string(alloc)?;
+    out.write_all(answer.as_bytes())?;
+    out.write_all(b"\n")?;
+    if options.stream.line_buffered {
+        out.flush()?;
+    }
+    Ok(())
+}
+
+/// The members of the answer to a line.
+fn answer_of(
+    alloc: Global,
+    line: &[u8],
+    options: &Options<'_>,
+    counts: &mut Counts,
+) -> Result<Map<String, Value>, Fault> {
+    let PageLine { page, mut members } = match read_line(alloc, line) {
+        Ok(read) => read,
+        Err(fault) => {
+            counts.faults = counts.faults.saturating_add(1);
+            let mut members = Map::new(alloc);
+            put_error(alloc, &mut members, fault.name())?;
+            return Ok(members);
+        }
+    };
+    if let Err(fault) = answer_page(alloc, &page, options, counts, &mut members) {
+        counts.faults = counts.faults.saturating_add(1);
+        let why = format!(in alloc; "{fault}")?;
+        put_error(alloc, &mut members, why.as_str())?;
+    }
+    Ok(members)
+}
+
+/// Puts the answer to a page into the members of its line.
+fn answer_page(
+    alloc: Global,
+    page: &[u8],
+    options: &Options<'_>,
+    counts: &mut Counts,
+    members: &mut Map<String, Value>,
+) -> Result<(), Fault> {
+    let mut document = parse_page_bytes(alloc, page, page_options(options.reading))?;
+    change(&mut document, options)?;
+    if let Some(address) = address_of(members) {
+        make_whole_at(&mut document, address)?;
+    }
+    match &options.job {
+        Job::Select(selector) => put_matches(alloc, &document, selector, options, counts, members),
+        Job::Script(commands) => {
+            let output = output_of(alloc, &mut document, commands)?;
+            put(alloc, members, "output", Value::String(output))
+        }
+        _ => {
+            let text = document.root().inner_html()?;
+            put(alloc, members, "document", Value::String(text))
+        }
+    }
+}
+
+/// Puts what a selector matches into the members, or how many matches there are.
+fn put_matches(
+    alloc: Global,
+    document: &Document,
+    selector: &Matcher,
+    options: &Options<'_>,
+    counts: &mut Counts,
+    members: &mut Map<String, Value>,
+) -> Result<(), Fault> {
+    let found = if options.printing.first {
+        document.select_single_matcher(selector)?
+    } else {
+        document.select_matcher(selector)?
+    };
+    counts.matched = counts.matched || found.exists();
+    if let Show::Count = options.printing.show {
+        return put(alloc, members, "count", Value::from(found.length() as u64));
+    }
+    let mut values = Vec::new(alloc);
+    for node in found.nodes() {
+        values.push(value_of(alloc, node, options.printing)?)?;
+    }
+    put(alloc, members, "matches", Value::Array(values))
+}
+
+/// What shows a match: an object, a text, or null where it lacks the attribute.
+fn value_of(alloc: Global, node: &NodeRef<'_>, printing: Printing<'_>) -> Result<Value, Fault> {
+    if let Show::All = printing.show {
+        return summary_value(alloc, node, None);
+    }
+    match text_of(node, printing)? {
+        Some(text) => Ok(Value::String(text)),
+        None => Ok(Value::Null),
+    }
+}
+
+/// What the commands of a script print over a page.
+fn output_of(
+    alloc: Global,
+    document: &mut Document,
+    commands: &[Command],
+) -> Result<String, Fault> {
+    let mut output = Vec::new(alloc);
+    run_commands(alloc, &mut document.tree, commands, &mut output)?;
+    match String::from_utf8(output) {
+        Ok(text) => Ok(text),
+        Err(_) => Err(Fault::Memory),
+    }
+}
+
+/// Reports what was read on standard error.
+fn report_counts(rt: &HostRuntime, counts: Counts, begun: Option<Instant>) {
+    let Counts {
+        pages,
+        bytes,
+        faults,
+        ..
+    } = counts;
+    let seconds = match begun.map(|begun| begun.elapsed(rt)) {
+        Some(Ok(took)) => took.as_secs().max(1),
+        _ => 1,
+    };
+    let rate = pages / seconds;
+    let _ = eprintln!(rt;
+        "hq: {pages} pages, {bytes} bytes, {faults} faults, {rate} pages a second"
+    );
+}

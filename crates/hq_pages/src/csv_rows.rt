@@ -1,0 +1,153 @@
+//! The rows of a table as CSV.
+
+use crate::faults::Fault;
+use crate::showing::joined_words;
+use csv::{Writer, WriterBuilder};
+use dom_query::NodeRef;
+use std::alloc::Global;
+
+/// A row has at most so many fields; what comes behind them is left out.
+const MOST_COLUMNS: usize = 4096;
+
+/// A cell spans at most so many rows, as the HTML Standard says.
+const MOST_ROWS: usize = 65_534;
+
+/// A cell spans at most so many columns, as the HTML Standard says.
+const MOST_SPAN: usize = 1000;
+
+/// A cell of an earlier row that reaches into the rows below.
+#[derive(Drop)]
+struct Reaching {
+    text: String,
+    /// In how many more rows it stands; where it is 0, the column is free.
+    rows: usize,
+}
+
+/// The rows of one table, as they are written.
+#[derive(Drop)]
+struct Rows {
+    alloc: Global,
+    writer: Writer<Vec<u8>>,
+    /// The cells that reach into the next row, by their column.
+    above: Vec<Reaching>,
+}
+
+/// Returns the rows in an element as CSV, each ended by a line feed but the last: those of its own
+/// table, not those of tables inside it. A field is the text of a cell with its whitespace joined.
+/// The text of a cell with `colspan` or `rowspan` stands in every field that the cell covers.
+pub fn csv_of(node: &NodeRef<'_>) -> Result<String, Fault> {
+    let alloc = node.tree.allocator();
+    let mut rows = Rows {
+        alloc,
+        writer: WriterBuilder::new()
+            .flexible(true)
+            .from_writer(Vec::new(alloc)),
+        above: Vec::new(alloc),
+    };
+    for row in node.descendants_it() {
+        if row.has_name("tr") && is_own_row(node, &row) {
+            rows.write_row(&row)?;
+        }
+    }
+    rows.finish()
+}
+
+/// Whether no table lies between an element and a row in it.
+fn is_own_row(node: &NodeRef<'_>, row: &NodeRef<'_>) -> bool {
+    for above in row.ancestors_it(None) {
+        if above.id == node.id {
+            return true;
+        }
+        if above.has_name("table") {
+            return false;
+        }
+    }
+    true
+}
+
+impl Rows {
+    fn write_row(&mut self, row: &NodeRef<'_>) -> Result<(), Fault> {
+        let mut column = 0;
+        for cell in row.children_it(false) {
+            if cell.has_name("td") || cell.has_name("th") {
+                column = self.write_cell(column, &cell)?;
+            }
+        }
+        self.write_above(column, usize::MAX)?;
+        Ok(self.writer.end_record()?)
+    }
+
+    /// Writes a cell at the next free column, and returns the column behind it.
+    fn write_cell(&mut self, column: usize, cell: &NodeRef<'_>) -> Result<usize, Fault> {
+        let text = joined_words(self.alloc, cell.text()?.as_str())?;
+        let rows = span_of(cell, "rowspan", MOST_ROWS).saturating_sub(1);
+        let mut column = self.write_above(column, 1)?;
+        for _ in 0..span_of(cell, "colspan", MOST_SPAN) {
+            if column >= MOST_COLUMNS {
+                break;
+            }
+            self.writer.write_field(text.as_bytes())?;
+            self.reach(column, text.as_str(), rows)?;
+            column = column.saturating_add(1);
+        }
+        Ok(column)
+    }
+
+    /// Writes the cells of earlier rows that stand from this column on, up to a column that is free,
+    /// or to the last one where `free` is larger than 1. Returns the column behind them.
+    fn write_above(&mut self, column: usize, free: usize) -> Result<usize, Fault> {
+        let mut column = column;
+        while let Some(cell) = self.above.get_mut(column) {
+            if cell.rows == 0 && free == 1 {
+                break;
+            }
+            self.writer.write_field(if cell.rows == 0 {
+                b""
+            } else {
+                cell.text.as_bytes()
+            })?;
+            cell.rows = cell.rows.saturating_sub(1);
+            column = column.saturating_add(1);
+        }
+        Ok(column)
+    }
+
+    /// Notes that a cell reaches into so many rows below, at a column.
+    fn reach(&mut self, column: usize, text: &str, rows: usize) -> Result<(), Fault> {
+        let text = String::from_str(self.alloc, if rows == 0 { "" } else { text })?;
+        let cell = Reaching { text, rows };
+        match self.above.get_mut(column) {
+            Some(free) => *free = cell,
+            None => self.above.push(cell)?,
+        }
+        Ok(())
+    }
+
+    /// The text of all rows, without the last line feed.
+    fn finish(self) -> Result<String, Fault> {
+        let Ok(mut bytes) = self.writer.into_inner() else {
+            return Err(Fault::Memory);
+        };
+        if bytes.last() == Some(&b'\n') {
+            bytes.pop();
+        }
+        match String::from_utf8(bytes) {
+            Ok(text) => Ok(text),
+            Err(_) => Err(Fault::Memory),
+        }
+    }
+}
+
+/// How many rows or columns a cell spans; 0 rows reach to the end of the table.
+fn span_of(cell: &NodeRef<'_>, name: &str, most: usize) -> usize {
+    let Some(Ok(span)) = cell
+        .attr(name)
+        .map(|written| written.trim().parse::<usize>())
+    else {
+        return 1;
+    };
+    if span == 0 && name == "rowspan" {
+        return most;
+    }
+    span.clamp(1, most)
+}

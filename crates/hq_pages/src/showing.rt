@@ -1,0 +1,99 @@
+//! What is printed of a match: a text, an attribute, Markdown, HTML or JSON.
+
+use crate::csv_rows::csv_of;
+use crate::faults::{Fault, shown};
+use crate::json::{shown_as, summary_json};
+use crate::options::{Printing, Show};
+use dom_query::{NodeMarkup, NodeRef, serialize_md};
+use std::alloc::Global;
+
+/// Returns the answer that shows a match, without the byte that ends it, or `None` where there is
+/// nothing to show: a match without the attribute that is asked for.
+pub fn answer_of(
+    node: &NodeRef<'_>,
+    printing: Printing<'_>,
+    file: Option<&str>,
+) -> Result<Option<String>, Fault> {
+    let alloc = node.tree.allocator();
+    if let Show::All = printing.show {
+        return Ok(Some(summary_json(alloc, node, file)?));
+    }
+    let Some(text) = text_of(node, printing)? else {
+        return none_as(alloc, printing.json);
+    };
+    Ok(Some(shown_as(alloc, text, printing.json)?))
+}
+
+/// What stands for an attribute that isn't there: `null` in JSON, where each match has an answer.
+fn none_as(alloc: Global, json: bool) -> Result<Option<String>, Fault> {
+    if !json {
+        return Ok(None);
+    }
+    Ok(Some(String::from_str(alloc, "null")?))
+}
+
+/// The text that shows a match, or `None` where it lacks the attribute that is asked for.
+pub fn text_of(node: &NodeRef<'_>, printing: Printing<'_>) -> Result<Option<String>, Fault> {
+    let alloc = node.tree.allocator();
+    match printing.show {
+        Show::Attr(name) => attr_of(alloc, node, name, printing.trims),
+        Show::Text => Ok(Some(trimmed(alloc, node.text()?, printing.trims)?)),
+        Show::Markdown => Ok(Some(serialize_md(node, !printing.inner, None)?)),
+        Show::Csv => Ok(Some(csv_of(node)?)),
+        _ if printing.inner => Ok(Some(node.inner_html()?)),
+        _ => Ok(Some(node.html()?)),
+    }
+}
+
+/// An attribute of a match. Its name is looked for as it is written, and then in lower case, in
+/// which a page's attributes are.
+fn attr_of(
+    alloc: Global,
+    node: &NodeRef<'_>,
+    name: &str,
+    trims: bool,
+) -> Result<Option<String>, Fault> {
+    if let Some(value) = node.attr(name) {
+        return Ok(Some(trimmed(alloc, String::from_str(alloc, value)?, trims)?));
+    }
+    let mut lower = String::from_str(alloc, name)?;
+    lower.make_ascii_lowercase();
+    match node.attr(lower.as_str()) {
+        Some(value) => Ok(Some(trimmed(alloc, String::from_str(alloc, value)?, trims)?)),
+        None => Ok(None),
+    }
+}
+
+/// A text as it is, or with its whitespace joined.
+fn trimmed(alloc: Global, text: String, trims: bool) -> Result<String, Fault> {
+    if !trims {
+        return Ok(text);
+    }
+    joined_words(alloc, text.as_str())
+}
+
+/// The words of a text, with one space between.
+pub fn joined_words(alloc: Global, text: &str) -> Result<String, Fault> {
+    let mut words = String::new(alloc);
+    for word in text.split_ascii_whitespace() {
+        if !words.is_empty() {
+            words.push(' ')?;
+        }
+        words.push_str(word)?;
+    }
+    Ok(words)
+}
+
+/// The name of a file in front of an answer, with a colon behind it.
+pub fn name_in_front(alloc: Global, name: &str, colored: bool) -> Result<String, Fault> {
+    let mut text = String::new(alloc);
+    if colored {
+        text.push_str("\u{1b}[35m")?;
+    }
+    text.push_str(shown(name))?;
+    if colored {
+        text.push_str("\u{1b}[0m")?;
+    }
+    text.push(':')?;
+    Ok(text)
+}

@@ -1,0 +1,55 @@
+//! A program that tests `dom_query`, and depends on it alone. `test_batch LINE ..` reads markup
+//! from standard input and prints the result of the call in each line; `test_batch noted` prints
+//! the parse errors of the page on standard input; `test_batch bulk WORD ..` reads many inputs, or
+//! makes streams fail. The calls and their expected output are in the rows of
+//! tests/rows/test_batch.
+#![tactic(auto)]
+
+mod asking;
+mod inputs;
+mod streams;
+mod web;
+
+use std::env;
+use std::process::ExitCode;
+
+/// Runs the command in the words.
+fn run(rt: &HostRuntime, words: &[String]) -> Option<()> {
+    match words {
+        [word, words @ ..] if word.as_str() == "bulk" => read_many(rt, words),
+        [word] if word.as_str() == "noted" => asking::note_input(rt),
+        _ => asking::answer_all(rt, words),
+    }
+}
+
+/// Runs the command in the words after `bulk`.
+fn read_many(rt: &HostRuntime, words: &[String]) -> Option<()> {
+    let (word, words) = words.split_first()?;
+    match word.as_str() {
+        "inputs" => inputs::answer_all(rt, only(words)?),
+        "pages" => inputs::read_pages(rt, only(words)?),
+        "streams" => streams::drive_all(rt, words),
+        _ => None,
+    }
+}
+
+/// Returns the word if there is exactly one.
+fn only(words: &[String]) -> Option<&str> {
+    match words {
+        [word] => Some(word.as_str()),
+        _ => None,
+    }
+}
+
+/// Runs the command in the program's arguments.
+fn obey(rt: &HostRuntime) -> Option<()> {
+    let words = env::args(rt).ok()?.skip(1);
+    run(rt, &words.collect::<Vec<String>>(rt.alloc()).ok()?)
+}
+
+fn main(rt: HostRuntime) -> ExitCode {
+    match obey(&rt) {
+        Some(()) => ExitCode::from(0),
+        None => ExitCode::from(1),
+    }
+}

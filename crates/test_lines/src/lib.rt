@@ -1,0 +1,7 @@
+//! Help for the test programs: splitting the lines that they are given into words, reading names
+//! and attributes in them, and printing answers.
+#![tactic(auto)]
+
+pub mod names;
+pub mod printing;
+pub mod words;

@@ -1,0 +1,284 @@
+"""The test command. Its last line is 'N passed, M failed', and its status is 0 where nothing failed.
+
+It does this, in this order:
+
+1. It runs the gate, `rt ci` (through tests/tools/gate.py), which proves every crate and runs every program once. Beside it,
+   tests/tools/edits.py tries the must-fail edits of each crate as soon as the gate has proved it.
+2. It runs the built programs on rows. A row is a line of JSON in tests/rows/PROGRAM/*.jsonl, or in tests/html5lib/*.jsonl
+   (html5lib's tests of tree construction, which are rows of the program `hq`).
+3. It runs the checks of tests/checks, the comparisons with the second definitions of tests/second_definitions, and the
+   callers of tests/must-not-compile.
+
+`check --rows` leaves out the first step. What an earlier run on this machine showed of the same files is kept; `check --anew`
+shows all of it again.
+
+The fields of a row: `markup` is the standard input; `args` is the list of arguments, or `script` is the only argument; `output`
+and `error` are what the program must write to standard output and standard error; `status` is its exit status, 0 if the field is
+missing. `markup_hex` and `script_hex` hold bytes in hexadecimal, for inputs that are not UTF-8. A text may also be a list of
+pieces, each a text and how often it is repeated, in which {n} is replaced by the number of the repetition; an argument may be
+a list of a text and how often it is repeated.
+
+tests/checks/documents.py says how the commands, programs and outputs in the documents are checked.
+
+A caller that must not compile is a file tests/must-not-compile/CRATE-WHAT.txt, a program that uses that crate alone. One line of it
+ends in '// refused: WORDS': with that line the compiler must refuse the program with those words, and without it, it must compile."""
+import json
+import os
+import pathlib
+import re
+import resource
+import shutil
+import subprocess
+import sys
+import time
+from concurrent.futures import ThreadPoolExecutor
+
+sys.dont_write_bytecode = True
+TESTS = pathlib.Path(__file__).resolve().parents[1]
+for folder in ("tools", "checks", "second_definitions"):
+    sys.path.insert(0, str(TESTS / folder))
+import clean  # noqa: E402
+import coverage  # noqa: E402
+import depth  # noqa: E402
+import documents  # noqa: E402
+import edits  # noqa: E402
+import hostile  # noqa: E402
+import options  # noqa: E402
+import paths  # noqa: E402
+import refusals  # noqa: E402
+import streams  # noqa: E402
+import ways  # noqa: E402
+from rows import ROOT, SECONDS, built, given, words_of  # noqa: E402
+
+NO_FUNCTION = "no_function_of_this_name"
+SEED, FORESTS, PATHS, WAYS = 1, 2000, 500, 400
+# The memory, in bytes, that must be free for each proof at a time: a crate's took up to 3.2 GB, the largest before
+# it was split took 4.8. `rt` reckons with up to 9, which leaves processors idle.
+PROOF = 4_000_000_000
+
+
+class Clock:
+    """How long each part of a run took by the wall, and of a processor the gate and all: that of the programs that were started."""
+
+    def __init__(self):
+        self.parts, self.begun = [], time.monotonic()
+
+    def note(self, part, wall, processor):
+        self.parts.append((part, wall, processor))
+
+    def timed(self, part, call):
+        """Does the call, notes how long it took, and returns what it returns."""
+        begun = time.monotonic()
+        counted = call()
+        self.note(part, time.monotonic() - begun, None)
+        return counted
+
+    def show(self):
+        for part, wall, processor in self.parts:
+            took = "" if processor is None else f", {processor / 60:.1f} of a processor"
+            print(f"time of {part}: {wall / 60:.1f} minutes{took}")
+
+
+def used(of=None):
+    """The processor time of a program that ended, or of all that ended so far, in seconds."""
+    of = of or resource.getrusage(resource.RUSAGE_CHILDREN)
+    return of.ru_utime + of.ru_stime
+
+
+def clear_built():
+    """Removes what was built of the libraries: `rt ci` puts back what it found, beside which what it builds itself may not fit."""
+    for folder in ROOT.glob("crates/*/out/rlib"):
+        shutil.rmtree(folder)
+
+
+def gate(clock):
+    """Runs the gate, shows what it says, and has the edits of each crate tried that it proved. Returns how many of its
+    checks passed and failed, and what waits for the edits and returns how many of them did."""
+    rt = shutil.which("rt")
+    if rt is None:
+        print("check: no command rt: the kit's folder bin must be on the PATH")
+        return (0, 1), lambda: (0, 0)
+    clear_built()
+    trials, begun = edits.Trials(anew="--anew" in sys.argv), time.monotonic()
+    # (a kit whose rt keeps nothing shows all anew each time, and has no such word)
+    anew = ["--anew"] if "--anew" in sys.argv and trials.refusals.kept else []
+    side_by_side = max(1, min(trials.processors, trials.rt.free() // PROOF))
+    env = {"RT_JOBS": str(side_by_side), **os.environ}
+    command = [sys.executable, TESTS / "tools" / "gate.py", *anew]
+    ran = subprocess.Popen(command, cwd=ROOT, env=env, stdout=subprocess.PIPE, stderr=subprocess.STDOUT, text=True)
+    last, proved_at, functions = "", begun, []
+    for line in ran.stdout:
+        function = re.match(r"fn (\w+)::(\S+): proved", line)
+        if function:
+            functions.append((function[1], function[2].split("::")))
+        kept = re.match(r"rt: (\w+) is kept: ", line)
+        proved = re.fullmatch(r"rt: (\w+)(?:: its tests are)? proved", line.strip())
+        if kept:
+            trials.built(kept[1], [])
+        if proved:
+            proved_at = time.monotonic()
+            line = f"{line.rstrip()} (after {(proved_at - begun) / 60:.1f} minutes)\n"
+            if "tests" not in line:
+                trials.built(proved[1], [path for name, path in functions if name == proved[1]])
+        sys.stdout.write(line)
+        sys.stdout.flush()
+        last = line.strip() or last
+    _, status, of_gate = os.wait4(ran.pid, 0)
+    ran.returncode = os.waitstatus_to_exitcode(status)
+    ended = time.monotonic()
+    clock.note("the gate's proofs", proved_at - begun, None)
+    clock.note("the gate's runs behind them", ended - proved_at, None)
+    clock.note("the gate", ended - begun, used(of_gate))
+    counted = re.fullmatch(r"(\d+) passed, (\d+) failed", last)
+    passed, failed = (int(counted[1]), int(counted[2])) if counted else (0, 1)
+    return (passed, failed if ran.returncode == 0 or failed else 1), trials.finish
+
+
+def fault_of(program, case):
+    """What is wrong with the program's answer, or None."""
+    try:
+        ran = subprocess.run(
+            [built(program), *words_of(case)], input=given(case, "markup"), capture_output=True, timeout=SECONDS, cwd=ROOT
+        )
+    except (OSError, subprocess.TimeoutExpired) as stopped:
+        return str(stopped)
+    wanted = given(case, "output"), given(case, "error"), case.get("status", 0)
+    got = ran.stdout, ran.stderr, ran.returncode
+    return None if got == wanted else f"wanted {wanted}, got {got}"[:2000]
+
+
+def run_rows(what, program, files):
+    """Has the program asked each line of the files, and returns how many passed and failed."""
+    passed = failed = 0
+    for file in sorted(files):
+        for number, line in enumerate(file.read_text(encoding="utf-8").splitlines(), 1):
+            fault = fault_of(program, json.loads(line))
+            if fault is None:
+                passed += 1
+            else:
+                failed += 1
+                print(f"{file.relative_to(ROOT)}:{number}: {fault}")
+    print(f"{what}: {passed} passed, {failed} failed")
+    return passed, failed if passed else failed + 1
+
+
+def rows():
+    """Runs each program on its rows, and returns how many passed and failed."""
+    counts = []
+    for folder in sorted((TESTS / "rows").iterdir()):
+        counts.append(run_rows(f"rows of {folder.name}", folder.name, folder.glob("*.jsonl")))
+    counts.append(run_rows("html5lib's tests of tree construction", "hq", (TESTS / "html5lib").glob("*.jsonl")))
+    return tuple(sum(column) for column in zip(*counts))
+
+
+def cleaned():
+    """Compares random forests that the program cleaned with a clean of our own."""
+    passed, failed = clean.compared(built("dq"), SEED, FORESTS)
+    print(f"forests that were cleaned: {passed} passed, {failed} failed")
+    return passed, failed
+
+
+def asked_each_way():
+    """Compares what selectors select in random forests by each way."""
+    passed, failed = ways.compared(built("test_queries"), SEED, WAYS)
+    print(f"selectors in random forests, each way: {passed} passed, {failed} failed")
+    return passed, failed
+
+
+def followed():
+    """Compares what paths find in random forests with a meaning of our own."""
+    passed, failed = paths.compared(built("test_queries"), SEED, PATHS)
+    print(f"paths in random forests: {passed} passed, {failed} failed")
+    return passed, failed
+
+
+def wrong_bodies():
+    """Looks for each must-fail edit that docs/WRONG_BODIES.md names, and returns how many are there and how many aren't."""
+    text = (ROOT / "docs" / "WRONG_BODIES.md").read_text(encoding="utf-8")
+    there = {file.stem for file in (TESTS / "must-fail").rglob("*.edit")}
+    named = set(re.findall(r"`(\w+-[\w-]+)`", text))
+    for name in sorted(named - there):
+        print(f"WRONG_BODIES.md: there is no must-fail edit {name}")
+    passed, failed = len(named & there), len(named - there)
+    print(f"wrong bodies: {passed} passed, {failed} failed")
+    return passed, failed if passed else failed + 1
+
+
+def front_end(rt, root, name, source):
+    """Whether the compiler takes the source as a program that uses that crate, over the libraries that the gate built, and
+    what it says. Nothing is proved: no function has the name that is asked for, so it ends once it has read them all."""
+    caller = root / "crates" / "caller"
+    (caller / "src").mkdir(parents=True, exist_ok=True)
+    (caller / "src" / "main.rt").write_text(source, encoding="utf-8")
+    listed = (ROOT / "crates.txt").read_text(encoding="utf-8")
+    (root / "crates.txt").write_text(f"{listed}caller: {name}\n", encoding="utf-8")
+    # (rt reads a list of crates once)
+    rt.rtlib.listed.cache_clear()
+    crate = next(it for it in rt.rtlib.crates_below(str(root)) if it.name == "caller")
+    said = rt.checked(crate, {}, ["--start", NO_FUNCTION, "--jobs", "1"], None).stdout
+    return f"no function `{NO_FUNCTION}`" in said, said
+
+
+def caller_fault(rt, root, file):
+    """What is wrong with a caller that must not compile, or None."""
+    lines = file.read_text(encoding="utf-8").splitlines(keepends=True)
+    marks = [line.partition("// refused:") for line in lines]
+    words = [mark[2].strip() for mark in marks if mark[1]]
+    if len(words) != 1 or not words[0]:
+        return "one line must end in '// refused: WORDS'"
+    name = file.name.partition("-")[0]
+    compiles, said = front_end(rt, root, name, "".join(lines))
+    if compiles or words[0] not in said:
+        return f"it compiles, or is refused for another reason: {said[-2000:]}"
+    compiles, said = front_end(rt, root, name, "".join(line for line, mark in zip(lines, marks) if not mark[1]))
+    return None if compiles else f"without that line it doesn't compile either: {said[-2000:]}"
+
+
+def refused_callers():
+    """Tries the callers that must not compile in a copy of the workspace, and returns how many are refused and how many
+    aren't."""
+    files = sorted((TESTS / "must-not-compile").glob("*.txt"))
+    trials, passed, failed = edits.Trials(), 0, 0
+    for name in trials.crates:
+        trials.lend(name)
+    for file in files:
+        fault = caller_fault(trials.rt, pathlib.Path(trials.room.name), file)
+        if fault is None:
+            passed += 1
+        else:
+            failed += 1
+            print(f"{file.relative_to(ROOT)}: {fault}")
+    trials.room.cleanup()
+    print(f"callers that must not compile: {passed} passed, {failed} failed")
+    return passed, failed
+
+
+def main():
+    if sys.argv[1:] not in ([], ["--rows"], ["--anew"]):
+        print("usage: check [--rows | --anew]; the head of tests/tools/check.py says what it does", file=sys.stderr)
+        return 2
+    # (the prover gives its memory back to the system again and again, unless it is told not to: 2 % of its time)
+    os.environ.setdefault("MIMALLOC_PURGE_DELAY", "-1")
+    clock, rows_alone = Clock(), sys.argv[1:] == ["--rows"]
+    counts, edits_left = (None, lambda: (0, 0)) if rows_alone else gate(clock)
+    tables = [rows, cleaned, followed, asked_each_way]
+    tables += [documents.documents, options.options, wrong_bodies, coverage.coverage, hostile.hostile]
+    counts = [counts] if counts else []
+    with ThreadPoolExecutor() as pool:
+        # (what is done beside the edits neither measures the processor time of others nor changes a child before it starts)
+        beside = [("the edits, once the gate had ended", edits_left), ("the refusals", refusals.refusals)]
+        beside = [pool.submit(clock.timed, *part) for part in beside]
+        counts += [clock.timed("the callers that must not compile", refused_callers)]
+        counts += clock.timed("the rows and checks", lambda: [each() for each in tables])
+        counts += [it.result() for it in beside]
+    alone = [("streams that fail", streams.streams), ("small address spaces", refusals.limited), ("deep and wide trees", depth.depth)]
+    counts += [clock.timed(part, each) for part, each in alone]
+    clock.note("all", time.monotonic() - clock.begun, used())
+    clock.show()
+    passed, failed = (sum(column) for column in zip(*counts))
+    print(f"{passed} passed, {failed} failed")
+    return 1 if failed else 0
+
+
+if __name__ == "__main__":
+    sys.exit(main())
