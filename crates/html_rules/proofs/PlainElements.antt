@@ -11,7 +11,7 @@ use Rattle.html_rules.specs.TreeTokens.{Attr, Trees, no_trees, text_node, commen
 use Rattle.html_rules.proofs.ElementSteps.{Begun, Ended, IsBuilt, begun, begun_formatting, begun_plainly, element_built, ended, ended_formatting, one}
 use Rattle.html_rules.proofs.RuleFacts.{block_opens, block_ordinary, block_no_heading, block_barless, list_opens, list_ordinary, list_no_heading, list_barless, list_holds, description_list_opens, description_list_ordinary, description_list_no_heading, description_list_barless, description_list_holds, paragraph_opens, paragraph_ordinary, paragraph_no_heading, heading_opens, heading_ordinary, heading_barless, phrase_opens, phrase_ordinary, phrase_no_heading, phrase_barless, ruby_opens, ruby_ordinary, ruby_no_heading, ruby_barless, ruby_text_opens, ruby_text_ordinary, ruby_text_no_heading, ruby_text_barless, item_opens, item_ordinary, item_no_heading, item_barless, description_opens, description_ordinary, description_no_heading, description_barless, button_ordinary, button_no_heading, formatting_opens, formatting_is, formatting_no_heading, formatting_barless, anchor_is, anchor_no_heading, void_is, break_is, source_is}
 use Rattle.html_rules.proofs.RuleShapes.{Formatting, HoldsItems, IsBreak, IsSource, IsVoid, OpensBlock, OpensFormatting, OpensHeading, OpensItem, OpensPhrase, OpensRubyText, Ordinary, Runs, with_leaf}
-use Rattle.html_rules.proofs.StackKeys.{At, Barless, InFlow, Key, Outer, Passes, Ready, Steady, below_more, description_list_at, flow_of, into_flow, key, key_of, keys, lacking, lacks_more, list_at, none_needed, not_heading_at, outer, ruby_at, steady_in, top_key_is, unlisted_name}
+use Rattle.html_rules.proofs.StackKeys.{At, Barless, InFlow, Key, Outer, Passes, Ready, Steady, below_more, description_list_at, flow_of, into_flow, key, key_of, keys, lacking, lacks, lacks_more, list_at, none_needed, not_heading_at, outer, ruby_at, steady_in, top_key_is, unlisted_name}
 use Rattle.html_rules.proofs.TextSteps.{Built, anchor_opens, button_opens, input_made, nothing_to_close, step_by_rules}
 use Rattle.html_rules.proofs.TreeLists.{Steps, of_each, step_on}
 
@@ -53,11 +53,12 @@ flow_at name n x k ks passes other f = (into_flow name n x k ks passes f, other)
 pub record Spot (w : Within) (b : Building) (o : Open) (os : List Open) : Type 0 where
   pub flow : InFlow (outer b) (key o ∷ keys os)
   pub no_p : closed_p (o ∷ os) ≡ Some (o ∷ os)
+  pub lacks_p : lacks (codes "p") (key o ∷ keys os) ≡ true
 
 pub spot : (w : Within) (b : Building) (o : Open) (os : List Open) → holds_blocks w ≡ true → Steady w (outer b) (key o ∷ keys os) → Spot w b o os
 spot w b o os h s =
     let parts : (is_flow w.place ≡ true) × (not w.paragraph ≡ true) = and_parts (is_flow w.place) (not w.paragraph) h in
-    record { flow = flow_of w.place (outer b) (key o ∷ keys os) parts.0 s.place; no_p = nothing_to_close (o ∷ os) (s.bars.no_p (not_so w.paragraph parts.1)) }
+    record { flow = flow_of w.place (outer b) (key o ∷ keys os) parts.0 s.place; no_p = nothing_to_close (o ∷ os) (s.bars.no_p (not_so w.paragraph parts.1)); lacks_p = s.bars.no_p (not_so w.paragraph parts.1) }
 
 pub block : (name : List ℕ) → is_among name (names_of ABlock) ≡ true → ElementBuilt name ABlock
 block name is attrs children w h plain inner b o os s r =
@@ -75,7 +76,8 @@ list name is attrs children w h plain inner b o os s r =
     ordinary name facts attrs children (inside w AList) b o os p.flow
     (begun name attrs b o os p.flow r (of_each OpensBlock (names_of AList) list_opens name is attrs (with_stack b (o ∷ os)) p.no_p))
     (steady_in w ListPlace (outer b) b.next name (key o ∷ keys os) (of_each Barless (names_of AList) list_barless name is)
-    (into_flow name b.next (outer b) (key o) (keys os) facts.passes p.flow, of_each (λ n. is_among n headings ≡ false) (names_of AList) list_no_heading name is, is) s.bars) inner
+    (into_flow name b.next (outer b) (key o) (keys os) facts.passes p.flow, of_each (λ n. is_among n headings ≡ false) (names_of AList) list_no_heading name is, is,
+    lacks_more (codes "p") name b.next (key o ∷ keys os) (of_each Barless (names_of AList) list_barless name is).no_p p.lacks_p) s.bars) inner
 
 pub description_list : (name : List ℕ) → is_among name (names_of ADescriptionList) ≡ true → ElementBuilt name ADescriptionList
 description_list name is attrs children w h plain inner b o os s r =
@@ -84,7 +86,8 @@ description_list name is attrs children w h plain inner b o os s r =
     ordinary name facts attrs children (inside w ADescriptionList) b o os p.flow
     (begun name attrs b o os p.flow r (of_each OpensBlock (names_of ADescriptionList) description_list_opens name is attrs (with_stack b (o ∷ os)) p.no_p))
     (steady_in w DescriptionListPlace (outer b) b.next name (key o ∷ keys os) (of_each Barless (names_of ADescriptionList) description_list_barless name is)
-    (into_flow name b.next (outer b) (key o) (keys os) facts.passes p.flow, of_each (λ n. is_among n headings ≡ false) (names_of ADescriptionList) description_list_no_heading name is, is) s.bars) inner
+    (into_flow name b.next (outer b) (key o) (keys os) facts.passes p.flow, of_each (λ n. is_among n headings ≡ false) (names_of ADescriptionList) description_list_no_heading name is, is,
+    lacks_more (codes "p") name b.next (key o ∷ keys os) (of_each Barless (names_of ADescriptionList) description_list_barless name is).no_p p.lacks_p) s.bars) inner
 
 pub heading : (name : List ℕ) → is_among name (names_of AHeading) ≡ true → ElementBuilt name AHeading
 heading name is attrs children w h plain inner b o os s r =
@@ -149,25 +152,23 @@ ruby_text name is attrs children w h plain inner b o (p ∷ os) s r =
 
 pub item : (name : List ℕ) → is_among name (names_of AnItem) ≡ true → ElementBuilt name AnItem
 item name is attrs children w h plain inner b o os s r =
-    let parts : (is_list w.place ≡ true) × (not w.paragraph ≡ true) = and_parts (is_list w.place) (not w.paragraph) h in
-    let a : At ListPlace (outer b) (key o ∷ keys os) = list_at w.place (outer b) (key o ∷ keys os) parts.0 s.place in
+    let a : At ListPlace (outer b) (key o ∷ keys os) = list_at w.place (outer b) (key o ∷ keys os) h s.place in
     let facts : Ordinary name = of_each Ordinary (names_of AnItem) item_ordinary name is in
     let holds : HoldsItems (names_of AnItem) o.name = of_each (HoldsItems (names_of AnItem)) (names_of AList) list_holds o.name a.2 in
     ordinary name facts attrs children (inside w AnItem) b o os a.0
     (begun_plainly name attrs b o os a.0 r (of_each (OpensItem (names_of AnItem)) (names_of AnItem) item_opens name is attrs (with_stack b (o ∷ os))
-    (ap (λ x. closed_item x (o ∷ os)) (holds o.number o.attrs o.children os)) (nothing_to_close (o ∷ os) (s.bars.no_p (not_so w.paragraph parts.1)))))
+    (ap (λ x. closed_item x (o ∷ os)) (holds o.number o.attrs o.children os)) (nothing_to_close (o ∷ os) a.3)))
     (steady_in w FlowPlace (outer b) b.next name (key o ∷ keys os) (of_each Barless (names_of AnItem) item_barless name is)
     (flow_at name b.next (outer b) (key o) (keys os) facts.passes (of_each (λ n. is_among n headings ≡ false) (names_of AnItem) item_no_heading name is) a.0) s.bars) inner
 
 pub description : (name : List ℕ) → is_among name (names_of ADescription) ≡ true → ElementBuilt name ADescription
 description name is attrs children w h plain inner b o os s r =
-    let parts : (is_description_list w.place ≡ true) × (not w.paragraph ≡ true) = and_parts (is_description_list w.place) (not w.paragraph) h in
-    let a : At DescriptionListPlace (outer b) (key o ∷ keys os) = description_list_at w.place (outer b) (key o ∷ keys os) parts.0 s.place in
+    let a : At DescriptionListPlace (outer b) (key o ∷ keys os) = description_list_at w.place (outer b) (key o ∷ keys os) h s.place in
     let facts : Ordinary name = of_each Ordinary (names_of ADescription) description_ordinary name is in
     let holds : HoldsItems (names_of ADescription) o.name = of_each (HoldsItems (names_of ADescription)) (names_of ADescriptionList) description_list_holds o.name a.2 in
     ordinary name facts attrs children (inside w ADescription) b o os a.0
     (begun_plainly name attrs b o os a.0 r (of_each (OpensItem (names_of ADescription)) (names_of ADescription) description_opens name is attrs (with_stack b (o ∷ os))
-    (ap (λ x. closed_item x (o ∷ os)) (holds o.number o.attrs o.children os)) (nothing_to_close (o ∷ os) (s.bars.no_p (not_so w.paragraph parts.1)))))
+    (ap (λ x. closed_item x (o ∷ os)) (holds o.number o.attrs o.children os)) (nothing_to_close (o ∷ os) a.3)))
     (steady_in w FlowPlace (outer b) b.next name (key o ∷ keys os) (of_each Barless (names_of ADescription) description_barless name is)
     (flow_at name b.next (outer b) (key o) (keys os) facts.passes (of_each (λ n. is_among n headings ≡ false) (names_of ADescription) description_no_heading name is) a.0) s.bars) inner
 

@@ -92,8 +92,8 @@ InPart mode names x ks = (x.mode ≡ mode) × (top_key_is names ks ≡ true) × 
 abbrev pub At : Place → Outer → List Key → Type 0
 At FlowPlace x ks = InFlow x ks × (top_key_is headings ks ≡ false)
 At HeadingPlace x ks = InFlow x ks
-At ListPlace x ks = InFlow x ks × (top_key_is headings ks ≡ false) × (top_key_is (names_of AList) ks ≡ true)
-At DescriptionListPlace x ks = InFlow x ks × (top_key_is headings ks ≡ false) × (top_key_is (names_of ADescriptionList) ks ≡ true)
+At ListPlace x ks = InFlow x ks × (top_key_is headings ks ≡ false) × (top_key_is (names_of AList) ks ≡ true) × (lacks (codes "p") ks ≡ true)
+At DescriptionListPlace x ks = InFlow x ks × (top_key_is headings ks ≡ false) × (top_key_is (names_of ADescriptionList) ks ≡ true) × (lacks (codes "p") ks ≡ true)
 At RubyPlace x ks = InFlow x ks × (top_key_is headings ks ≡ false) × (top_key_is (names_of ARuby) ks ≡ true) × (is_deep ks ≡ true)
 At TablePlace x ks = InPart InTable (names_of ATable) x ks
 At ColumnGroupPlace x ks = InPart InColumnGroup (names_of AColumnGroup) x ks
