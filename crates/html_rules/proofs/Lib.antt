@@ -1,0 +1,12 @@
+pub mod ElementSteps
+pub mod FormSteps
+pub mod PagesBuilt
+pub mod PlainBuilt
+pub mod PlainElements
+pub mod PlainParts
+pub mod RuleFacts
+pub mod RuleShapes
+pub mod StackKeys
+pub mod TextSteps
+pub mod TreeAgreement
+pub mod TreeLists
