@@ -108,8 +108,20 @@ def part_of(lines, at, inside, doc):
         return ("field", "", field[1], doc)
     variant = re.match(r"    ([A-Z]\w*(?:\(.*\))?)(,| \{)", line)
     if variant and inside.kind == "enum":
-        return ("variant", "", variant[1], doc)
+        fields = fields_of(lines, at) if variant[2] == " {" else ""
+        return ("variant", "", variant[1] + fields, doc)
     return None
+
+
+def fields_of(lines, at):
+    """The fields of a variant, in one line."""
+    held = []
+    for line in lines[at + 1 :]:
+        if line.strip() == "},":
+            break
+        if not line.lstrip().startswith(("//", "#")):
+            held.append(line.strip())
+    return " { " + " ".join(held).rstrip(",") + " }"
 
 
 def read_file(path, items, blocks):
@@ -228,7 +240,7 @@ def says_when(text, doc, outer):
 def described(text, doc, outer):
     """What a call is, does, and when it fails."""
     first = sentences(doc)[:1]
-    fails = failing(doc, outer) if "Result<" in text or failing(doc, []) else []
+    fails = failing(doc, outer) if "Result<" in text else [held for held in failing(doc, []) if re.search(r"\bfail", held)]
     said = " ".join([*first, *(f"*{sentence}*" for sentence in fails)])
     return f"`{text}`" + (f"  \n  {said}" if said else "")
 
