@@ -1,4 +1,4 @@
-//! A parser of another markup, which fills a document by the calls of `TreeSink` alone. An element
+//! A parser of another markup, which fills a document only by the calls of `TreeSink`. An element
 //! is written `(name text)`, its attributes after the name as `name@key=value@key=value`; a space
 //! ends them. Without a name, the attributes are added to the element around.
 
