@@ -51,7 +51,8 @@ fn print_changing<W: Write>(alloc: Global, out: &mut W) -> Result<(), Fault> {
     copying::print_copied(alloc, out)?;
     writing::print_written(alloc, out)?;
     texts::print_texts(alloc, out)?;
-    texts::print_without_headings(alloc, out)
+    texts::print_without_headings(alloc, out)?;
+    texts::print_main(alloc, out)
 }
 
 /// Prints what the whole programs print, each over a page of its own.

@@ -22,3 +22,13 @@ pub fn print_without_headings<W: Write>(alloc: Global, out: &mut W) -> Result<()
     writeln!(out, "{}", document.md(Some(&["head", "h1", "ul"]))?)?;
     Ok(())
 }
+
+/// Prints the Markdown of the part of a page that holds its article.
+pub fn print_main<W: Write>(alloc: Global, out: &mut W) -> Result<(), Fault> {
+    let page = "<nav>Home</nav><main><h2>Tea</h2><p>Boil <b>water</b>.</main>";
+    let document = parse_page(alloc, page, Options::default())?;
+    for article in document.select_single("main, article")?.nodes() {
+        writeln!(out, "{}", article.md(None)?)?;
+    }
+    Ok(())
+}
