@@ -1,7 +1,6 @@
 //! Copying nodes to places.
 
 use crate::fault::Fault;
-use dom_query::Snippet;
 use dom_query::prelude::*;
 use std::alloc::Global;
 use std::io::Write;

@@ -1,6 +1,5 @@
 //! The error type of the examples.
 
-use dom_query::WriteFault;
 use dom_query::prelude::*;
 use std::io;
 
