@@ -259,6 +259,7 @@ def written(name, given, items, blocks):
         yield f"`{item.text}`\n"
     yield from parts_of(item, item, item.doc)
     own = [block for block in blocks if block.name == name and block.crate == item.crate]
+    own.sort(key=lambda block: block.path != item.path)
     for block in own:
         if not block.text:
             yield from parts_of(block, item, block.doc)
