@@ -293,6 +293,27 @@ modules `laws` do nothing when they run; proofs call them.
 """
 
 
+def public_path(item):
+    """The path by which other crates name an item: without the modules that aren't public."""
+    source = ROOT / "crates" / item.crate / "src"
+    parts = [part for part in pathlib.Path(item.path).relative_to(source).with_suffix("").parts if part != "lib"]
+    for at in range(len(parts)):
+        outer = source / "/".join(parts[:at]) if at else source / "lib"
+        if not re.search(rf"^pub mod {parts[at]};", outer.with_suffix(".rt").read_text(encoding="utf-8"), re.M):
+            parts = parts[:at]
+            break
+    return "::".join([item.crate, *parts, item.name])
+
+
+def others(lines, names, items):
+    """The types that signatures of the page name, and that only the crates below hand on, each with its import."""
+    held = [re.sub(r"^[A-Z]\w*", "", text) for line in lines for text in re.findall(r"^- `([^`]+)`", line, re.M)]
+    used = {word for text in held for word in re.findall(r"\b[A-Z]\w+", text)} - set(names)
+    for item in items:
+        if item.kind in ("struct", "enum", "trait") and item.name in used and item.doc:
+            yield f"- `use {public_path(item)};`  \n  {sentences(item.doc)[0]}"
+
+
 def page():
     """The text of the page."""
     items, blocks = sources()
@@ -310,6 +331,9 @@ def page():
             lines.append(f"## {part}\n")
         for name in held:
             lines += written(name, names[name], items, blocks)
+    lines.append("## Types of the crates below\n")
+    lines.append("Calls above take or return these, too. To use one, name its crate in crates.txt.\n")
+    lines += others(lines, names, items)
     return "\n".join(lines).rstrip("\n") + "\n"
 
 
