@@ -17,21 +17,31 @@ PAGE = ROOT / "docs" / "REFERENCE.md"
 
 # The names of each part of the page, in order. A name that no part has comes last.
 PARTS = {
-    "Reading": "parse_page parse_page_bytes parse_page_fragment PageParser Options Context Document Snippet Tokens Token TokenKind "
-    "QuirksMode TreeSink NodeOrText ElementFlags",
-    "Finding": "DocumentSelect Selection Selections Matcher MatchNode NodeSelect DescendantMatches Matches MatcherIter InnerSelector "
-    "SelectorCaches TreeIndex IndexedNodes valid_selector_prefix MiniSelect MiniSelector MiniAttr parse_mini_selector "
-    "parse_selector_list Traversal AttrOperator Combinator NonTSPseudoClass PseudoElement CssLocalName CssString ToCss",
-    "Nodes": "NodeRef Node ChildRefs AncestorRefs DescendantRefs NodeId Tree TreeNode Link NodeData Element Attr Attrs Text RareText "
-    "LocalName LocalRef QualName NameParts NameRef Namespace NamespaceRef IndexKind CaseSensitivity TreeNodeOps ChildNodes "
-    "AncestorNodes DescendantNodes child_nodes ancestor_nodes descendant_nodes",
+    "Reading": (
+        "parse_page parse_page_bytes parse_page_fragment PageParser Options Context Document Snippet Tokens Token TokenKind "
+        "QuirksMode TreeSink NodeOrText ElementFlags"
+    ),
+    "Finding": (
+        "DocumentSelect Selection Selections Matcher MatchNode NodeSelect DescendantMatches Matches MatcherIter InnerSelector "
+        "SelectorCaches TreeIndex IndexedNodes valid_selector_prefix MiniSelect MiniSelector MiniAttr parse_mini_selector "
+        "parse_selector_list Traversal AttrOperator Combinator NonTSPseudoClass PseudoElement CssLocalName CssString ToCss"
+    ),
+    "Nodes": (
+        "NodeRef Node ChildRefs AncestorRefs DescendantRefs NodeId Tree TreeNode Link NodeData Element Attr Attrs Text RareText "
+        "LocalName LocalRef QualName NameParts NameRef Namespace NamespaceRef IndexKind CaseSensitivity TreeNodeOps ChildNodes "
+        "AncestorNodes DescendantNodes child_nodes ancestor_nodes descendant_nodes"
+    ),
     "Editing": "NodeMut NodeMutMarkup NodeEdit SelectionMut Place NodeFragment",
     "Sanitising": "clean sanitize sanitize_tree Allow",
-    "Writing": "NodeMarkup SerializableNodeRef TraversalScope NodeMd DocumentMd SelectionMd serialize_md MDSerializer FormatOpts "
-    "EmphasisScope ListContext ListKind push_escaped_chunk escape_table_cell_inplace fence_len html_escape",
+    "Writing": (
+        "NodeMarkup SerializableNodeRef TraversalScope NodeMd DocumentMd SelectionMd serialize_md MDSerializer FormatOpts "
+        "EmphasisScope ListContext ListKind push_escaped_chunk escape_table_cell_inplace fence_len html_escape"
+    ),
     "Scripts and programs": "run run_commands read_script Command drive",
-    "Errors": "PageFault MarkupFault MarkupFaultKind SelectorFault EditFault SelectionFault OutOfMemory WriteFault ValidateFault "
-    "MiniFault ScriptFault RunFault",
+    "Errors": (
+        "PageFault MarkupFault MarkupFaultKind SelectorFault EditFault SelectionFault OutOfMemory WriteFault ValidateFault "
+        "MiniFault ScriptFault RunFault"
+    ),
 }
 
 # Calls that name another one in place of saying when they fail.

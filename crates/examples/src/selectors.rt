@@ -7,7 +7,8 @@ use std::io::Write;
 
 const PAGE: &str = "<div id=shop class='tea fresh'>\
     <h1 id=top>Tea</h1>\
-    <p id=intro lang=en>Buy <a id=one href=/green>green</a> or <a id=two href=/black.html>black</a>.\
+    <p id=intro lang=en>Buy <a id=one href=/green>green</a> or \
+    <a id=two href=/black.html>black</a>.\
     <ul id=list><li id=a>Assam<li id=b class=new>Mate<li id=c><b id=d>Hojicha</b></ul>\
     <p id=none></div>";
 
