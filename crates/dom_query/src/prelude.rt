@@ -9,7 +9,8 @@ pub use dom_html5::{
 };
 pub use dom_links::gap::Place;
 pub use dom_markup::document::Document;
-pub use dom_markup::serializing::{NodeMarkup, TraversalScope};
+pub use dom_markup::document::snippet::Snippet;
+pub use dom_markup::serializing::{NodeMarkup, TraversalScope, WriteFault};
 pub use dom_markup::setters::NodeMutMarkup;
 pub use dom_md::node_md::NodeMd;
 pub use dom_nodes::fault::{EditFault, MarkupFault, MarkupFaultKind, OutOfMemory};

@@ -1,37 +1,45 @@
 //! Changing a tree.
 
-use crate::fault::SampleFault;
-use dom_query::{DescendantMatches, Document, EditFault, Matcher, NodeId, NodeMarkup, Tree};
+use crate::fault::Fault;
+use dom_query::prelude::*;
 use std::alloc::Global;
 use std::io::Write;
 
-/// Prints a page before and after some changes.
-pub fn print_changed<W: Write>(alloc: Global, out: &mut W) -> Result<(), SampleFault> {
-    let mut document = Document::parse(alloc, "<p>Hello</p><p>world</p>")?;
-    let paragraphs = Matcher::new(alloc, "p")?;
-    let Some(first) = DescendantMatches::new(document.root(), &paragraphs).next() else {
-        return Ok(());
-    };
-    // A node's number outlives the borrow.
-    let id = first.id;
-    change(&mut document.tree, &id, out)?;
-    writeln!(out, "{}", document.root().html()?)?;
+/// Prints a page after some changes.
+pub fn print_changed<W: Write>(alloc: Global, out: &mut W) -> Result<(), Fault> {
+    let mut document = parse_page(alloc, "<p>Hello<p>world", Options::default())?;
+    if let Some(id) = first_paragraph(&document)? {
+        change(&mut document.tree, &id)?;
+        print_refusal(&mut document.tree, &id, out)?;
+    }
+    writeln!(out, "{}", document.html()?)?;
     Ok(())
 }
 
-/// Puts a word at the end of a paragraph.
-fn change<W: Write>(tree: &mut Tree, id: &NodeId, out: &mut W) -> Result<(), SampleFault> {
+/// Returns the id of the first paragraph, which stays valid when the tree changes.
+fn first_paragraph(document: &Document) -> Result<Option<NodeId>, Fault> {
+    let paragraphs = document.select_single("p")?;
+    Ok(paragraphs.get(0).map(|node| node.id))
+}
+
+/// Changes the attributes of a paragraph, and puts an element at its end.
+fn change(tree: &mut Tree, id: &NodeId) -> Result<(), Fault> {
     let bold = tree.new_element("b")?;
-    let bang = tree.new_text("!")?;
-    tree.append_child_of(&bold, &bang)?;
-    // `node_mut` lends the tree to change the node.
+    tree.set_text_of(&bold, "!")?;
+    // `node_mut` borrows the tree to change one node.
     if let Some(mut paragraph) = tree.node_mut(id) {
         paragraph.set_attr("lang", "en")?;
         paragraph.add_class("first")?;
         paragraph.append_child(&bold)?;
+        paragraph.after_html("<hr>")?;
     }
-    // An edit that is not allowed is refused, and changes nothing.
-    let refused = tree.append_child_of(&bang, &bold);
-    writeln!(out, "{}", refused == Err(EditFault::NoChildrenHere))?;
+    Ok(())
+}
+
+/// Prints why a node can't become its own child. A refused edit changes nothing.
+fn print_refusal<W: Write>(tree: &mut Tree, id: &NodeId, out: &mut W) -> Result<(), Fault> {
+    if let Err(fault) = tree.append_child_of(id, id) {
+        writeln!(out, "refused: {fault}")?;
+    }
     Ok(())
 }

@@ -1,14 +1,14 @@
-//! Cleaning the comments of users.
+//! A whole program: the comments of strangers, cleaned.
 
-use crate::fault::SampleFault;
-use dom_query::{Allow, Document, DocumentSelect, NodeMarkup, SelectionMut, sanitize};
+use crate::fault::Fault;
+use dom_query::prelude::*;
 use std::alloc::Global;
 use std::io::Write;
 
 pub const COMMENTS: [&str; 4] = [
-    "<p onclick=buy()>Nice <em>tea</em>, <a href=HTTPS://mate.example rel=me>try mate</a>.</p>",
+    "<p onclick=buy()>Nice <em>tea</em>, <a href=HTTPS://mate.example rel=me>try mate</a>.",
     "<a href='javascript:x()'>Free</a> <font size=7>tea</font><script>x()</script><!-- x -->",
-    "<svg><a href=mailto:me@tea.example>Write</a></svg> <img src=x onerror=x()> 1 &lt; 2",
+    "<a href=mailto:me@tea.example>Write</a><svg><a>x</a></svg><img src=x onerror=x()> 1 &lt; 2",
     "I <3 tea",
 ];
 
@@ -17,40 +17,39 @@ pub fn print_comments<W: Write>(
     alloc: Global,
     comments: &[&str],
     out: &mut W,
-) -> Result<(), SampleFault> {
+) -> Result<(), Fault> {
     for comment in comments {
         print_comment(alloc, comment, out)?;
     }
     Ok(())
 }
 
-fn print_comment<W: Write>(alloc: Global, comment: &str, out: &mut W) -> Result<(), SampleFault> {
-    let mut document = Document::parse(alloc, comment)?;
+/// Reads a comment as what could be inside a `div`, and prints what is left of it.
+fn print_comment<W: Write>(alloc: Global, comment: &str, out: &mut W) -> Result<(), Fault> {
+    let context = Context::Html("div");
+    let mut document = parse_page_fragment(alloc, comment, context, Options::default())?;
     clean(&mut document)?;
-    writeln!(out, "{}", document.root().html()?)?;
+    writeln!(out, "{}", document.html()?)?;
     Ok(())
 }
 
 /// Keeps what a comment may have, and marks its links.
-fn clean(document: &mut Document) -> Result<(), SampleFault> {
+fn clean(document: &mut Document) -> Result<(), Fault> {
     let allow = Allow {
         elements: &["a", "b", "br", "code", "em", "i", "li", "p", "strong", "ul"],
         attrs: &["href"],
-        drop: &["script", "style"],
+        drop: &["script", "style", "svg", "math"],
     };
     sanitize(document, &allow)?;
-    // Values are the caller's matter: other schemes, and addresses without one, go.
+    // `sanitize` doesn't look at values: remove the addresses that aren't of these schemes.
     let others = "[href]:not([href^='http:' i], [href^='https:' i], [href^='mailto:' i])";
     select(document, others)?.remove_attr("href")?;
     select(document, "a[href]")?.set_attr("rel", "nofollow")?;
     Ok(())
 }
 
-/// The nodes that the selectors select, to be changed.
-fn select<'a>(
-    document: &'a mut Document,
-    selectors: &str,
-) -> Result<SelectionMut<'a>, SampleFault> {
+/// Returns the elements that the selectors match, to be changed.
+fn select<'a>(document: &'a mut Document, selectors: &str) -> Result<SelectionMut<'a>, Fault> {
     let ids = document.select(selectors)?.ids()?;
     Ok(SelectionMut::new(&mut document.tree, ids))
 }

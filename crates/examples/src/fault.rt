@@ -1,12 +1,13 @@
-//! What can go wrong.
+//! The error type of the examples.
 
-use dom_query::{
-    EditFault, MarkupFault, OutOfMemory, PageFault, SelectionFault, SelectorFault, WriteFault,
-};
+use dom_query::prelude::*;
 use std::io;
 
+/// What can go wrong: one variant for each error type of the calls, so that `?` works with all.
 #[derive(Debug, Drop, thiserror::Error)]
-pub enum SampleFault {
+pub enum Fault {
+    #[error("page: {0}")]
+    Page(#[from] PageFault),
     #[error("markup: {0}")]
     Markup(#[from] MarkupFault),
     #[error("selector: {0}")]
@@ -19,8 +20,8 @@ pub enum SampleFault {
     Memory(#[from] OutOfMemory),
     #[error("{0}")]
     Write(#[from] WriteFault),
-    #[error("page: {0}")]
-    Page(#[from] PageFault),
+    #[error("csv: {0}")]
+    Csv(#[from] csv::Error),
     #[error("{0}")]
     Output(#[from] io::Error),
 }

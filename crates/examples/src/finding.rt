@@ -1,34 +1,36 @@
 //! Finding elements by selectors.
 
-use crate::fault::SampleFault;
-use dom_query::{DescendantMatches, Document, Matcher, NodeSelect};
+use crate::fault::Fault;
+use dom_query::prelude::*;
 use std::alloc::Global;
 use std::io::Write;
 
 /// Prints what selectors select.
-pub fn print_found<W: Write>(alloc: Global, out: &mut W) -> Result<(), SampleFault> {
-    let page = "<main><p id=a>One</p><p class='new hot'>Two</p><hr><p>Three</p></main>";
-    let document = Document::parse(alloc, page)?;
+pub fn print_found<W: Write>(alloc: Global, out: &mut W) -> Result<(), Fault> {
+    let page = "<main><p id=a>One<p class='new hot'>Two<hr><p>Three</main>";
+    let document = parse_page(alloc, page, Options::default())?;
+    print_paragraphs(&document, out)?;
     print_marked(alloc, &document, out)
 }
 
-/// Prints what a selector marks.
-fn print_marked<W: Write>(
-    alloc: Global,
-    document: &Document,
-    out: &mut W,
-) -> Result<(), SampleFault> {
-    // A selector is read once, and asked of as many trees as you like.
+/// Prints the paragraphs, and the first one that comes after a rule.
+fn print_paragraphs<W: Write>(document: &Document, out: &mut W) -> Result<(), Fault> {
+    let paragraphs = document.select("main > p")?;
+    writeln!(out, "{} paragraphs", paragraphs.length())?;
+    let last = document.select_single("hr + p")?;
+    writeln!(out, "after the rule: {}", last.text()?)?;
+    Ok(())
+}
+
+/// Prints what a selector matches that is parsed once.
+fn print_marked<W: Write>(alloc: Global, document: &Document, out: &mut W) -> Result<(), Fault> {
+    // A matcher is a parsed selector list. It can be used for any number of trees.
     let marked = Matcher::new(alloc, "p:is(#a, .hot)")?;
     for paragraph in DescendantMatches::new(document.root(), &marked) {
-        writeln!(out, "{}", paragraph.text()?)?;
+        writeln!(out, "marked: {}", paragraph.text()?)?;
     }
-
-    // The first match alone, and a question to one node.
-    let first = DescendantMatches::new(document.root(), &marked).next();
-    if let Some(paragraph) = first {
-        let plain = paragraph.is("p:not([class])")?;
-        writeln!(out, "{} {plain}", paragraph.id_attr().unwrap_or(""))?;
+    for paragraph in document.select("p")?.nodes() {
+        writeln!(out, "{}", paragraph.is_match(&marked))?;
     }
     Ok(())
 }

@@ -1,45 +1,76 @@
-//! The snippets of README.md and of documents in docs/, and whole programs over `dom_query`:
-//! `examples` prints what each prints. `check` compares the documents with these files.
+//! What README.md and the pages of docs/ quote: parts of programs, and whole programs over
+//! `dom_query`. `examples` prints what each of them prints. The documents are compared with these
+//! files and with the output.
 #![tactic(auto)]
 
 mod article;
 mod changing;
 mod comments;
+mod copying;
 mod fault;
 mod finding;
 mod links;
 mod many;
-mod pages;
+mod mini;
+mod page;
 mod parens;
 mod reading;
+mod rewriter;
+mod selectors;
+mod table;
+mod texts;
+mod walking;
 mod writing;
 
-use crate::fault::SampleFault;
+use crate::fault::Fault;
 use std::alloc::Global;
 use std::io::Write;
 use std::process::ExitCode;
 
-/// Prints what the snippets print.
-fn print_snippets<W: Write>(alloc: Global, out: &mut W) -> Result<(), SampleFault> {
-    links::print_links(alloc, links::PAGE, out)?;
-    reading::print_page(alloc, out)?;
-    finding::print_found(alloc, out)?;
-    changing::print_changed(alloc, out)?;
-    many::print_marked(alloc, out)?;
-    writing::print_written(alloc, out)?;
-    pages::print_page(alloc, pages::PAGE, out)
+/// Prints what the parts about reading print.
+fn print_reading<W: Write>(alloc: Global, out: &mut W) -> Result<(), Fault> {
+    reading::print_read(alloc, out)?;
+    reading::print_pieces(alloc, out)?;
+    reading::print_fragment(alloc, out)?;
+    reading::print_errors(alloc, out)?;
+    reading::print_fault(alloc, out)
 }
 
-/// Prints what the programs print, each over an input of its own.
-fn print_programs<W: Write>(alloc: Global, out: &mut W) -> Result<(), SampleFault> {
-    parens::print_read(alloc, out)?;
+/// Prints what the parts about finding and walking print.
+fn print_finding<W: Write>(alloc: Global, out: &mut W) -> Result<(), Fault> {
+    finding::print_found(alloc, out)?;
+    selectors::print_matches(alloc, out)?;
+    mini::print_reached(alloc, out)?;
+    walking::print_sections(alloc, out)
+}
+
+/// Prints what the parts about changing and writing print.
+fn print_changing<W: Write>(alloc: Global, out: &mut W) -> Result<(), Fault> {
+    changing::print_changed(alloc, out)?;
+    many::print_marked(alloc, out)?;
+    copying::print_copied(alloc, out)?;
+    writing::print_written(alloc, out)?;
+    texts::print_texts(alloc, out)?;
+    texts::print_without_headings(alloc, out)?;
+    texts::print_main(alloc, out)
+}
+
+/// Prints what the whole programs print, each over a page of its own.
+fn print_programs<W: Write>(alloc: Global, out: &mut W) -> Result<(), Fault> {
+    page::print_page(alloc, page::PAGE, out)?;
+    links::print_links(alloc, links::PAGE, out)?;
     article::print_article(alloc, article::PAGE, out)?;
-    comments::print_comments(alloc, &comments::COMMENTS, out)
+    rewriter::print_rewritten(alloc, rewriter::PAGE, out)?;
+    comments::print_comments(alloc, &comments::COMMENTS, out)?;
+    table::print_table(alloc, table::PAGE, out)?;
+    parens::print_read(alloc, out)
 }
 
 /// Prints what all of them print.
-fn print_all<W: Write>(alloc: Global, out: &mut W) -> Result<(), SampleFault> {
-    print_snippets(alloc, out)?;
+fn print_all<W: Write>(alloc: Global, out: &mut W) -> Result<(), Fault> {
+    print_reading(alloc, out)?;
+    print_finding(alloc, out)?;
+    print_changing(alloc, out)?;
     print_programs(alloc, out)
 }
 

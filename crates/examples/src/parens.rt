@@ -1,8 +1,8 @@
-//! A parser of another markup, which fills a document by the calls of a sink alone. An element is
-//! written `(name text)`, its attributes behind the name as `name@key=value@key=value`; a space
-//! ends that. Without a name the attributes are added to the element around.
+//! A parser of another markup, which fills a document only by the calls of `TreeSink`. An element
+//! is written `(name text)`, its attributes after the name as `name@key=value@key=value`; a space
+//! ends them. Without a name, the attributes are added to the element around.
 
-use crate::fault::SampleFault;
+use crate::fault::Fault;
 use dom_query::{
     Attr, Attrs, Document, ElementFlags, LocalName, NameParts, Namespace, NodeId, NodeMarkup,
     NodeOrText, OutOfMemory, QualName, Text, TreeSink,
@@ -10,12 +10,8 @@ use dom_query::{
 use std::alloc::Global;
 use std::io::Write;
 
-/// Reads a text into whatever sink it is given.
-pub fn read<S: TreeSink + Drop>(
-    alloc: Global,
-    text: &str,
-    mut sink: S,
-) -> Result<Document, SampleFault> {
+/// Reads a text into a sink, and returns the document that the sink makes.
+pub fn read<S: TreeSink + Drop>(alloc: Global, text: &str, mut sink: S) -> Result<Document, Fault> {
     let mut around = Vec::new(alloc);
     let mut here = sink.get_document();
     for (number, piece) in text.split('(').enumerate() {
@@ -44,13 +40,13 @@ pub fn read<S: TreeSink + Drop>(
     Ok(sink.finish())
 }
 
-/// Makes the element of a tag, and answers where what is inside it goes.
+/// Makes the element of a tag, and returns the node whose children its content becomes.
 fn open<S: TreeSink>(
     alloc: Global,
     sink: &mut S,
     parent: NodeId,
     tag: &str,
-) -> Result<NodeId, SampleFault> {
+) -> Result<NodeId, Fault> {
     let (name, rest) = tag.split_once('@').unwrap_or((tag, ""));
     let attrs = attributes(alloc, rest)?;
     if name.is_empty() {
@@ -67,8 +63,8 @@ fn open<S: TreeSink>(
     Ok(sink.get_template_contents(&element).unwrap_or(element))
 }
 
-/// The attributes that are written behind a name.
-fn attributes(alloc: Global, written: &str) -> Result<Attrs, SampleFault> {
+/// Returns the attributes that are written after a name.
+fn attributes(alloc: Global, written: &str) -> Result<Attrs, Fault> {
     let mut attrs = Attrs::new(alloc);
     for attr in written.split('@').filter(|attr| !attr.is_empty()) {
         let (key, value) = attr.split_once('=').unwrap_or((attr, ""));
@@ -80,21 +76,22 @@ fn attributes(alloc: Global, written: &str) -> Result<Attrs, SampleFault> {
     Ok(attrs)
 }
 
-fn named(alloc: Global, ns: Namespace, name: &str) -> Result<QualName, SampleFault> {
+/// Returns a name without a prefix.
+fn named(alloc: Global, ns: Namespace, name: &str) -> Result<QualName, Fault> {
     let local = LocalName::new(alloc, name)?;
     let prefix = None;
     let name = QualName::new(alloc, NameParts { prefix, ns, local })?;
     Ok(name)
 }
 
-/// Prints what is read of a text, and what was wrong with it.
-pub fn print_read<W: Write>(alloc: Global, out: &mut W) -> Result<(), SampleFault> {
+/// Prints the document that is read from a text, and what was wrong with the text.
+pub fn print_read<W: Write>(alloc: Global, out: &mut W) -> Result<(), Fault> {
     let text = "(ul@id=teas (li Assam)(li@class=hot Mate(@class=cold@lang=es )))) (template (p x";
     let document = read(alloc, text, Document::new(alloc)?)?;
     print_document(&document, out)
 }
 
-fn print_document<W: Write>(document: &Document, out: &mut W) -> Result<(), SampleFault> {
+fn print_document<W: Write>(document: &Document, out: &mut W) -> Result<(), Fault> {
     let html = document.html()?;
     writeln!(out, "{html}")?;
     for error in document.errors.as_slice() {
