@@ -4,9 +4,7 @@ ghost use Rattle.std.specs.Prelude.{◌≡◌, ◌∷◌, ◌++◌, [], IfOk, On
 ghost use Rattle.dom_index.specs.NodeTests.{ArePlain, IsPlain, way_of};
 ghost use Rattle.dom_index.specs.Tracks.{AreChainsOf, IsPrepared};
 
-use crate::counting::count_compound;
 use crate::node_tests::NodeTest;
-use crate::strategies::has_has_before;
 use dom_nodes::fault::OutOfMemory;
 use dom_selectors::syntax::{Combinator, Compound, Selector, Step};
 use dom_trees::tree::Tree;
@@ -20,15 +18,10 @@ pub(crate) struct Chain<'s> {
     pub(crate) tests: Vec<NodeTest<'s>>,
     /// The combinator of the first step: the next node to the left is the same for all steps.
     pub(crate) way: Combinator,
-    /// How many tests are counted for all nodes, those of the last compound among them, and how
-    /// many for each row that is filled.
-    pub(crate) all_tests: u64,
-    pub(crate) row_tests: u64,
 }
 
 impl<'s> Chain<'s> {
-    /// Prepares a selector for the nodes of a tree. To fill few rows `:has` may look at many nodes,
-    /// so all compounds are counted for all nodes where one of them but the last has it.
+    /// Prepares a selector for the nodes of a tree.
     fn new(first: &'s Compound, steps: &'s [Step], tree: &Tree) -> Result<Chain<'s>, OutOfMemory>
         requires { IsPlain steps.now }
         ensures prepared { IfOk result IsPrepared }
@@ -37,24 +30,14 @@ impl<'s> Chain<'s> {
     {
         let mut tests = Vec::new(tree.allocator());
         push_test(&mut tests, NodeTest::new(first))?;
-        let mut subject_tests = count_compound(first);
-        let mut row_tests: u64 = 0;
         for i in 0..steps.len() {
             push_test(&mut tests, NodeTest::new(&steps[i].compound))?;
-            row_tests = row_tests.saturating_add(subject_tests);
-            subject_tests = count_compound(&steps[i].compound);
-        }
-        if has_has_before(first, steps) {
-            subject_tests = subject_tests.saturating_add(row_tests);
-            row_tests = 0;
         }
         Ok(Chain {
             first,
             steps,
             tests,
             way: way_of(steps),
-            all_tests: subject_tests,
-            row_tests,
         })
     }
 }

@@ -1,13 +1,11 @@
 //! What a selector selects below some nodes: node by node, in one traversal, or by an index of the
 //! tree, as its structure asks.
 
-ghost use Rattle.std.specs.Prelude.{◌≡◌, ◌≤◌, ◌∷◌, ◌++◌, ◌+◌, ◌*◌, [], length, IfOk, OnOk};
+ghost use Rattle.std.specs.Prelude.{◌≡◌, ◌∷◌, ◌++◌, [], IfOk, OnOk};
 ghost use Rattle.dom_select.specs.Selected.{Selected};
-ghost use Rattle.dom_index.specs.CompoundCounts.{selectors_count};
-ghost use Rattle.dom_index.specs.Index.{Finds, SelectsOrLeaves};
+ghost use Rattle.dom_index.specs.Index.{Finds};
 ghost use Rattle.dom_trees.specs.Views.{refs_to};
 
-use crate::counting::count_compounds;
 use crate::index::TreeIndex;
 use crate::strategies::{are_traversed, matches_node_by_node};
 use crate::streaming::select_plain;
@@ -24,7 +22,7 @@ use dom_trees::tree::Tree;
 /// compound at most, or where few nodes in all are above the candidates and, for `~`, beside them
 /// and these. Else flags of the next node to the left, in one traversal, state which compounds are
 /// reached, where the combinators of each selector are whitespace and `>`, or are `+` and `~`. For
-/// other lists an index is made.
+/// other lists an index is made. `TreeIndex::select` counts tests; this call doesn't.
 pub fn select_ids(
     tree: &Tree,
     roots: &[NodeId],
@@ -32,60 +30,15 @@ pub fn select_ids(
 ) -> Result<Vec<NodeId>, OutOfMemory>
     ensures { IfOk result (λ ids. Selected tree.now roots.now matcher.now ids.items) }
 {
-    let mut tests = 0;
-    select_counted(tree, roots, matcher, &mut tests)
-}
-
-/// The same. It adds to `tests` how many tests of one compound at one node were made, after a
-/// refusal too. What is tested at each candidate is counted for all nodes at once, and a row of
-/// flags as a whole, also where fewer tests do.
-pub fn select_counted(
-    tree: &Tree,
-    roots: &[NodeId],
-    matcher: &Matcher,
-    tests: &mut u128,
-) -> Result<Vec<NodeId>, OutOfMemory>
-    ensures found { IfOk result (λ ids. Selected tree.now roots.now matcher.now ids.items) }
-    ensures tests { tests.new
-        ≤ tests.old + selectors_count matcher.now * length tree.now.content }
-{
-    if let Some(ids) = select_by_walk(tree, roots, matcher, tests)? {
-        return Ok(ids);
-    }
-    let mut index = TreeIndex::new(tree)?;
-    let found = index.ids_by_tables(matcher, roots);
-    *tests = tests.saturating_add(index.tests());
-    found
-}
-
-/// The same, or None where the list needs tables; nothing is counted then.
-pub(crate) fn select_by_walk(
-    tree: &Tree,
-    roots: &[NodeId],
-    matcher: &Matcher,
-    tests: &mut u128,
-) -> Result<Option<Vec<NodeId>>, OutOfMemory>
-    ensures found { SelectsOrLeaves result tree.now roots.now matcher.now tests.old tests.new }
-    ensures tests { tests.new
-        ≤ tests.old + selectors_count matcher.now * length tree.now.content }
-{
     let selectors = matcher.selectors();
     if matches_node_by_node(tree, roots, selectors) {
-        *tests = tests.saturating_add(tests_of_each(tree, matcher));
-        return Ok(Some(select_below_all(tree, roots, matcher)?));
+        return select_below_all(tree, roots, matcher);
     }
-    if !are_traversed(selectors) {
-        return Ok(None);
+    if are_traversed(selectors) {
+        return select_plain(tree, roots, selectors);
     }
-    Ok(Some(select_plain(tree, roots, selectors, tests)?))
-}
-
-/// One test of each compound at each node.
-fn tests_of_each(tree: &Tree, matcher: &Matcher) -> u128
-    ensures { result ≤ selectors_count matcher.now * length tree.now.content }
-{
-    let compounds = count_compounds(matcher.selectors());
-    u128::from(compounds).saturating_mul(tree.len() as u128)
+    let mut index = TreeIndex::new(tree)?;
+    index.select_ids(matcher, roots)
 }
 
 /// The nodes of the numbers that `select_ids` returns.
@@ -96,8 +49,7 @@ pub fn select_nodes<'a>(
 ) -> Result<Vec<NodeRef<'a>>, OutOfMemory>
     ensures { IfOk result (λ found. Finds tree.entry roots.now matcher.now found.items) }
 {
-    let mut tests = 0;
-    let ids = select_counted(tree, roots, matcher, &mut tests)?;
+    let ids = select_ids(tree, roots, matcher)?;
     nodes_of(tree, &ids)
 }
 

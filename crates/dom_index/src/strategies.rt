@@ -6,14 +6,13 @@ ghost use Rattle.dom_index.specs.FlagRows.{is_sideways};
 ghost use Rattle.dom_index.specs.NodeTests.{ArePlain, IsPlain};
 
 use crate::chains::way_of;
-use crate::counting::count_outer;
 use dom_nodes::node_id::NodeId;
 use dom_selectors::syntax::{Combinator, Compound, Nested, Selector, Step};
 use dom_trees::tree::Tree;
 
 /// How many compounds a list may have to be selected in one traversal, which keeps for each node a
 /// flag for each selector and one for each combinator.
-const MOST_COMPOUNDS: u64 = 32;
+const MOST_COMPOUNDS: usize = 32;
 
 /// One node of so many is few.
 const FEW: usize = 32;
@@ -119,7 +118,7 @@ fn has_has(compound: &Compound) -> bool {
 }
 
 /// Whether a compound but the last has a list `:has`.
-pub(crate) fn has_has_before(first: &Compound, steps: &[Step]) -> bool {
+fn has_has_before(first: &Compound, steps: &[Step]) -> bool {
     match steps.split_last() {
         None => false,
         Some((_, front)) => has_has(first) || front.iter().any(|step| has_has(&step.compound)),
@@ -171,13 +170,23 @@ fn is_near_anchor(selector: &Selector) -> bool {
 pub(crate) fn are_traversed(selectors: &[Selector]) -> bool
     ensures { result ≡ true → ArePlain selectors.now }
 {
-    if count_outer(selectors) > MOST_COMPOUNDS {
+    if count_compounds(selectors) > MOST_COMPOUNDS {
         return false;
     }
     if !selectors.iter().all(has_near_lists) {
         return false;
     }
     are_plain(selectors)
+}
+
+/// How many compounds the selectors have, but for those of nested lists. No clause: nothing but
+/// time depends on it.
+fn count_compounds(selectors: &[Selector]) -> usize {
+    let mut count: usize = 0;
+    for selector in selectors {
+        count = count.saturating_add(1).saturating_add(selector.rest.len());
+    }
+    count
 }
 
 /// Whether nested lists are near.

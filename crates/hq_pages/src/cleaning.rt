@@ -9,7 +9,7 @@ use dom_sanitize::sanitize::{Allow, sanitize};
 use dom_trees::node_ref::NodeRef;
 
 /// The elements that sanitising leaves.
-static ELEMENTS: [&str; 73] = [
+static ELEMENTS: [&str; 76] = [
     "a",
     "abbr",
     "address",
@@ -83,6 +83,9 @@ static ELEMENTS: [&str; 73] = [
     "tr",
     "tt",
     "u",
+    "ul",
+    "var",
+    "wbr",
 ];
 
 /// The attributes that it leaves.
