@@ -45,7 +45,10 @@ import edits  # noqa: E402
 import hostile  # noqa: E402
 import options  # noqa: E402
 import paths  # noqa: E402
+import reference  # noqa: E402
 import refusals  # noqa: E402
+import standard  # noqa: E402
+import standard_rules  # noqa: E402
 import streams  # noqa: E402
 import ways  # noqa: E402
 from rows import ROOT, SECONDS, built, given, words_of  # noqa: E402
@@ -262,7 +265,8 @@ def main():
     clock, rows_alone = Clock(), sys.argv[1:] == ["--rows"]
     counts, edits_left = (None, lambda: (0, 0)) if rows_alone else gate(clock)
     tables = [rows, cleaned, followed, asked_each_way]
-    tables += [documents.documents, options.options, wrong_bodies, coverage.coverage, hostile.hostile]
+    tables += [documents.documents, reference.reference, options.options, standard.standard, standard_rules.checked]
+    tables += [wrong_bodies, coverage.coverage, hostile.hostile]
     counts = [counts] if counts else []
     with ThreadPoolExecutor() as pool:
         # (what is done beside the edits neither measures the processor time of others nor changes a child before it starts)

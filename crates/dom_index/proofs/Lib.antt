@@ -8,7 +8,6 @@ pub mod TypeFilterLemmas
 pub mod RestLemmas
 pub mod OrderLemmas
 pub mod CollectLemmas
-pub mod CompoundLemmas
 pub mod PlaceLemmas
 pub mod PositionLemmas
 pub mod SpanLemmas

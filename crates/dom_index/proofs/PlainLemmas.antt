@@ -19,7 +19,7 @@ use Rattle.dom_select.specs.Meaning.{Holds, MatchesNode, StepsMatch}
 use Rattle.dom_index.specs.declared.node_tests.NodeTest.{NodeTest}
 use Rattle.dom_index.specs.declared.chains.Chain.{Chain}
 use Rattle.dom_index.specs.declared.streaming.Rows.{Rows}
-use Rattle.dom_index.specs.Tracks.{AreChainsOf, AreFollowing, ArePrepared, AreTracked, IsChainOf, IsFollowing, IsPrepared, IsTracked, Reaches, SomeReaches, compounds_of_all, first_in, steps_in}
+use Rattle.dom_index.specs.Tracks.{AreChainsOf, AreFollowing, ArePrepared, AreTracked, IsChainOf, IsFollowing, IsPrepared, IsTracked, Reaches, SomeReaches, first_in, steps_in}
 use Rattle.dom_index.specs.FlagRows.{AreAlong, StepsReach, compound_at, is_sideways}
 use Rattle.dom_index.specs.NodeTests.{ArePlain, IsPlain, IsReady}
 use Rattle.dom_index.specs.CompoundCounts.{compound_count, selectors_count, steps_count}
@@ -238,17 +238,6 @@ module _ (chains : List Chain) (i : ℕ) (one : Chain) (forest : Forest) (n : �
     | inl some ↦ before some
     | inr one ↦ here one
   ]
-
--- the chains have as many compounds as their selectors
-pub all_counted : (selectors : List Selector) (chains : List Chain) → AreChainsOf selectors chains → compounds_of_all chains ≡ selectors_count (read_list selectors)
-all_counted [] chains are = ap compounds_of_all are
-all_counted (s ∷ ss) [] are = absurd are
-all_counted (s ∷ ss) (chain ∷ chains) are =
-    let cut = ap selectors_count (selectors_cut 0 (s ∷ ss) s (omega arith) refl) in
-    let first = ap compound_count are.0.first in
-    let rest = ap (λ (goes : List (Combinator × CompoundSelector)). steps_count (steps_of goes)) are.0.steps in
-    let more = all_counted ss chains are.1 in
-    omega (arith, cut, first, rest, more)
 
 -- the only item of a list
 pub one_item : (xs : List ℕ) (x : ℕ) → 1 ≤ length xs → length xs < 2 → x ≡ get_or xs 0 x → xs ≡ x ∷ []

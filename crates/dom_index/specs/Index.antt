@@ -23,13 +23,8 @@ pub record Indexed : Type 0 where
 abbrev pub Finds : Bor Forest → List ℕ → SelectorList → List NodeRef → Type 0
 Finds tree roots selector found = (ids : List ℕ) × Selected tree.now roots selector ids × (found ≡ refs_to tree ids)
 
--- The contract of a call that may leave a selection to node sets: it returns `None` and makes no tests, or returns what the
--- selector selects below the roots.
-abbrev pub SelectsOrLeaves : {E : Type 0} → Result (Option (Vec ℕ)) E → Forest → List ℕ → SelectorList → ℕ → ℕ → Type 0
-SelectsOrLeaves result forest roots selector old new = IfOk result (λ found. MatchOption found (new ≡ old) (λ ids. Selected forest roots selector ids.items))
-
--- The contract of a call that selects with an index. It returns the nodes that the selector selects below the roots, makes at
--- most one test for each compound selector at each node, and keeps the tree.
+-- What a call that selects by an index returns, and the index after it: the nodes that the selector selects below the roots; a
+-- test for each compound at each node at most; the same tree
 abbrev pub SelectsByIndex : {E : Type 0} → Result (Vec NodeRef) E → List ℕ → SelectorList → Indexed → Indexed → Type 0
 SelectsByIndex result roots selector old new =
     IfOk result (λ found. Finds old.tree roots selector found.items) × (new.tests ≤ selectors_count selector * length old.tree.now.content) × (new.tree ≡ old.tree)

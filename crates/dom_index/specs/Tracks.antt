@@ -1,11 +1,10 @@
--- Selection in one traversal, with a row of flags for each node.
-use Rattle.std.specs.Prelude.{ℕ, ◌≡◌, ◌≤◌, ◌⊎◌, ◌+◌, ◌*◌, ◌++◌, Bool, true, false, List, [], ◌∷◌, Option, None, Some, length, map, slice_get, slice_index_or, take}
+-- Selectors in a traversal.
+use Rattle.std.specs.Prelude.{ℕ, ◌≡◌, ◌⊎◌, ◌+◌, ◌*◌, ◌++◌, Bool, true, false, List, [], ◌∷◌, Option, None, Some, length, map, slice_get, slice_index_or, take}
 use Rattle.dom_links.specs.Forest.{Forest}
 use Rattle.dom_links.specs.ListMoves.{element_at}
 use Rattle.dom_links.specs.Lists.{first}
 use Rattle.dom_selectors.specs.declared.syntax.Combinator.{Combinator}
 use Rattle.dom_selectors.specs.declared.syntax.Selector.{Selector, out-Selector}
-use Rattle.dom_selectors.specs.ListsAsTrees.{steps_of}
 use Rattle.dom_selectors.specs.Spelling.{Decides}
 use Rattle.dom_selectors.specs.Syntax.{CompoundSelector}
 use Rattle.dom_selectors.specs.ValuesAsTrees.{read_compound, read_step}
@@ -13,7 +12,6 @@ use Rattle.dom_select.specs.Leftward.{left_of, line}
 use Rattle.dom_index.specs.declared.chains.Chain.{Chain}
 use Rattle.dom_index.specs.declared.node_tests.NodeTest.{NodeTest}
 use Rattle.dom_index.specs.declared.streaming.Rows.{Rows}
-use Rattle.dom_index.specs.CompoundCounts.{compound_count, steps_count}
 use Rattle.dom_index.specs.FlagRows.{AreAlong, AreFlags, PropagatesFrom, StepsReach, compound_at}
 use Rattle.dom_index.specs.NodeSets.{in_set}
 use Rattle.dom_index.specs.NodeTests.{IsReady}
@@ -25,21 +23,11 @@ steps_in chain = map read_step chain.steps.now
 abbrev pub first_in : Chain → CompoundSelector
 first_in chain = read_compound chain.first.now
 
--- how many compound selectors a chain has, including those in nested lists, and how many several chains have
-abbrev pub compounds_of_chain : Chain → ℕ
-compounds_of_chain chain = compound_count (first_in chain) + steps_count (steps_of (steps_in chain))
-
-abbrev pub compounds_of_all : List Chain → ℕ
-compounds_of_all [] = 0
-compounds_of_all (chain ∷ chains) = compounds_of_chain chain + compounds_of_all chains
-
--- A prepared chain has a test for each compound selector, its combinators all go the same way, and it counts no compound selector
--- twice.
+-- a test for each of its compounds; its combinators go one way
 pub record IsPrepared (chain : Chain) : Type 0 where
   pub count : length chain.tests.items ≡ length chain.steps.now + 1
   pub tests : (i : ℕ) (test : NodeTest) → slice_get chain.tests.items i ≡ Some test → IsReady test × (compound_at (first_in chain) (steps_in chain) i ≡ Some (read_compound test.compound.now))
   pub along : AreAlong chain.way (steps_in chain)
-  pub counted : chain.all_tests + chain.row_tests ≤ compounds_of_chain chain
 
 abbrev pub ArePrepared : List Chain → Type 0
 ArePrepared chains = (i : ℕ) (chain : Chain) → slice_get chains i ≡ Some chain → IsPrepared chain

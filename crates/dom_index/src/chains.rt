@@ -4,9 +4,7 @@ ghost use Rattle.std.specs.Prelude.{◌≡◌, ◌∷◌, ◌++◌, [], IfOk, On
 ghost use Rattle.dom_index.specs.NodeTests.{ArePlain, IsPlain, way_of};
 ghost use Rattle.dom_index.specs.Tracks.{AreChainsOf, IsPrepared};
 
-use crate::counting::count_compound;
 use crate::node_tests::NodeTest;
-use crate::strategies::has_has_before;
 use dom_nodes::fault::OutOfMemory;
 use dom_selectors::syntax::{Combinator, Compound, Selector, Step};
 use dom_trees::tree::Tree;
@@ -20,16 +18,10 @@ pub(crate) struct Chain<'s> {
     pub(crate) tests: Vec<NodeTest<'s>>,
     /// The combinator of the first step. The next node to the left is the same for all steps.
     pub(crate) way: Combinator,
-    /// How many tests are counted for every node, including those of the last compound selector,
-    /// and how many for each row that is filled.
-    pub(crate) all_tests: u64,
-    pub(crate) row_tests: u64,
 }
 
 impl<'s> Chain<'s> {
-    /// Prepares a selector for the nodes of a tree. To fill even a few rows, `:has` may visit many
-    /// nodes. So if a compound selector other than the last has `:has`, all compound selectors are
-    /// counted for every node.
+    /// Prepares a selector for the nodes of a tree.
     fn new(first: &'s Compound, steps: &'s [Step], tree: &Tree) -> Result<Chain<'s>, OutOfMemory>
         requires { IsPlain steps.now }
         ensures prepared { IfOk result IsPrepared }
@@ -38,24 +30,14 @@ impl<'s> Chain<'s> {
     {
         let mut tests = Vec::new(tree.allocator());
         push_test(&mut tests, NodeTest::new(first))?;
-        let mut subject_tests = count_compound(first);
-        let mut row_tests: u64 = 0;
         for i in 0..steps.len() {
             push_test(&mut tests, NodeTest::new(&steps[i].compound))?;
-            row_tests = row_tests.saturating_add(subject_tests);
-            subject_tests = count_compound(&steps[i].compound);
-        }
-        if has_has_before(first, steps) {
-            subject_tests = subject_tests.saturating_add(row_tests);
-            row_tests = 0;
         }
         Ok(Chain {
             first,
             steps,
             tests,
             way: way_of(steps),
-            all_tests: subject_tests,
-            row_tests,
         })
     }
 }

@@ -13,7 +13,7 @@ ghost use Rattle.dom_index.specs.Preorder.{position};
 use crate::collect::{collect_matches, walk_laws};
 use crate::evaluation::list_set;
 use crate::preorder::{Preorder, below, forest_laws};
-use crate::selecting::{nodes_of, select_by_walk};
+use crate::selecting::nodes_of;
 use dom_links::indexes::IndexKind;
 use dom_nodes::fault::OutOfMemory;
 use dom_nodes::node_id::NodeId;
@@ -58,39 +58,18 @@ impl<'a> TreeIndex<'a> {
         })
     }
 
-    /// Returns how many tests the last `select` or `select_by_tables` made, where a test is of one
-    /// compound selector at one node; 0 before the first selection.
+    /// The number of tests of the last `select`: of one compound at one node each; 0 before one.
     pub fn tests(&self) -> u128
         ensures { result ≡ self.now.tests }
     {
         self.tests
     }
 
-    /// Returns the elements below the roots that one of the matcher's selectors matches, each once,
-    /// root by root in document order. It uses node sets if the selectors need them, by the choice
-    /// of `select_counted`. Fails only when memory runs out; then only the number of tests has
-    /// changed.
+    /// The elements below the roots that match one of the matcher's selectors, each once, in the
+    /// order of the traversals. Each compound is tested at each node once at most: at the nodes
+    /// that its combinator reaches, and in a nested list where the compound around it can still
+    /// match. After a refusal the index is as it was, but for the number of tests.
     pub fn select(
-        &mut self,
-        matcher: &Matcher,
-        roots: &[NodeId],
-    ) -> Result<Vec<NodeRef<'a>>, OutOfMemory>
-        ensures { SelectsByIndex result roots.now matcher.now self.old self.new }
-    {
-        let tree = self.preorder.tree;
-        self.tests = 0;
-        let ids = match select_by_walk(tree, roots, matcher, &mut self.tests)? {
-            Some(ids) => ids,
-            None => self.ids_by_tables(matcher, roots)?,
-        };
-        nodes_of(tree, &ids)
-    }
-
-    /// Returns what `select` does, always by node sets. Each compound selector is tested at most
-    /// once at each node: at the nodes that its combinator reaches, and in a nested list only where
-    /// the compound selector around it can still match. Fails only when memory runs out; then only
-    /// the number of tests has changed.
-    pub fn select_by_tables(
         &mut self,
         matcher: &Matcher,
         roots: &[NodeId],
@@ -99,12 +78,12 @@ impl<'a> TreeIndex<'a> {
         ensures asked { Counts result 0 self.new.tests
             (SelectionTests matcher.now self.old.tree.now) }
     {
-        let ids = self.ids_by_tables(matcher, roots)?;
+        let ids = self.select_ids(matcher, roots)?;
         nodes_of(self.preorder.tree, &ids)
     }
 
-    /// Returns the ids of the nodes that `select_by_tables` returns.
-    pub(crate) fn ids_by_tables(
+    /// The numbers of what `select` returns.
+    pub(crate) fn select_ids(
         &mut self,
         matcher: &Matcher,
         roots: &[NodeId],

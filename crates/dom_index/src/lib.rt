@@ -8,7 +8,6 @@
 mod chains;
 mod collect;
 mod combinators;
-mod counting;
 mod evaluation;
 pub mod index;
 mod node_set;

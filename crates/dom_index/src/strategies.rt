@@ -6,14 +6,13 @@ ghost use Rattle.dom_index.specs.FlagRows.{is_sideways};
 ghost use Rattle.dom_index.specs.NodeTests.{ArePlain, IsPlain};
 
 use crate::chains::way_of;
-use crate::counting::count_outer;
 use dom_nodes::node_id::NodeId;
 use dom_selectors::syntax::{Combinator, Compound, Nested, Selector, Step};
 use dom_trees::tree::Tree;
 
-/// How many compound selectors a list may have to be selected in one traversal, which keeps for
-/// each node a flag for each selector and one for each combinator.
-const MOST_COMPOUNDS: u64 = 32;
+/// How many compounds a list may have to be selected in one traversal, which keeps for each node a
+/// flag for each selector and one for each combinator.
+const MOST_COMPOUNDS: usize = 32;
 
 /// The number of nodes of which one counts as few.
 const FEW: usize = 32;
@@ -121,8 +120,8 @@ fn has_has(compound: &Compound) -> bool {
         .any(|list| matches!(list, Nested::Has(_)))
 }
 
-/// Returns whether a compound selector other than the last has `:has`.
-pub(crate) fn has_has_before(first: &Compound, steps: &[Step]) -> bool {
+/// Whether a compound but the last has a list `:has`.
+fn has_has_before(first: &Compound, steps: &[Step]) -> bool {
     match steps.split_last() {
         None => false,
         Some((_, front)) => has_has(first) || front.iter().any(|step| has_has(&step.compound)),
@@ -176,7 +175,7 @@ fn is_near_anchor(selector: &Selector) -> bool {
 pub(crate) fn are_traversed(selectors: &[Selector]) -> bool
     ensures { result ≡ true → ArePlain selectors.now }
 {
-    if count_outer(selectors) > MOST_COMPOUNDS {
+    if count_compounds(selectors) > MOST_COMPOUNDS {
         return false;
     }
     if !selectors.iter().all(has_near_lists) {
@@ -185,7 +184,17 @@ pub(crate) fn are_traversed(selectors: &[Selector]) -> bool
     are_plain(selectors)
 }
 
-/// Returns whether all nested lists of the selector are near.
+/// How many compounds the selectors have, but for those of nested lists. No clause: nothing but
+/// time depends on it.
+fn count_compounds(selectors: &[Selector]) -> usize {
+    let mut count: usize = 0;
+    for selector in selectors {
+        count = count.saturating_add(1).saturating_add(selector.rest.len());
+    }
+    count
+}
+
+/// Whether nested lists are near.
 fn has_near_lists(selector: &Selector) -> bool {
     is_near(&selector.first) && selector.rest.iter().all(|step| is_near(&step.compound))
 }

@@ -2,8 +2,8 @@
 //! matches a node, a row of flags is needed: that of the next node to its left, which is its parent
 //! or its previous sibling.
 
-ghost use Rattle.std.specs.Prelude.{◌≡◌, ◌<◌, ◌≤◌, ◌+◌, ◌*◌, ◌∷◌, ◌++◌, [], length, true, IfOk};
-ghost use Rattle.std.specs.Prelude.{OnOk, not};
+ghost use Rattle.std.specs.Prelude.{◌≡◌, ◌<◌, ◌+◌, ◌∷◌, ◌++◌, [], length, true, IfOk, OnOk};
+ghost use Rattle.std.specs.Prelude.{not};
 ghost use Rattle.std.specs.Iterator.{IsFinite};
 ghost use Rattle.dom_selectors.specs.Spelling.{Decides};
 ghost use Rattle.dom_selectors.specs.ValuesAsTrees.{read_list};
@@ -13,14 +13,11 @@ ghost use Rattle.dom_select.specs.Selected.{FiltersTo, Selected, walks_below};
 ghost use Rattle.dom_index.specs.FlagRows.{reached_at};
 ghost use Rattle.dom_index.specs.NodeSets.{in_set, may_be_operand};
 ghost use Rattle.dom_index.specs.NodeTests.{ArePlain};
-ghost use Rattle.dom_index.specs.SelectorValues.{compounds_among};
-ghost use Rattle.dom_index.specs.Tracks.{AreFlagsAt, AreFollowing, ArePrepared, AreTracked};
+ghost use Rattle.dom_index.specs.Tracks.{AreFlagsAt, AreFollowing, AreTracked};
 ghost use Rattle.dom_index.specs.Tracks.{FlagsRight, IsFilledAt, IsFollowing, IsOnWay, IsReached};
-ghost use Rattle.dom_index.specs.Tracks.{IsPrepared, IsStepFlag, IsTracked, Reaches, SomeReaches};
-ghost use Rattle.dom_index.specs.Tracks.{compounds_of_all, compounds_of_chain, left_in};
+ghost use Rattle.dom_index.specs.Tracks.{IsStepFlag, IsTracked, Reaches, SomeReaches, left_in};
 
 use crate::chains::{Chain, prepare_all};
-use crate::node_set::member_count;
 use crate::node_tests::Visited;
 use crate::preorder::forest_laws;
 use dom_links::iters::{parent_id, prev_sibling_id};
@@ -379,47 +376,14 @@ fn select_along(
     select_among(tree, ids, chains, rows, shared)
 }
 
-/// Returns how many tests a selector took: those counted for all nodes, and those of filled rows.
-fn chain_tests(chain: &Chain<'_>, rows: &Rows, tree: &Tree) -> u128
-    requires prepared { IsPrepared chain.now }
-    requires tracked { IsTracked chain.now tree.now rows.now }
-    ensures { result ≤ compounds_of_chain chain.now * length tree.now.content }
-{
-    let subject = (chain.all_tests as u128).saturating_mul(tree.len() as u128);
-    let filled = member_count(&rows.filled) as u128;
-    (chain.row_tests as u128)
-        .saturating_mul(filled)
-        .saturating_add(subject)
-}
-
-/// Returns how many tests all selectors took.
-fn tests_made(chains: &[Chain<'_>], all: &[Rows], tree: &Tree) -> u128
-    requires prepared { ArePrepared chains.now }
-    requires long { length all.now ≡ length chains.now }
-    requires tracked { AreTracked chains.now tree.now all.now }
-    ensures { result ≤ compounds_of_all chains.now * length tree.now.content }
-{
-    let mut count: u128 = 0;
-    for i in 0..chains.len() {
-        count = count.saturating_add(chain_tests(&chains[i], &all[i], tree));
-    }
-    count
-}
-
-/// Returns the elements below the roots that one of the selectors matches, each once. The
-/// combinators of each selector all have to go the same way. It adds to `tests` how many tests were
-/// made, where the last compound selectors count for all nodes of the tree at once.
+/// The elements below the roots that one of the plain selectors matches, each once.
 pub(crate) fn select_plain(
     tree: &Tree,
     roots: &[NodeId],
     selectors: &[Selector],
-    tests: &mut u128,
 ) -> Result<Vec<NodeId>, OutOfMemory>
     requires { ArePlain selectors.now }
-    ensures found { IfOk result (λ ids. Selected tree.now roots.now
-        (read_list selectors.now) ids.items) }
-    ensures tests { tests.new
-        ≤ tests.old + compounds_among selectors.now * length tree.now.content }
+    ensures { IfOk result (λ ids. Selected tree.now roots.now (read_list selectors.now) ids.items) }
 {
     let chains = prepare_all(selectors, tree)?;
     let mut rows = all_empty(tree, &chains)?;
@@ -427,7 +391,5 @@ pub(crate) fn select_plain(
         caches: SelectorCaches::new(tree),
         missing: Vec::new(tree.allocator()),
     };
-    let found = select_along(tree, roots, &chains, &mut rows, &mut shared);
-    *tests = tests.saturating_add(tests_made(&chains, &rows, tree));
-    found
+    select_along(tree, roots, &chains, &mut rows, &mut shared)
 }

@@ -6,7 +6,7 @@ use dom_nodes::node_data::Change;
 use dom_query::{Allow, Document, NodeId, NodeRef, sanitize};
 
 /// The elements that sanitising leaves.
-static ELEMENTS: [&str; 73] = [
+static ELEMENTS: [&str; 76] = [
     "a",
     "abbr",
     "address",
@@ -80,6 +80,9 @@ static ELEMENTS: [&str; 73] = [
     "tr",
     "tt",
     "u",
+    "ul",
+    "var",
+    "wbr",
 ];
 
 /// The attributes that it leaves.

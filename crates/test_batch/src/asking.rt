@@ -1,7 +1,7 @@
 //! Lines, each of which calls something that `dom_query` adds to the crates below it.
 
 use crate::inputs::input;
-use crate::streams::serialize;
+use crate::streams::{serialize, write_failing};
 use crate::web::NOTING;
 use dom_query::{
     Document, DocumentMd, DocumentSelect, EditFault, RunFault, SelectionMd, SelectorFault,
@@ -51,6 +51,7 @@ fn answer(rt: &HostRuntime, document: &Document, word: &str, rest: &str) -> Opti
         "texts-without" => print_without(rt, document, rest),
         "selected" => print_selected(rt, document, rest),
         "serialize" => serialize(rt, &document.tree, rest),
+        "writes" => write_failing(rt, &document.tree, rest),
         _ => None,
     }
 }

@@ -2,7 +2,10 @@
 
 use crate::asking::show_read;
 use crate::inputs::input;
-use dom_query::{NodeId, NodeRef, RunFault, SerializableNodeRef, TraversalScope, Tree, drive, run};
+use dom_query::{
+    NodeId, NodeMarkup, NodeRef, RunFault, SerializableNodeRef, TraversalScope, Tree, WriteFault,
+    drive, run,
+};
 use std::alloc::Global;
 use std::io::{self, ErrorKind, Read, Write};
 
@@ -59,8 +62,71 @@ pub fn serialize(rt: &HostRuntime, tree: &Tree, line: &str) -> Option<()> {
     Some(())
 }
 
-/// Runs `drive` with these arguments, this reader, and a writer that accepts `left` writes of at
-/// most `most` bytes. Prints and returns its exit status, and prints its output on standard error.
+/// What writes a node's HTML.
+#[derive(Clone, Copy, Debug)]
+enum Writing {
+    WriteHtml,
+    Serialize,
+}
+
+/// How a node's HTML is written to a writer that takes so many writes of so many bytes, and what
+/// that got.
+fn write_into(
+    alloc: Global,
+    node: &NodeRef<'_>,
+    writing: Writing,
+    (left, most): (usize, usize),
+) -> (Result<(), WriteFault>, Failing) {
+    let taken = Vec::new(alloc);
+    let mut out = Failing { left, most, taken };
+    let scope = TraversalScope::IncludeNode;
+    let ended = match writing {
+        Writing::WriteHtml => node.write_html(scope, &mut out),
+        Writing::Serialize => SerializableNodeRef::from(NodeRef::new(node.id, node.tree)).serialize(
+            scope, &mut out,
+        ),
+    };
+    (ended, out)
+}
+
+/// How a node's HTML is written where the writer takes so many bytes in each write, and fails at
+/// the first write, at the second, and so on, until none fails: `N`.
+pub fn write_failing(rt: &HostRuntime, tree: &Tree, line: &str) -> Option<()> {
+    let node = NodeRef::new(NodeId::new(line.parse::<usize>().ok()?)?, tree);
+    for writing in &[Writing::WriteHtml, Writing::Serialize] {
+        for most in &[1, 2, 7, usize::MAX] {
+            write_until_whole(rt, &node, *writing, *most)?;
+        }
+    }
+    Some(())
+}
+
+/// Prints the number of writes that are enough, whether fewer got beginnings of the whole, and
+/// whether these got it.
+fn write_until_whole(
+    rt: &HostRuntime,
+    node: &NodeRef<'_>,
+    writing: Writing,
+    most: usize,
+) -> Option<()> {
+    let (_, whole) = write_into(rt.alloc(), node, writing, (usize::MAX, usize::MAX));
+    let mut are_beginnings = true;
+    for left in 0..usize::MAX {
+        let (ended, out) = write_into(rt.alloc(), node, writing, (left, most));
+        if ended != Err(WriteFault::Write) {
+            let is_whole = out.taken.as_slice() == whole.taken.as_slice();
+            println!(rt;
+                "{writing:?}, {most}: {ended:?}, {left} {are_beginnings} {is_whole}"
+            ).ok()?;
+            break;
+        }
+        are_beginnings = are_beginnings && out.left == 0 && whole.taken.starts_with(&out.taken);
+    }
+    Some(())
+}
+
+/// How a drive with these words ends whose reader is given, and whose writer takes so many writes:
+/// its status, and what it says on standard error.
 fn drive_into<R: Read>(
     rt: &HostRuntime,
     words: &[String],

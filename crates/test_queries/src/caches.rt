@@ -1,8 +1,7 @@
-//! The steps of a selection: children found by a test, matches below several nodes, indexes in
-//! caches, and the number of tests of compound selectors.
+//! What is found and counted on the way to a selection: children by a test, matches below several
+//! nodes, and indexes in caches.
 
 use crate::selecting::{matcher_of, show_each};
-use dom_index::selecting::select_counted;
 use dom_mini::traversal::Traversal;
 use dom_nodes::indexes::IndexKind;
 use dom_nodes::node_data::TreeNode;
@@ -16,7 +15,7 @@ use dom_selection::selection::Selection;
 use dom_selectors::mini_selector::selector::MiniSelector;
 use dom_trees::node_ref::NodeRef;
 use dom_trees::tree::Tree;
-use test_lines::printing::{begin, end, show, show_next, show_nodes, show_read, show_some};
+use test_lines::printing::{begin, end, show, show_next, show_nodes, show_some};
 use test_lines::words::{cut, node_of, nodes_of};
 
 /// Prints the node's first child that is an element without children, and its first child element
@@ -110,13 +109,56 @@ pub fn index(rt: &HostRuntime, tree: &Tree, line: &str) -> Option<()> {
     Some(())
 }
 
-/// Prints how many nodes below the root are selected, and the number of tests, counted from 100 on:
-/// `SELECTOR`.
-pub fn count_tests(rt: &HostRuntime, tree: &Tree, line: &str) {
-    if let Some(matcher) = matcher_of(rt, line) {
-        let mut tests = 100;
-        let found = select_counted(tree, &[NodeId::root()], &matcher, &mut tests);
-        show_read(rt, "select_counted", found.map(|ids| ids.len()));
-        show(rt, "tests", tests);
+/// Which elements match selectors that are asked in turn with one cache, and which match each of them
+/// without one: `SELECTOR ; SELECTOR ..`.
+pub fn match_cached(rt: &HostRuntime, tree: &Tree, line: &str) {
+    let mut caches = SelectorCaches::new(tree);
+    for text in line.split(';') {
+        if let Some(matcher) = matcher_of(rt, text) {
+            show_cached(rt, &matcher, &mut caches);
+            show_matched(rt, tree, &matcher);
+        }
     }
+}
+
+fn show_cached(rt: &HostRuntime, matcher: &Matcher, caches: &mut SelectorCaches<'_>) {
+    begin(rt, "match_element_with_caches");
+    for node in caches.tree().root().descendants_it() {
+        if node.is_element() && matcher.match_element_with_caches(&node, caches) {
+            show_next(rt, node.id);
+        }
+    }
+    end(rt);
+}
+
+fn show_matched(rt: &HostRuntime, tree: &Tree, matcher: &Matcher) {
+    begin(rt, "match_element");
+    for node in tree.root().descendants_it() {
+        if node.is_element() && matcher.match_element(&node) {
+            show_next(rt, node.id);
+        }
+    }
+    end(rt);
+}
+
+/// How many elements match selectors that are asked in turn with one cache, and how many indexes
+/// the cache has given again after each: `SELECTOR ; SELECTOR ..`.
+pub fn count_hits(rt: &HostRuntime, tree: &Tree, line: &str) {
+    let mut caches = SelectorCaches::new(tree);
+    for text in line.split(';') {
+        if let Some(matcher) = matcher_of(rt, text) {
+            show(rt, "matched", count_matched(&matcher, &mut caches));
+            show(rt, "hits", caches.hits());
+        }
+    }
+}
+
+fn count_matched(matcher: &Matcher, caches: &mut SelectorCaches<'_>) -> usize {
+    let mut matched: usize = 0;
+    for node in caches.tree().root().descendants_it() {
+        if node.is_element() && matcher.match_element_with_caches(&node, caches) {
+            matched = matched.saturating_add(1);
+        }
+    }
+    matched
 }

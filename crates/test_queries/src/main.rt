@@ -32,8 +32,7 @@ fn read(rt: &HostRuntime, document: &Document, group: &str, line: &str) -> Optio
     match group {
         "state" => print_state(rt, &document.tree, &document.errors),
         "places" => indexes::show_places(rt, &document.tree),
-        "tests" => selecting::count_tests(rt, &document.tree, line, true),
-        "chosen" => selecting::count_tests(rt, &document.tree, line, false),
+        "tests" => selecting::count_tests(rt, &document.tree, line),
         "select" => selecting::select(rt, document, line),
         "selection" => selections::select(rt, document, line),
         "step" => selections::step(rt, document, line),
@@ -41,7 +40,8 @@ fn read(rt: &HostRuntime, document: &Document, group: &str, line: &str) -> Optio
         "combine" => selections::combine(rt, document, line),
         "selected" => selections::read(rt, document, line),
         "path" => minis::follow(rt, document, line),
-        "counted" => caches::count_tests(rt, &document.tree, line),
+        "cached" => caches::match_cached(rt, &document.tree, line),
+        "hits" => caches::count_hits(rt, &document.tree, line),
         _ => return ask(rt, &document.tree, group, line),
     }
     Some(())
@@ -71,6 +71,7 @@ fn ask(rt: &HostRuntime, tree: &Tree, group: &str, line: &str) -> Option<()> {
 fn write(rt: &HostRuntime, group: &str, line: &str) -> Option<()> {
     match group {
         "fault-of" => selecting::show_fault(rt, line),
+        "fragment" => selecting::select_in_fragment(rt, line),
         "css" => css::write_selectors(rt, line),
         "debug" => css::print_selector(rt, line),
         "mini" => minis::read(rt, line),

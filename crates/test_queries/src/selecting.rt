@@ -37,6 +37,17 @@ pub fn select(rt: &HostRuntime, document: &Document, line: &str) {
     }
 }
 
+/// What a selector selects in a fragment, which is all in an element `html`: `SELECTOR MARKUP`.
+pub fn select_in_fragment(rt: &HostRuntime, line: &str) {
+    let (text, markup) = cut(line);
+    if let Some(matcher) = matcher_of(rt, text) {
+        match Document::fragment(rt.alloc(), markup) {
+            Ok(fragment) => select_by_each(rt, &fragment.tree, &matcher),
+            Err(fault) => show(rt, "Document::fragment", fault),
+        }
+    }
+}
+
 fn select_by_each(rt: &HostRuntime, tree: &Tree, matcher: &Matcher) {
     let roots = [NodeId::root()];
     let found = select_below(tree, &NodeId::root(), matcher);
@@ -76,8 +87,6 @@ fn list_below(rt: &HostRuntime, tree: &Tree, roots: &[NodeId], matcher: &Matcher
     match TreeIndex::new(tree) {
         Ok(mut index) => {
             show_nodes_read(rt, "TreeIndex::select", index.select(matcher, roots));
-            let found = index.select_by_tables(matcher, roots);
-            show_nodes_read(rt, "TreeIndex::select_by_tables", found);
         }
         Err(fault) => show(rt, "TreeIndex::new", fault),
     }
@@ -93,18 +102,12 @@ pub fn select_below_several(rt: &HostRuntime, tree: &Tree, line: &str) -> Option
     Some(())
 }
 
-/// Prints how many nodes an index selects below the root, and the number of tests that takes; the
-/// index uses tables, or chooses the strategy by itself: `SELECTOR`.
-pub fn count_tests(rt: &HostRuntime, tree: &Tree, line: &str, by_tables: bool) {
+/// How many nodes an index selects below the root, and how many tests that takes: `SELECTOR`.
+pub fn count_tests(rt: &HostRuntime, tree: &Tree, line: &str) {
     if let Some(matcher) = matcher_of(rt, line) {
         match TreeIndex::new(tree) {
             Ok(mut index) => {
-                let roots = [NodeId::root()];
-                let found = if by_tables {
-                    index.select_by_tables(&matcher, &roots)
-                } else {
-                    index.select(&matcher, &roots)
-                };
+                let found = index.select(&matcher, &[NodeId::root()]);
                 show_tests(rt, found, index.tests());
             }
             Err(fault) => show(rt, "TreeIndex::new", fault),

@@ -1,4 +1,4 @@
-use Rattle.std.proofs.Common.{◌∙◌, ◌*◌, List, ap, arith, length, refl, subst, sym}
+use Rattle.std.proofs.Common.{◌∙◌, List, ap, length, refl, subst, sym}
 use Rattle.std.proofs.lemmas.Result.{IfOk-weaker}
 use Rattle.dom_selectors.specs.ValuesAsTrees.{read_list}
 use Rattle.dom_select.specs.Descendants.{IsMatch}
@@ -6,13 +6,12 @@ use Rattle.dom_select.specs.Selected.{walks_below}
 use Rattle.dom_select.proofs.FilterLemmas.{filters_same}
 use Rattle.dom_select.proofs.SeveralLemmas.{selected_all}
 use Rattle.dom_index.specs.declared.chains.Chain.{Chain}
-use Rattle.dom_index.specs.declared.streaming.Rows.{Rows}
 use Rattle.dom_index.specs.Tracks.{AreChainsOf, AreTracked, IsReached}
-use Rattle.dom_index.proofs.PlainLemmas.{all_counted, chains_prepared, some_meant}
+use Rattle.dom_index.proofs.PlainLemmas.{chains_prepared, some_meant}
 use Rattle.dom_index.proofs.streaming.select_plain.Goals as goal
 
-pub select_along-found-requires : goal.select_along-found-requires
-select_along-found-requires c =
+pub select_along-requires : goal.select_along-requires
+select_along-requires c =
     let selectors = c.args.selectors.now in
     let are = subst (λ (cs : List Chain). AreChainsOf selectors cs) (sym c.deref-2.ensures.value) c.in_ok-chains.ensures in
     let same = c.deref.ensures.value ∙ sym c.deref-2.ensures.value in
@@ -23,29 +22,14 @@ select_along-found-requires c =
       caches_are = c.new.ensures;
     }
 
-pub tests_made-requires-clause-tracked : goal.tests_made-requires-clause-tracked
-tests_made-requires-clause-tracked c =
-    let forest = c.args.tree.now in
-    subst (λ (all : List Rows). AreTracked c.deref-3.result.now forest all) (sym c.deref-4.ensures.value)
-    (subst (λ (cs : List Chain). AreTracked cs forest c.select_along-found.new.rows.items) (c.deref-2.ensures.value ∙ sym c.deref-3.ensures.value) c.select_along-found.ensures.following.tracked)
-
-pub returns-clause-found : goal.returns-clause-found
-returns-clause-found c =
+pub returns : goal.returns
+returns c =
     let selectors = c.args.selectors.now in
     let forest = c.args.tree.now in
     let roots = c.args.roots.now in
     let chains = c.deref-2.result.now in
     let are = subst (λ (cs : List Chain). AreChainsOf selectors cs) (sym c.deref-2.ensures.value) c.in_ok-chains.ensures in
-    IfOk-weaker c.select_along-found.result _ _ (λ ids h.
+    IfOk-weaker c.select_along.result _ _ (λ ids h.
     selected_all forest roots (read_list selectors) (walks_below forest roots) ids.items refl
     (filters_same (IsReached chains forest) (IsMatch (read_list selectors) forest) (walks_below forest roots) ids.items (λ n x. (x.0, (some_meant selectors chains are forest n).0 x.1)) (λ n x. (x.0, (some_meant selectors chains are forest n).1 x.1)) h))
-    c.select_along-found.ensures.found
-
-pub returns-clause-tests : goal.returns-clause-tests
-returns-clause-tests c =
-    let selectors = c.args.selectors.now in
-    let are = subst (λ (cs : List Chain). AreChainsOf selectors cs) (sym c.deref-3.ensures.value) c.in_ok-chains.ensures in
-    let all = ap (λ k. k * length c.args.tree.now.content) (all_counted selectors c.deref-3.result.now are) in
-    let made = c.tests_made.ensures in
-    let sum = c.saturating_add.ensures in
-    omega (arith, all, made, sum)
+    c.select_along.ensures.found

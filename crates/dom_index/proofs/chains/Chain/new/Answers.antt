@@ -13,13 +13,4 @@ loop-i-preserved c = record {
   count = ap length c.in_ok-push_test-2.ensures ∙ (length-append c.loop-i.tests.items (c.new-in-loop-i.result ∷ []) ∙ ap (λ k. k + 1) c.loop-i.invariant.count);
   tests = tests_more c.args.first.now c.args.steps.now c.loop-i.i c.index-steps-i.result c.loop-i.tests.items c.push_test-in-loop-i.new.tests.items c.new-in-loop-i.result (omega arith) c.index-steps-i.is c.loop-i.invariant.count c.in_ok-push_test-2.ensures c.new-in-loop-i.ensures.ready
       (ap (λ b. b.now) c.new-in-loop-i.ensures.compound ∙ ap (λ (x : Step). x.compound) (sym c.index-steps-i.is)) c.loop-i.invariant.tests;
-  counted =
-      let steps = c.args.steps.now in
-      let i = c.loop-i.i in
-      let s = c.index-steps-i-in-loop-i.result in
-      let cut = ap (λ ss. steps_count (steps_of ss)) (steps_ahead (drop i steps) (drop (i + 1) steps) s (row_cut i steps s (omega arith) c.index-steps-i-in-loop-i.is)) in
-      let one = c.count_compound-subject_tests-in-loop-i.ensures in
-      let read = ap (λ (x : Step). compound_count (read_compound x.compound)) c.index-steps-i-in-loop-i.is in
-      let so_far = c.loop-i.invariant.counted in
-      omega (arith, cut, one, read, so_far);
 }

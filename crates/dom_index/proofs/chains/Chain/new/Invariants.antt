@@ -13,5 +13,4 @@ abbrev pub invariant-loop-i : goal.invariant-loop-i
 invariant-loop-i l = record {
   count : length l.tests.items ≡ l.i + 1;
   tests : (j : ℕ) (test : NodeTest) → slice_get l.tests.items j ≡ Some test → IsReady test × (compound_at (read_compound l.first) (map read_step l.steps) j ≡ Some (read_compound test.compound.now));
-  counted : l.subject_tests + l.row_tests + steps_count (steps_of (map read_step (drop l.i l.steps))) ≤ compound_count (read_compound l.first) + steps_count (steps_of (map read_step l.steps));
 }

@@ -13,7 +13,7 @@ use Rattle.dom_index.specs.Collected.{collected}
 use Rattle.dom_index.specs.NodeSets.{IsSetOf, in_set}
 use Rattle.dom_index.proofs.ListLemmas.{decided_anywhere}
 use Rattle.dom_index.proofs.CollectLemmas.{collected_selected, walks_inside}
-use Rattle.dom_index.proofs.index.TreeIndex.ids_by_tables.Goals as goal
+use Rattle.dom_index.proofs.index.TreeIndex.select_ids.Goals as goal
 
 pub returns-clause-found : goal.returns-clause-found
 returns-clause-found c =
