@@ -8,7 +8,6 @@ ghost use Rattle.html5_trees.specs.Elements.{IsRooted};
 
 mod adopting;
 mod edits;
-mod late;
 mod placing;
 mod popping;
 
@@ -22,9 +21,8 @@ use dom_nodes::node_data::NodeData;
 use dom_nodes::node_id::NodeId;
 use dom_trees::quirks::QuirksMode;
 use dom_trees::tree::Tree;
-use edits::{cut_out, put_comment, put_copy, put_doctype, put_element, put_text};
+use edits::{add_attrs, cut_out, put_comment, put_copy, put_doctype, put_element, put_text};
 use html5_tokens::token::Tag;
-use late::LateAttrs;
 use placing::gap;
 pub use placing::{Placing, is_foster_target};
 pub use popping::ForeignEnd;
@@ -52,8 +50,6 @@ pub struct GrowingTree {
     form: FormPointer,
     /// The context element of a fragment, with the id of the root that represents it.
     context: Option<Open>,
-    /// Attributes that are to be added to `html` and to `body`.
-    late: Vec<LateAttrs>,
 }
 
 impl Model for GrowingTree {
@@ -93,21 +89,16 @@ impl GrowingTree {
             head: None,
             form: FormPointer::None,
             context: None,
-            late: Vec::new(alloc),
         }
     }
 
-    /// The tree, once all is read.
-    pub fn into_built(self) -> Result<BuiltTree, PageFault> {
-        let mut tree = self.tree;
-        for late in self.late {
-            late.put_into(&mut tree)?;
-        }
-        Ok(BuiltTree {
-            tree,
+    /// Returns the finished tree.
+    pub fn into_built(self) -> BuiltTree {
+        BuiltTree {
+            tree: self.tree,
             errors: self.errors,
             quirks_mode: self.quirks_mode,
-        })
+        }
     }
 
     /// The stack of open elements.
@@ -220,6 +211,7 @@ impl GrowingTree {
             name,
             number: 0,
             holds_html: false,
+            fingerprint: 0,
         });
     }
 
@@ -292,21 +284,13 @@ impl GrowingTree {
         put_doctype(&mut self.tree, parts)
     }
 
-    /// Adds the attributes of a tag to the element at a place of the stack, where it lacks them.
+    /// Adds those attributes of a tag to the element at an index of the stack that it doesn't have
+    /// yet.
     pub fn add_attrs(&mut self, place: usize, tag: &Tag) -> Result<(), PageFault> {
         let Some(open) = self.stack.get(place) else {
             return Ok(());
         };
-        let alloc = self.tree.allocator();
-        for late in self.late.as_mut_slice() {
-            if late.is_of(open.id) {
-                return late.add(alloc, tag);
-            }
-        }
-        let mut late = LateAttrs::new(&self.tree, open.id)?;
-        late.add(alloc, tag)?;
-        self.late.push(late)?;
-        Ok(())
+        add_attrs(&mut self.tree, open.id, tag)
     }
 
     /// Detaches the element at an index of the stack.

@@ -107,7 +107,7 @@ impl PageReader {
     pub fn finish(self) -> Result<BuiltTree, PageFault> {
         let mut reader = self;
         reader.read_end()?;
-        reader.builder.tree.into_built()
+        Ok(reader.builder.tree.into_built())
     }
 
     /// Processes the end of the text.

@@ -226,18 +226,17 @@ impl GrowingTree {
             self.remove_entry(gone);
             index = bookmark.without(gone).index;
         }
-        let likeness = self.likeness_of(copy.id);
-        self.insert_entry(index, copy, likeness)?;
+        self.insert_entry(index, copy)?;
         self.remove_at(place);
         self.mark();
         Ok(())
     }
 
-    /// Adds an entry of that likeness at an index of the list.
-    fn insert_entry(&mut self, index: usize, element: &Open, likeness: u32) -> Result<(), PageFault>
+    /// Inserts an entry at an index of the list.
+    fn insert_entry(&mut self, index: usize, element: &Open) -> Result<(), PageFault>
         requires { IsElement self.old element.now.id }
         ensures { self.new ≡ self.old }
     {
-        self.formatting.insert(index, element, likeness)
+        self.formatting.insert(index, element)
     }
 }
