@@ -10,13 +10,13 @@ import tempfile
 ROOT = pathlib.Path(__file__).resolve().parents[3]
 TABLE = "docs/standard/tokenizer.txt"
 PLAIN = "crates/html_standard/specs/PlainMarkup.antt"
-# What is changed, in which file, the line before the change where it has to be told from others, what stands there, and what then does.
+# What is changed, in which file, text before the change by which it is found, the old text, and the new.
 CHANGES = [
     ("a writer that leaves < in a text", PLAIN, "is_text_char c = ", "|| 60 == c)", ")"),
     ("a writer that leaves a quote in a value", PLAIN, "is_value_char c = ", "34 == c || ", ""),
     ("a writer that leaves & in a value", PLAIN, "is_value_char c = ", " || 38 == c)", ")"),
-    ("a writer that leaves --!> in a comment", PLAIN, "", ' || holds_word eqb (codes "--!>") text)', ")"),
-    ("a writer that leaves <!-- in a script", PLAIN, "lacks_end Script name text = ", ' || holds_word eqb (codes "<!--") text)', ")"),
+    ("a writer that leaves --!> in a comment", PLAIN, "", ' || contains_word eqb (codes "--!>") text)', ")"),
+    ("a writer that leaves <!-- in a script", PLAIN, "lacks_end Script name text = ", ' || contains_word eqb (codes "<!--") text)', ")"),
     ("< is a character of text", TABLE, "== 1 Data\n", "< | | -> TagOpen", "< | emit cur |"),
     ("a quote stays in a value", TABLE, "== 36 AttributeValueDoubleQuoted\n", '" | | -> AfterAttributeValueQuoted', '" | attr.value + cur |'),
     ("a tag's end goes to PLAINTEXT", TABLE, "== 8 TagName\n", "> | emit tag | -> Data", "> | emit tag | -> PLAINTEXT"),
