@@ -4,7 +4,7 @@ is compared with that of the grammar in grammars.py: read, with the same result,
 documents have, and a place inside the text.
 
 Raw nodes: a tree of 7 nodes with each link changed to each other number, to none and to 99, and with two changes at random,
-are a forest exactly where the definition in docs/FOREST.md says so.
+are a forest exactly where the definition in docs/RULES.md says so.
 
 Pages: each of some texts in each beginning and with each character replaced, bytes that are no UTF-8, and random pages are one
 page by each way of reading them."""

@@ -1,4 +1,4 @@
-"""The grammars of docs/MARKUP.md, docs/SELECTORS.md, docs/MINI_SELECTORS.md and docs/RUN.md, written from those documents
+"""The grammars of markup, selectors, mini selectors and scripts in docs/RULES.md, written from that document
 alone, so that hostile.py can ask what each input is to be read as. Each reader takes a text and returns what the program
 `test_batch bulk inputs` must print for it: `read ..`, or the name of a fault."""
 import re

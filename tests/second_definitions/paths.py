@@ -1,6 +1,6 @@
 """Compares what paths of mini selectors find in random forests with a meaning of its own.
 
-The meaning is written from the definition alone (docs/MINI_SELECTORS.md): the nodes that a path finds are those at the end of
+The meaning is written from the definition alone (docs/RULES.md): the nodes that a path finds are those at the end of
 a row of nodes that begins with the start, in which each stands to the one before as its combinator says and matches its mini
 selector; in document order, each once. Where a selector may be the same text, what `DescendantMatches` selects below the
 root is compared too, and below another start it must have all that the path finds.

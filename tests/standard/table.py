@@ -1,5 +1,5 @@
 """Reads the table of the tokenizer's states, docs/standard/tokenizer.txt, and the table of the named character references,
-docs/standard/named_references.txt. How the tables are written is said at their heads, and in docs/STANDARD.md."""
+docs/standard/named_references.txt. How the tables are written is said at their heads, and in docs/RULES.md."""
 import pathlib
 import re
 from typing import NamedTuple
