@@ -1,6 +1,8 @@
-"""The tables of docs/standard, the definitions of crates/html_standard that are made from them, and the texts of tests/standard."""
+"""The tables of docs/standard, the definitions of crates/html_standard that are made from them, the texts of tests/standard, and the
+rows that show tokens of html5_tokens."""
 import json
 import pathlib
+import re
 import sys
 
 ROOT = pathlib.Path(__file__).resolve().parents[2]
@@ -10,6 +12,8 @@ import machine  # noqa: E402
 
 # The rows of the program `test_calls` whose argument asks for tokens, which are printed a line each, after which other lines follow.
 ASKING = "web-tokens "
+# A comment in a tree that `hq --tree` shows.
+COMMENT = re.compile(r"^\| *<!-- (.*?) -->$", re.S | re.M)
 NO_TOKEN = "end: -"
 KINDS = ("start", "end", "comment", "doctype")
 
@@ -59,6 +63,23 @@ def other_lines(text, output):
     return f"{text!r}: {tokens}, and not {printed}" if tokens + first != printed else None
 
 
+def comments_shown():
+    """The pages of tests/html5lib with the comments in their trees. A page with a CDATA section is left out: outside foreign content
+    such a section is a comment, and which it is the tree construction decides."""
+    for file in sorted((ROOT / "tests" / "html5lib").glob("*.jsonl")):
+        for line in file.read_text(encoding="utf-8").splitlines():
+            row = json.loads(line)
+            page = row.get("markup")
+            if row.get("args") == ["--tree"] and isinstance(page, str) and "[cdata[" not in page.lower():
+                yield page, sorted(COMMENT.findall(row["output"]))
+
+
+def other_comments(page, comments):
+    """The comments of a page by the table, if they aren't those of its tree."""
+    found = sorted(t[1] for t in machine.Machine(page).run() if t[0] == "comment")
+    return f"{page!r}: the comments {found}, and not {comments}" if found != comments else None
+
+
 def standard():
     """Compares the definitions, the entries and the texts, and returns how many comparisons passed and failed."""
     texts = rows()
@@ -67,6 +88,7 @@ def standard():
     faults.append(f"no text takes these entries: {left}" if left else None)
     faults += [other_tokens(row) for row in texts]
     faults += [other_lines(text, output) for text, output in tokens_asked()]
+    faults += [other_comments(page, comments) for page, comments in comments_shown()]
     found = [fault for fault in faults if fault]
     for fault in found:
         print(f"the HTML Standard: {fault}")

@@ -142,7 +142,7 @@ def table_file(states):
 
 def references_file(references):
     lines = [
-        "-- The named character references (13.5): the names without their ampersand, and the one or two characters that each stands for."
+        "-- The named character references (13.5): the names without their ampersand, and the one or two characters of each."
         " Made from docs/standard/named_references.txt by tests/standard/definitions.py.",
         "use Rattle.std.specs.Prelude.{ℕ, List, [], ◌∷◌, codes}",
         "use Prim.Native.String.{String}",
@@ -178,7 +178,7 @@ def maybe(text):
 
 
 def tokens_of(token):
-    """The tokens of the definitions, one character at a time, that one of machine.py stands for."""
+    """The tokens of the definitions, one character at a time, that represent one of machine.py."""
     kind, *parts = token
     if kind == "chars":
         return [f"AChar {ord(c)}" for c in parts[0]]

@@ -4,7 +4,7 @@ import table
 STATES = table.states()
 NAMES = table.named_references()
 LENGTHS = sorted({len(name) for name in NAMES}, reverse=True)
-# What the numbers 128 to 159 stand for in a numeric character reference.
+# The characters of the numbers 128 to 159 in a numeric character reference.
 WINDOWS = [
     0x20AC, 0x81, 0x201A, 0x192, 0x201E, 0x2026, 0x2020, 0x2021, 0x2C6, 0x2030, 0x160, 0x2039, 0x152, 0x8D, 0x17D, 0x8F,
     0x90, 0x2018, 0x2019, 0x201C, 0x201D, 0x2022, 0x2013, 0x2014, 0x2DC, 0x2122, 0x161, 0x203A, 0x153, 0x9D, 0x17E, 0x178,
@@ -23,7 +23,7 @@ def normalized(text):
 
 
 def character(code):
-    """The character that a numeric character reference stands for."""
+    """The character of the number of a character reference."""
     if code == 0 or code > 0x10FFFF or 0xD800 <= code <= 0xDFFF:
         return "\ufffd"
     return chr(WINDOWS[code - 0x80] if 0x80 <= code < 0xA0 else code)

@@ -30,6 +30,8 @@ LAST = {"RCDATA": "title", "RAWTEXT": "style", "ScriptData": "script"}
 SELDOM = [
     "<script><!--x-\0-><script></script>y", "<script><!--<scr ipt></script>y", "<script><!--<script>-\0-></script>y",
     "<script><!--<script></scr ipt>x</script>y</script>z", "<script><!--<script></ script>x</script>y</script>z",
+    "<script><!--x-y-><script></script>z", "<script><!--<script>--\0></script>y", '<!DOCTYPE x y PUBLIC "a">',
+    '<!DOCTYPE x PUBLIC "a" b "c">',
 ]  # fmt: skip
 
 

@@ -105,7 +105,7 @@ def states(text=None):
 
 
 def named_references():
-    """For each name, the characters that it stands for."""
+    """For each name, its one or two characters."""
     found = {}
     for line in (FOLDER / "named_references.txt").read_text(encoding="utf-8").splitlines():
         if not line.startswith("#"):

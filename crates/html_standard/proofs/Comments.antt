@@ -11,7 +11,7 @@ use Rattle.html_standard.proofs.Steps.{behind_none, go_on, loud, other, silent, 
 use Rattle.html_standard.proofs.WordFacts.{behind-lacks, from_not, front-lacks}
 use Rattle.html_standard.specs.Entries.{Current, These, Stay, Switch, Reconsume, NewComment, Add, Comment, EmitComment}
 use Rattle.html_standard.specs.Machine.{Machine, Taken, all_emitted, at_state, stops, taken}
-use Rattle.html_standard.specs.PlainMarkup.{begins_with, holds_word, is_comment_text, is_raw_char}
+use Rattle.html_standard.specs.PlainMarkup.{begins_with, contains_word, is_comment_text, is_raw_char}
 use Rattle.html_standard.specs.Reading.{Feedback, IsFeedback, Reads, here, reader}
 use Rattle.html_standard.specs.States.{State, Data, TagOpen, MarkupDeclarationOpen, CommentStart, CommentStartDash, CommentState, CommentLessThanSign, CommentLessThanSignBang, CommentLessThanSignBangDash, CommentLessThanSignBangDashDash, CommentEndDash, CommentEnd, CommentEndBang}
 use Rattle.html_standard.specs.Table.{entries}
@@ -55,13 +55,13 @@ Front _ text = Unit {0}
 
 record Lacks (mode : Mode) (text : List ℕ) : Type 0 where
   pub front : Front mode text
-  pub ends : holds_word eqb (codes "-->") (held mode ++ text) ≡ false
-  pub bangs : holds_word eqb (codes "--!>") (held mode ++ text) ≡ false
+  pub ends : contains_word eqb (codes "-->") (held mode ++ text) ≡ false
+  pub bangs : contains_word eqb (codes "--!>") (held mode ++ text) ≡ false
 
 -- past the front of the comment
 record LacksEnd (text : List ℕ) : Type 0 where
-  pub ends : holds_word eqb (codes "-->") text ≡ false
-  pub bangs : holds_word eqb (codes "--!>") text ≡ false
+  pub ends : contains_word eqb (codes "-->") text ≡ false
+  pub bangs : contains_word eqb (codes "--!>") text ≡ false
 
 end_behind : (front text : List ℕ) → LacksEnd (front ++ text) → LacksEnd text
 end_behind front text l = record { ends = behind-lacks eqb (codes "-->") front text l.ends; bangs = behind-lacks eqb (codes "--!>") front text l.bangs }
@@ -416,8 +416,8 @@ pub comment_read : (f : Feedback) → IsFeedback f → (text : List ℕ) → is_
 comment_read f honest text h m rest seen =
     let a : Bool = begins_with eqb (codes ">") text in
     let b : Bool = begins_with eqb (codes "->") text in
-    let c : Bool = holds_word eqb (codes "-->") text in
-    let d : Bool = holds_word eqb (codes "--!>") text in
+    let c : Bool = contains_word eqb (codes "-->") text in
+    let d : Bool = contains_word eqb (codes "--!>") text in
     let parts : (list_all is_raw_char text ≡ true) × (not (a || b || c || d) ≡ true) = and_parts (list_all is_raw_char text) (not (a || b || c || d)) h in
     let first : (a || b || c ≡ false) × (d ≡ false) = or_parts (a || b || c) d (from_not (a || b || c || d) parts.1) in
     let second : (a || b ≡ false) × (c ≡ false) = or_parts (a || b) c first.0 in

@@ -16,7 +16,7 @@ use Rattle.html_standard.proofs.Steps.{go_on, loud, other, silent, taking, telli
 use Rattle.html_standard.proofs.WordFacts.{behind-lacks, from_not, front-lacks}
 use Rattle.html_standard.specs.Entries.{Act, Mark, Entry, entry, Next, Appropriate, Current, Lower, TheBuffer, These, Stay, Switch, Reconsume, SetEmpty, Buffer, NewTag, EmitTag, space, chars, Add, TheTagName, Emit, Ending, Then}
 use Rattle.html_standard.specs.Machine.{Machine, at_state, fits_mark, is_name_of, same_case_less, taken, taken_if}
-use Rattle.html_standard.specs.PlainMarkup.{TextKind, Rcdata, Rawtext, Script, Piece, begins_with, character, holds_word, is_letter_name, is_own_char, is_plain_piece, is_text_char, lacks_end, state_of, written_end, written_piece}
+use Rattle.html_standard.specs.PlainMarkup.{TextKind, Rcdata, Rawtext, Script, Piece, begins_with, character, contains_word, is_letter_name, is_own_char, is_plain_piece, is_text_char, lacks_end, state_of, written_end, written_piece}
 use Rattle.html_standard.specs.Reading.{Feedback, IsFeedback, Reads, here, reader}
 use Rattle.html_standard.specs.States.{Data, RCDATA, BeforeAttributeName, SelfClosingStartTag, RCDATAEndTagName, RAWTEXTEndTagName, ScriptDataEndTagName, ScriptData, ScriptDataEscapeStart, ScriptDataEscapeStartDash}
 use Rattle.html_standard.specs.Table.{entries}
@@ -65,8 +65,8 @@ abbrev end_word : List ℕ → List ℕ
 end_word name = codes "</" ++ name
 
 record Lacks (kind : TextKind) (name text : List ℕ) : Type 0 where
-  pub ends : holds_word same_case_less (end_word name) text ≡ false
-  pub opens : kind ≡ Script → holds_word eqb (codes "<!--") text ≡ false
+  pub ends : contains_word same_case_less (end_word name) text ≡ false
+  pub opens : kind ≡ Script → contains_word eqb (codes "<!--") text ≡ false
 
 abbrev is_script : TextKind → Bool
 is_script Script = true
@@ -75,11 +75,11 @@ is_script Rcdata = false
 
 lacks_from : (kind : TextKind) (name text : List ℕ) → lacks_end kind name text ≡ true → Lacks kind name text
 lacks_from Script name text h =
-    let parts : (holds_word same_case_less (end_word name) text ≡ false) × (holds_word eqb (codes "<!--") text ≡ false) =
-    or_parts (holds_word same_case_less (end_word name) text) (holds_word eqb (codes "<!--") text) (from_not (holds_word same_case_less (end_word name) text || holds_word eqb (codes "<!--") text) h) in
+    let parts : (contains_word same_case_less (end_word name) text ≡ false) × (contains_word eqb (codes "<!--") text ≡ false) =
+    or_parts (contains_word same_case_less (end_word name) text) (contains_word eqb (codes "<!--") text) (from_not (contains_word same_case_less (end_word name) text || contains_word eqb (codes "<!--") text) h) in
     record { ends = parts.0; opens = λ e. parts.1 }
-lacks_from Rawtext name text h = record { ends = from_not (holds_word same_case_less (end_word name) text) h; opens = λ e. absurd (true≢false (sym (ap is_script e))) }
-lacks_from Rcdata name text h = record { ends = from_not (holds_word same_case_less (end_word name) text) h; opens = λ e. absurd (true≢false (sym (ap is_script e))) }
+lacks_from Rawtext name text h = record { ends = from_not (contains_word same_case_less (end_word name) text) h; opens = λ e. absurd (true≢false (sym (ap is_script e))) }
+lacks_from Rcdata name text h = record { ends = from_not (contains_word same_case_less (end_word name) text) h; opens = λ e. absurd (true≢false (sym (ap is_script e))) }
 
 lacks_behind : (kind : TextKind) (name front text : List ℕ) → Lacks kind name (front ++ text) → Lacks kind name text
 lacks_behind kind name front text l = record {
@@ -348,7 +348,7 @@ naming_ok Rawtext letters = refl
 naming_ok Script letters = refl
 
 -- no `<!--` is read
-never : (c : ℕ) (text : List ℕ) → holds_word eqb (codes "<!--") (codes "<!-" ++ c ∷ text) ≡ false → (45 == c) ≡ false
+never : (c : ℕ) (text : List ℕ) → contains_word eqb (codes "<!--") (codes "<!-" ++ c ∷ text) ≡ false → (45 == c) ≡ false
 never c text h =
     elim (cases_Bool (45 == c)) [
       | inl dash ↦ absurd (true≢false (sym (both_true dash refl) ∙ front-lacks eqb (codes "<!--") 60 (33 ∷ 45 ∷ c ∷ text) h))

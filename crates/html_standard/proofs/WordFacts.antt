@@ -1,16 +1,16 @@
 -- What stands in a text, and what does not.
 use Rattle.std.specs.Prelude.{◌≡◌, ℕ, Bool, true, false, not, List, [], ◌∷◌, ◌++◌, refl}
 use Rattle.std.proofs.lemmas.Bool.{or_parts}
-use Rattle.html_standard.specs.PlainMarkup.{begins_with, holds_word}
+use Rattle.html_standard.specs.PlainMarkup.{begins_with, contains_word}
 
-pub front-lacks : (same : ℕ → ℕ → Bool) (word : List ℕ) (c : ℕ) (text : List ℕ) → holds_word same word (c ∷ text) ≡ false → begins_with same word (c ∷ text) ≡ false
-front-lacks same word c text h = (or_parts (begins_with same word (c ∷ text)) (holds_word same word text) h).0
+pub front-lacks : (same : ℕ → ℕ → Bool) (word : List ℕ) (c : ℕ) (text : List ℕ) → contains_word same word (c ∷ text) ≡ false → begins_with same word (c ∷ text) ≡ false
+front-lacks same word c text h = (or_parts (begins_with same word (c ∷ text)) (contains_word same word text) h).0
 
-pub later-lacks : (same : ℕ → ℕ → Bool) (word : List ℕ) (c : ℕ) (text : List ℕ) → holds_word same word (c ∷ text) ≡ false → holds_word same word text ≡ false
-later-lacks same word c text h = (or_parts (begins_with same word (c ∷ text)) (holds_word same word text) h).1
+pub later-lacks : (same : ℕ → ℕ → Bool) (word : List ℕ) (c : ℕ) (text : List ℕ) → contains_word same word (c ∷ text) ≡ false → contains_word same word text ≡ false
+later-lacks same word c text h = (or_parts (begins_with same word (c ∷ text)) (contains_word same word text) h).1
 
 -- behind what is at the front
-pub behind-lacks : (same : ℕ → ℕ → Bool) (word front text : List ℕ) → holds_word same word (front ++ text) ≡ false → holds_word same word text ≡ false
+pub behind-lacks : (same : ℕ → ℕ → Bool) (word front text : List ℕ) → contains_word same word (front ++ text) ≡ false → contains_word same word text ≡ false
 behind-lacks same word [] text h = h
 behind-lacks same word (c ∷ front) text h = behind-lacks same word front text (later-lacks same word c (front ++ text) h)
 

@@ -10,7 +10,7 @@ use Rattle.html_standard.specs.Tokens.{Token, AnEof}
 
 -- ---- plain markup
 
--- wherever the text stands in a page, and whatever follows: from the data state it is read as these tokens, and then the data state is back
+-- wherever the text is in a page, and whatever follows it: read from the data state it gives these tokens, and leads back to the data state
 abbrev pub IsReadAnywhere : Feedback → List Token → List ℕ → List Token → Type 0
 IsReadAnywhere f seen text found = (before : Machine) (rest : List ℕ) →
     (behind : Machine) × Reads f (reader (at_state before Data) (text ++ rest) seen) (reader (at_state behind Data) rest (seen ++ found))

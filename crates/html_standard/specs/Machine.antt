@@ -43,12 +43,12 @@ unfoldable pub longest_name : List ℕ → Option (List ℕ)
 unfolding named_references
 longest_name text = option_map (λ one. one.name) (longest_among named_references text)
 
--- what a name stands for
+-- the characters of a name
 unfoldable pub value_of : List ℕ → List ℕ
 unfolding named_references
 value_of name = option_map_or (λ one. one.characters) (find (λ one. bytes_eq one.name name) named_references) []
 
--- 13.2.3.5: CR LF, and CR alone, are LF. The flag says whether a CR stands before.
+-- 13.2.3.5: CR LF, and CR alone, are LF. The flag says whether a CR comes just before.
 abbrev pub normalized_behind : Bool → List ℕ → List ℕ
 normalized_behind behind [] = []
 normalized_behind behind (c ∷ text) =
@@ -101,13 +101,13 @@ goes_on [] = false
 goes_on (c ∷ text) = c == 61 || is_ascii_alphanumeric c
 
 -- foreign: tree construction's adjusted current node is an element outside the HTML namespace
-abbrev pub holds : Bool → Guard → Machine → List ℕ → List ℕ → Bool
-holds foreign Always m cur rest = true
-holds foreign Appropriate m cur rest = is_name_of m.last_start m.tag.name
-holds foreign IsScript m cur rest = bytes_eq m.buffer (codes "script")
-holds foreign InForeign m cur rest = foreign
-holds foreign InAttribute m cur rest = is_value m.return_state
-holds foreign Historical m cur rest = is_value m.return_state && ends_open cur && goes_on rest
+abbrev pub is_met : Bool → Guard → Machine → List ℕ → List ℕ → Bool
+is_met foreign Always m cur rest = true
+is_met foreign Appropriate m cur rest = is_name_of m.last_start m.tag.name
+is_met foreign IsScript m cur rest = bytes_eq m.buffer (codes "script")
+is_met foreign InForeign m cur rest = foreign
+is_met foreign InAttribute m cur rest = is_value m.return_state
+is_met foreign Historical m cur rest = is_value m.return_state && ends_open cur && goes_on rest
 
 -- the entry that is taken, and what it consumes
 pub record Taken : Type 0 where
@@ -118,7 +118,7 @@ pub record Taken : Type 0 where
 abbrev pub taken_if : Bool → Option (List ℕ) → Guard → List Act → Then → Machine → List ℕ → Taken → Taken
 taken_if foreign None guard acts goes m text other = other
 taken_if foreign (Some cur) guard acts goes m text other =
-    cond (holds foreign guard m cur (drop (length cur) text)) (record { acts = acts; goes = goes; current = cur }) other
+    cond (is_met foreign guard m cur (drop (length cur) text)) (record { acts = acts; goes = goes; current = cur }) other
 
 unfoldable pub taken : Bool → Machine → List ℕ → List Entry → Taken
 taken foreign m text [] = record { acts = []; goes = Stop; current = [] }

@@ -1,4 +1,4 @@
--- Plain markup, as a careful writer writes it, and the tokens that it stands for. A character is its code point.
+-- Plain markup, as a careful writer writes it, and the tokens that it represents. A character is its code point.
 use Rattle.std.specs.Prelude.{◌≡◌, ℕ, Bool, true, false, not, eqb, ◌==◌, ◌&&◌, ◌||◌, nat_le, List, [], ◌∷◌, ◌++◌, map, flat_map, None, Some, codes}
 use Rattle.std.specs.Char.{is_ascii_lowercase}
 use Rattle.std.specs.List.{list_all}
@@ -39,11 +39,11 @@ is_plain_piece test Gt = true
 is_plain_piece test Quot = true
 is_plain_piece test Nbsp = true
 
--- what a text may hold as itself: any character but `&`, `<`, null and a carriage return
+-- what a text may contain as itself: any character but `&`, `<`, null and a carriage return
 abbrev pub is_text_char : ℕ → Bool
 is_text_char c = not (0 == c || 13 == c || 38 == c || 60 == c)
 
--- what a value in double quotes may hold as itself: any character but `"`, `&`, null and a carriage return
+-- what a value in double quotes may contain as itself: any character but `"`, `&`, null and a carriage return
 abbrev pub is_value_char : ℕ → Bool
 is_value_char c = not (0 == c || 13 == c || 34 == c || 38 == c)
 
@@ -51,7 +51,7 @@ is_value_char c = not (0 == c || 13 == c || 34 == c || 38 == c)
 abbrev pub is_text_or_less : ℕ → Bool
 is_text_or_less c = not (0 == c || 13 == c || 38 == c)
 
--- what a raw text or a comment may hold: any character but null and a carriage return
+-- what a raw text or a comment may contain: any character but null and a carriage return
 abbrev pub is_raw_char : ℕ → Bool
 is_raw_char c = not (0 == c || 13 == c)
 
@@ -75,7 +75,7 @@ abbrev pub is_letter_name : List ℕ → Bool
 is_letter_name [] = false
 is_letter_name (c ∷ name) = is_ascii_lowercase c && list_all is_ascii_lowercase name
 
--- ---- what stands in a text
+-- ---- what a text contains
 
 -- the text begins with the word
 abbrev pub begins_with : (ℕ → ℕ → Bool) → List ℕ → List ℕ → Bool
@@ -83,21 +83,21 @@ begins_with same [] text = true
 begins_with same (w ∷ word) [] = false
 begins_with same (w ∷ word) (c ∷ text) = same w c && begins_with same word text
 
--- the word stands in the text
-abbrev pub holds_word : (ℕ → ℕ → Bool) → List ℕ → List ℕ → Bool
-holds_word same word [] = begins_with same word []
-holds_word same word (c ∷ text) = begins_with same word (c ∷ text) || holds_word same word text
+-- the text contains the word
+abbrev pub contains_word : (ℕ → ℕ → Bool) → List ℕ → List ℕ → Bool
+contains_word same word [] = begins_with same word []
+contains_word same word (c ∷ text) = begins_with same word (c ∷ text) || contains_word same word text
 
--- no comment ends in it: it begins with no `>` or `->`, and holds no `-->` or `--!>`
+-- no comment ends in it: it does not begin with `>` or `->`, and does not contain `-->` or `--!>`
 abbrev pub is_comment_text : List ℕ → Bool
 is_comment_text text = list_all is_raw_char text
-    && not (begins_with eqb (codes ">") text || begins_with eqb (codes "->") text || holds_word eqb (codes "-->") text || holds_word eqb (codes "--!>") text)
+    && not (begins_with eqb (codes ">") text || begins_with eqb (codes "->") text || contains_word eqb (codes "-->") text || contains_word eqb (codes "--!>") text)
 
 -- how the text of an element is read that has a state of its own: with references, as it is, or as a script
 pub data TextKind : Type 0 where
   Rcdata Rawtext Script : TextKind
 
--- what such a text may hold as itself
+-- what such a text may contain as itself
 abbrev pub is_own_char : TextKind → ℕ → Bool
 is_own_char Rcdata = is_text_or_less
 is_own_char kind = is_raw_char
@@ -107,10 +107,10 @@ state_of Rcdata = RCDATA
 state_of Rawtext = RAWTEXT
 state_of Script = ScriptData
 
--- no `</NAME` stands in it, in any case, and in a script no `<!--`
+-- it does not contain `</NAME`, in any case, and as a script it does not contain `<!--`
 abbrev pub lacks_end : TextKind → List ℕ → List ℕ → Bool
-lacks_end Script name text = not (holds_word same_case_less (codes "</" ++ name) text || holds_word eqb (codes "<!--") text)
-lacks_end _ name text = not (holds_word same_case_less (codes "</" ++ name) text)
+lacks_end Script name text = not (contains_word same_case_less (codes "</" ++ name) text || contains_word eqb (codes "<!--") text)
+lacks_end _ name text = not (contains_word same_case_less (codes "</" ++ name) text)
 
 -- ---- items
 
@@ -137,7 +137,7 @@ written_start name attrs = 60 ∷ (name ++ (flat_map written_attr attrs ++ 62 �
 abbrev pub written_end : List ℕ → List ℕ
 written_end name = 60 ∷ 47 ∷ (name ++ 62 ∷ [])
 
--- what stands in a page for the item
+-- the text of the item
 abbrev pub written : Item → List ℕ
 written (CharItem piece) = written_piece piece
 written (StartTag name attrs) = written_start name attrs
@@ -154,7 +154,7 @@ attr_of a = record { name = a.name; value = map character a.value }
 abbrev pub start_token : List ℕ → List PlainAttr → Token
 start_token name attrs = AStart name (distinct (map attr_of attrs)) false
 
--- the tokens that it stands for
+-- the tokens that it represents
 abbrev pub tokens : Item → List Token
 tokens (CharItem piece) = AChar (character piece) ∷ []
 tokens (StartTag name attrs) = start_token name attrs ∷ []

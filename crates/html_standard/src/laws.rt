@@ -4,13 +4,13 @@ ghost use Rattle.html_standard.specs.Laws.{AnyFeedbackStays, ExamplesAreRead};
 ghost use Rattle.html_standard.specs.Laws.{PagesAreReadOneWay, PlainMarkupIsRead};
 ghost use Rattle.html_standard.specs.Laws.{PlainPagesAreRead, PlainPagesAreReadOneWay};
 
-/// Plain markup is read as the tokens that it stands for, from the data state to the data state,
-/// wherever it stands in a page and whatever follows.
+/// Plain markup is read as the tokens that it represents, from the data state to the data state,
+/// wherever it is in a page and whatever follows it.
 pub fn plain_markup()
     ensures { PlainMarkupIsRead }
 {}
 
-/// A page of plain markup is read as the tokens that it stands for, and as no others.
+/// A page of plain markup is read as the tokens that it represents, and as no others.
 pub fn plain_pages()
     ensures read { PlainPagesAreRead }
     ensures only { PlainPagesAreReadOneWay }

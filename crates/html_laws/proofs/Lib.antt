@@ -1,0 +1,10 @@
+pub mod Answering
+pub mod Encodings
+pub mod HtmlRead
+pub mod NameChars
+pub mod Pieces
+pub mod SameNames
+pub mod TreesPlain
+pub mod TreesRead
+pub mod TreesTokens
+pub mod TreesWritten
