@@ -416,3 +416,7 @@ row102 = refl
 row103 : built (AChar 32 ∷ ADoctype (doctype_named (codes "html")) ∷ AnEnd (codes "p") ∷ AnEnd (codes "head") ∷ AChar 32 ∷ AStart (codes "head") [] false ∷ ADoctype (doctype_named (codes "html")) ∷ AStart (codes "p") [] false ∷ []) ≡ Some (doctype_node (codes "html") (element_node (codes "html") [] (element_node (codes "head") [] no_trees (text_node (codes " ") (element_node (codes "body") [] (element_node (codes "p") [] no_trees no_trees) no_trees))) no_trees))
 unfolding tree_step run taken act in_scope rules
 row103 = refl
+
+row104 : built (ADoctype (doctype_named (codes "html")) ∷ AStart (codes "html") [] false ∷ AStart (codes "head") [] false ∷ AnEnd (codes "head") ∷ AStart (codes "body") [] false ∷ AStart (codes "p") [] false ∷ AStart (codes "button") [] false ∷ AStart (codes "p") [] false ∷ AChar 120 ∷ []) ≡ Some (doctype_node (codes "html") (element_node (codes "html") [] (element_node (codes "head") [] no_trees (element_node (codes "body") [] (element_node (codes "p") [] (element_node (codes "button") [] (element_node (codes "p") [] (text_node (codes "x") no_trees) no_trees) no_trees) no_trees) no_trees)) no_trees))
+unfolding tree_step run taken act in_scope rules
+row104 = refl
