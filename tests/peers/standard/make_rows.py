@@ -1,7 +1,7 @@
 """make_rows.py COUNT SEED: writes lists of tokens and their trees by the rules. Those of tests/standard/rules/rows.jsonl take every rule. For
 each name in a rule, and in the lists of scopes, implied end tags and special elements, one of both files has another tree without
 that name; those of names.jsonl are for that alone. Where the rules give a tree, parse5 has to give the same; where a rule is not written,
-the tree is null. Names of which no row was found are printed."""
+the tree is null. Names of which no row was found are printed. With COUNT 0 the rows of rows.jsonl stay."""
 import json
 import pathlib
 import random
@@ -124,31 +124,46 @@ def base_rows(count, rng):
     return rows
 
 
-def main():
-    count, seed = int(sys.argv[1]), int(sys.argv[2])
-    first = base_rows(count, random.Random(seed))
-    rows = list(first)
-    pools = {}
+def names_shown(rows):
+    """More rows, so that for each name in a list one of all the rows has another tree without that name."""
+    more, pools = [], {}
     for what, names in entries():
         for name in list(names):
             if name not in pools:
-                pool = [(tokens, tree_of(None, tokens)) for tokens in with_name(name)]
-                right = parse5([(None, written(tokens)) for tokens, _ in pool])
-                pools[name] = [(None, tokens, tree) for (tokens, tree), theirs in zip(pool, right) if tree is None or listed(tree) == theirs]
+                pools[name] = [(None, tokens, tree_of(None, tokens)) for tokens in with_name(name)]
             kept = list(names)
             without(names, name)
-            shown = next((row for row in [*rows, *pools[name]] if tree_of(row[0], row[1]) != row[2]), None)
+            told = [row for row in [*rows, *more] if any(t[1:2] == (name,) for t in row[1])]
+            shown = next((row for row in [*told, *pools[name]] if tree_of(row[0], row[1]) != row[2]), None)
             if isinstance(names, set):
                 names.update(kept)
             else:
                 names[:] = kept
             if shown is None:
                 print("no row shows", name, "in", what)
-            elif shown not in rows:
-                rows.append(shown)
-    for path, kept in ((ROWS, first), (NAMES, rows[len(first):])):
+            elif shown not in rows and shown not in more:
+                more.append(shown)
+    right = parse5([(None, written(tokens)) for _, tokens, _ in more])
+    for (_, tokens, tree), theirs in zip(more, right):
+        if tree is not None and listed(tree) != theirs:
+            print("parse5 differs:", written(tokens))
+    return [row for row, theirs in zip(more, right) if row[2] is None or listed(row[2]) == theirs]
+
+
+def stored(path):
+    rows = [json.loads(line) for line in path.read_text().splitlines()]
+    return [(row["context"], [tuple(t) for t in row["tokens"]], row["tree"]) for row in rows]
+
+
+def main():
+    count, seed = int(sys.argv[1]), int(sys.argv[2])
+    if count:
+        rows = base_rows(count, random.Random(seed))
+    else:
+        rows = [(context, tokens, tree_of(context, tokens)) for context, tokens, _ in stored(ROWS)]
+    for path, kept in ((ROWS, rows), (NAMES, names_shown(rows))):
         path.write_text("".join(json.dumps({"context": c, "tokens": t, "tree": r}, ensure_ascii=False) + "\n" for c, t, r in kept))
-    print(len(rows), "rows")
+        print(path.name, len(kept), "rows")
 
 
 if __name__ == "__main__":
