@@ -1,7 +1,9 @@
 """The rules of tree construction: what is made from tests/standard/rules/rules.txt is what the crate html_rules holds, and the stored
 rows have the trees that the rules give, and take every rule. `checked()` prints what failed, and returns how many of these passed and
 how many failed."""
+import json
 import pathlib
+import re
 import sys
 
 ROOT = pathlib.Path(__file__).resolve().parents[2]
@@ -9,6 +11,11 @@ sys.dont_write_bytecode = True
 sys.path.insert(0, str(ROOT / "tests" / "standard" / "rules"))
 import generate  # noqa: E402
 import tree_builder  # noqa: E402
+
+
+# lists that a definition and the interpreter both write out
+LISTS = [("ElementNames.antt", "scope_names", tree_builder.SCOPE), ("ElementNames.antt", "implied_names", tree_builder.IMPLIED),
+         ("ElementNames.antt", "special_names", tree_builder.SPECIAL), ("TreeTokens.antt", "void_names", tree_builder.VOID)]
 
 
 def plain(value):
@@ -32,6 +39,19 @@ def checked():
             passed += 1
         else:
             failed.append("tests/standard/rules/rows.jsonl, line %d: the rules give %s" % (number, plain(tree)))
+    names = ROOT / "tests" / "standard" / "rules" / "names.jsonl"
+    for line in names.read_text().splitlines() if names.exists() else []:
+        row = json.loads(line)
+        if plain(tree_builder.build([tuple(token) for token in row["tokens"]])) == row["tree"]:
+            passed += 1
+        else:
+            failed.append("tests/standard/rules/names.jsonl: other trees are given for %s" % row["tokens"])
+    for file, name, want in LISTS:
+        found = re.search(r"^%s = (.*)" % name, (ROOT / "crates" / "html_rules" / "specs" / file).read_text(), re.M)
+        if sorted(re.findall('codes "([^"]*)"', found[1])) == sorted(want):
+            passed += 1
+        else:
+            failed.append("%s in specs/%s is another list than the interpreter's" % (name, file))
     for mode, rules in tree_builder.RULES.items():
         for i in range(len(rules)):
             if (mode, i) in tree_builder.TAKEN:

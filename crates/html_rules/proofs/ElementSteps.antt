@@ -8,7 +8,8 @@ use Rattle.std.specs.Cmp.Derive.{both_true}
 use Rattle.html_rules.specs.Building.{Building, Open, Entry, Listed, adopted, adopted_by, is_listed, last_listed, tree_step, unlisted, with_stack}
 use Rattle.html_rules.specs.PlainTrees.{Within, begins_text}
 use Rattle.html_rules.specs.TreeRules.{formatting}
-use Rattle.html_rules.specs.TreeTokens.{Attr, Trees, no_trees, element_node, end_of, is_among, joined, tokens, Token, AStart, AnEnd}
+use Rattle.html_standard.specs.Tokens.{Attr, Token, AStart, AnEnd}
+use Rattle.html_rules.specs.TreeTokens.{Trees, no_trees, element_node, end_of, is_among, joined, tokens}
 use Rattle.html_rules.proofs.TreeLists.{Steps, ends_text, joined_joined, step_on, steps_on}
 use Rattle.html_rules.proofs.RuleShapes.{Closes, ClosesFormatting, Runs, grown, inserted_plainly, open_of, marked}
 use Rattle.html_rules.proofs.StackKeys.{InFlow, Listable, Unlisted, mark, markers, Key, Outer, Ready, Steady, Fits, none, pass, mine, are_below, below_more, below_self, fits_below, fits_less, key, key_of, keys, outer, same_number, unlisted_number}
@@ -17,7 +18,7 @@ use Rattle.html_rules.proofs.TextSteps.{Built, step_by_rules}
 -- after a start tag that opened an element; the state outside of it is x
 pub record Begun (b : Building) (o : Open) (os : List Open) (name : List ℕ) (attrs : List Attr) (x : Outer) : Type 0 where
   pub after : Building
-  pub step : tree_step (with_stack b (o ∷ os)) (AStart name attrs) ≡ Some (with_stack after (open_of b.next name attrs no_trees ∷ o ∷ os))
+  pub step : tree_step (with_stack b (o ∷ os)) (AStart name attrs false) ≡ Some (with_stack after (open_of b.next name attrs no_trees ∷ o ∷ os))
   pub ready : Ready after (key_of b.next name ∷ key o ∷ keys os)
   pub kept : outer after ≡ x
 
@@ -104,35 +105,35 @@ ended_formatting name is closes b number attrs children o os ks flow r low = by_
 
 -- a start tag that only opens an element
 pub begun : (name : List ℕ) (attrs : List Attr) (b : Building) (o : Open) (os : List Open) → InFlow (outer b) (key o ∷ keys os) → Ready b (key o ∷ keys os) →
-    Runs (AStart name attrs) (with_stack b (o ∷ os)) (with_stack (record b { next = suc b.next }) (open_of b.next name attrs no_trees ∷ o ∷ os)) → Begun b o os name attrs (outer b)
+    Runs (AStart name attrs false) (with_stack b (o ∷ os)) (with_stack (record b { next = suc b.next }) (open_of b.next name attrs no_trees ∷ o ∷ os)) → Begun b o os name attrs (outer b)
 begun name attrs b o os f r runs =
     let bb : Building = with_stack b (o ∷ os) in
     record {
       after = record b { next = suc b.next };
-      step = step_by_rules bb (with_stack (record b { next = suc b.next }) (open_of b.next name attrs no_trees ∷ o ∷ os)) (key o ∷ keys os) (AStart name attrs) f r.skip runs;
+      step = step_by_rules bb (with_stack (record b { next = suc b.next }) (open_of b.next name attrs no_trees ∷ o ∷ os)) (key o ∷ keys os) (AStart name attrs false) f r.skip runs;
       ready = record { skip = r.skip; fits = pass r.fits; numbers = more_numbers b.next name (key o ∷ keys os) r.numbers };
       kept = refl;
     }
 
 -- the same, where frames are no more possible
 pub begun_plainly : (name : List ℕ) (attrs : List Attr) (b : Building) (o : Open) (os : List Open) → InFlow (outer b) (key o ∷ keys os) → Ready b (key o ∷ keys os) →
-    Runs (AStart name attrs) (with_stack b (o ∷ os)) (inserted_plainly name attrs (with_stack b (o ∷ os))) → Begun b o os name attrs (outer b)
+    Runs (AStart name attrs false) (with_stack b (o ∷ os)) (inserted_plainly name attrs (with_stack b (o ∷ os))) → Begun b o os name attrs (outer b)
 begun_plainly name attrs b o os f r runs =
     record {
       after = record b { next = suc b.next; frameset_ok = false };
-      step = step_by_rules (with_stack b (o ∷ os)) (inserted_plainly name attrs (with_stack b (o ∷ os))) (key o ∷ keys os) (AStart name attrs) f r.skip runs;
+      step = step_by_rules (with_stack b (o ∷ os)) (inserted_plainly name attrs (with_stack b (o ∷ os))) (key o ∷ keys os) (AStart name attrs false) f r.skip runs;
       ready = record { skip = r.skip; fits = pass r.fits; numbers = more_numbers b.next name (key o ∷ keys os) r.numbers };
       kept = refl;
     }
 
 -- a start tag that opens an element and puts it into the list
 pub begun_formatting : (name : List ℕ) (attrs : List Attr) (b : Building) (o : Open) (os : List Open) → is_among name formatting ≡ true → InFlow (outer b) (key o ∷ keys os) → Ready b (key o ∷ keys os) →
-    Runs (AStart name attrs) (with_stack b (o ∷ os)) (marked name attrs (with_stack b (o ∷ os))) → Begun b o os name attrs (outer b)
+    Runs (AStart name attrs false) (with_stack b (o ∷ os)) (marked name attrs (with_stack b (o ∷ os))) → Begun b o os name attrs (outer b)
 begun_formatting name attrs b o os is f r runs =
     let bb : Building = with_stack b (o ∷ os) in
     record {
       after = record b { next = suc b.next; listed = (marked name attrs bb).listed };
-      step = step_by_rules bb (marked name attrs bb) (key o ∷ keys os) (AStart name attrs) f r.skip runs;
+      step = step_by_rules bb (marked name attrs bb) (key o ∷ keys os) (AStart name attrs false) f r.skip runs;
       ready = record {
         skip = r.skip;
         fits = mine attrs is (fits_less 0 name attrs r.fits);
@@ -182,7 +183,7 @@ filled name attrs children v c b n o os x ends ready steady inner finish =
 pub element_built : (name : List ℕ) (attrs : List Attr) (children : Trees) (v : Within) (b : Building) (o : Open) (os : List Open) (x : Outer) → end_of name ≡ AnEnd name ∷ [] →
     Begun b o os name attrs x → Steady v x (key_of b.next name ∷ key o ∷ keys os) → IsBuilt v children →
     ((d : Building) → outer d ≡ x → Ready d (key_of b.next name ∷ key o ∷ keys os) → Ended d b.next name attrs children o os (outer b)) →
-    Built b o os (AStart name attrs ∷ (tokens children ++ end_of name)) (one name attrs children)
+    Built b o os (AStart name attrs false ∷ (tokens children ++ end_of name)) (one name attrs children)
 element_built name attrs children v b o os x ends start steady inner finish =
     let c : Building = start.after in
     let f : Filled c b b.next name attrs children o os (outer b) =
@@ -190,7 +191,7 @@ element_built name attrs children v b o os x ends start steady inner finish =
     (λ d kept r. finish d (kept ∙ start.kept) r) in
     record {
       after = f.after;
-      steps = step_on (with_stack b (o ∷ os)) (with_stack c (open_of b.next name attrs no_trees ∷ o ∷ os)) (with_stack f.after (grown o name attrs children ∷ os)) (AStart name attrs) (tokens children ++ end_of name) start.step f.steps;
+      steps = step_on (with_stack b (o ∷ os)) (with_stack c (open_of b.next name attrs no_trees ∷ o ∷ os)) (with_stack f.after (grown o name attrs children ∷ os)) (AStart name attrs false) (tokens children ++ end_of name) start.step f.steps;
       ready = f.ready;
       kept = f.kept;
     }

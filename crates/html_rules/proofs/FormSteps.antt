@@ -1,11 +1,11 @@
 -- The tags of `form`, whose rules ask the form element pointer.
-use Rattle.std.specs.Prelude.{◌≡◌, Option, Some, None, codes, refl, List}
+use Rattle.std.specs.Prelude.{◌≡◌, false, Option, Some, None, codes, refl, List}
 use Rattle.std.specs.Option.{option_and_then}
 use mathlib.Core.Path.{ap}
 use Rattle.html_rules.specs.Building.{Building, act, done, form_ended, in_scope, inserted, run, taken}
 use Rattle.html_rules.specs.RuleWords.{Mode, InBody, InCaption, InCell}
 use Rattle.html_rules.specs.TreeRules.{rules}
-use Rattle.html_rules.specs.TreeTokens.{Attr, AnEnd, AStart}
+use Rattle.html_standard.specs.Tokens.{Attr, AnEnd, AStart}
 use Rattle.html_rules.proofs.RuleShapes.{NoP, Runs}
 use Rattle.html_rules.proofs.TextSteps.{from_body}
 
@@ -17,15 +17,15 @@ unfolding run rules taken act in_scope stays
 form_closes b c h = (ap stays h, ap stays h, ap stays h)
 
 form_done : (attrs : List Attr) (b : Building) → b.form ≡ None → NoP b → (again : Mode → Building → Option Building) →
-    done again (taken (AStart (codes "form") attrs) b (rules InBody)) (AStart (codes "form") attrs) b ≡ Some (record (inserted (codes "form") attrs b) { form = Some b.next })
+    done again (taken (AStart (codes "form") attrs false) b (rules InBody)) (AStart (codes "form") attrs false) b ≡ Some (record (inserted (codes "form") attrs b) { form = Some b.next })
 unfolding rules taken act
 form_done attrs b h k again = rw (h, k) refl
 
 form_by : (attrs : List Attr) (b : Building) (again : Mode → Building → Option Building) →
-    (done again (taken (AStart (codes "form") attrs) b (rules InCaption)) (AStart (codes "form") attrs) b ≡ again InBody b)
-    × (done again (taken (AStart (codes "form") attrs) b (rules InCell)) (AStart (codes "form") attrs) b ≡ again InBody b)
+    (done again (taken (AStart (codes "form") attrs false) b (rules InCaption)) (AStart (codes "form") attrs false) b ≡ again InBody b)
+    × (done again (taken (AStart (codes "form") attrs false) b (rules InCell)) (AStart (codes "form") attrs false) b ≡ again InBody b)
 unfolding rules taken
 form_by attrs b again = (refl, refl)
 
-pub form_opens : (attrs : List Attr) (b : Building) → b.form ≡ None → NoP b → Runs (AStart (codes "form") attrs) b (record (inserted (codes "form") attrs b) { form = Some b.next })
-form_opens attrs b h k = from_body (AStart (codes "form") attrs) b (record (inserted (codes "form") attrs b) { form = Some b.next }) (form_done attrs b h k) (form_by attrs b)
+pub form_opens : (attrs : List Attr) (b : Building) → b.form ≡ None → NoP b → Runs (AStart (codes "form") attrs false) b (record (inserted (codes "form") attrs b) { form = Some b.next })
+form_opens attrs b h k = from_body (AStart (codes "form") attrs false) b (record (inserted (codes "form") attrs b) { form = Some b.next }) (form_done attrs b h k) (form_by attrs b)

@@ -8,7 +8,8 @@ use Rattle.html_rules.specs.Building.{Building, Open, act, built, built_fragment
 use Rattle.html_rules.specs.PlainTrees.{FlowPlace, HeadPlace, IsPlainPage, Page, are_plain, begins_text, flow_contexts, outermost, page_trees, space_node}
 use Rattle.html_rules.specs.RuleWords.{AfterAfterBody, AfterHead, InBody, InHead, Mode}
 use Rattle.html_rules.specs.TreeRules.{rules}
-use Rattle.html_rules.specs.TreeTokens.{Trees, no_trees, doctype_node, element_node, is_among, joined, tokens, with_char, Token, AChar, ADoctype, AStart, AnEnd, AnEof}
+use Rattle.html_standard.specs.Tokens.{Token, AChar, ADoctype, AStart, AnEnd, AnEof}
+use Rattle.html_rules.specs.TreeTokens.{doctype_named, Trees, no_trees, doctype_node, element_node, is_among, joined, tokens, with_char}
 use Rattle.html_rules.proofs.ElementSteps.{less_numbers, more_numbers, no_and}
 use Rattle.html_rules.proofs.PlainBuilt.{plain_built}
 use Rattle.html_rules.proofs.RuleShapes.{RunsIn, with_one}
@@ -36,7 +37,7 @@ at_head : Building
 at_head = record start { document = doctype_node (codes "html") no_trees; mode = InHead; next = 2 }
 
 front : Page → List Token
-front page = ADoctype (codes "html") ∷ AStart (codes "html") page.html ∷ AStart (codes "head") page.head ∷ []
+front page = ADoctype (doctype_named (codes "html")) ∷ AStart (codes "html") page.html false ∷ AStart (codes "head") page.head false ∷ []
 
 front_built : (page : Page) → Steps start (front page) (with_stack at_head (head_open page no_trees ∷ root page no_trees ∷ []))
 unfolding tree_step run taken act in_scope rules front at_head root head_open
@@ -66,7 +67,7 @@ in_body : Building → Building
 in_body b = record b { mode = InBody; skip = false; frameset_ok = false; next = suc b.next }
 
 body_begins : (b : Building) (page : Page) (t : Trees) →
-    Steps (with_stack (record b { mode = AfterHead; skip = false }) (root page t ∷ [])) (AStart (codes "body") page.body ∷ []) (with_stack (in_body b) (body_open page b.next no_trees ∷ root page t ∷ []))
+    Steps (with_stack (record b { mode = AfterHead; skip = false }) (root page t ∷ [])) (AStart (codes "body") page.body false ∷ []) (with_stack (in_body b) (body_open page b.next no_trees ∷ root page t ∷ []))
 unfolding tree_step run taken act in_scope rules root body_open in_body
 body_begins b page t = refl
 
@@ -140,13 +141,13 @@ regrouped m s c x y z u v =
 
 -- the tokens of a page and the end of the file, in the order in which they are built
 page_tokens : (page : Page) → tokens (page_trees page) ++ AnEof ∷ [] ≡
-    front page ++ ((tokens page.metadata ++ AnEnd (codes "head") ∷ []) ++ (map AChar page.space ++ (AStart (codes "body") page.body ∷ (tokens page.contents ++ back))))
+    front page ++ ((tokens page.metadata ++ AnEnd (codes "head") ∷ []) ++ (map AChar page.space ++ (AStart (codes "body") page.body false ∷ (tokens page.contents ++ back))))
 unfolding front back
 page_tokens page =
-    ap (λ t. ADoctype (codes "html") ∷ AStart (codes "html") page.html ∷ AStart (codes "head") page.head ∷ (((tokens page.metadata ++ (AnEnd (codes "head") ∷ t)) ++ AnEnd (codes "html") ∷ []) ++ AnEof ∷ []))
+    ap (λ t. ADoctype (doctype_named (codes "html")) ∷ AStart (codes "html") page.html false ∷ AStart (codes "head") page.head false ∷ (((tokens page.metadata ++ (AnEnd (codes "head") ∷ t)) ++ AnEnd (codes "html") ∷ []) ++ AnEof ∷ []))
     (space_tokens page.space (element_node (codes "body") page.body page.contents no_trees))
-    ∙ ap (λ t. ADoctype (codes "html") ∷ AStart (codes "html") page.html ∷ AStart (codes "head") page.head ∷ t)
-    (regrouped (tokens page.metadata) (map AChar page.space) (tokens page.contents) (AnEnd (codes "head")) (AStart (codes "body") page.body) (AnEnd (codes "body")) (AnEnd (codes "html")) AnEof)
+    ∙ ap (λ t. ADoctype (doctype_named (codes "html")) ∷ AStart (codes "html") page.html false ∷ AStart (codes "head") page.head false ∷ t)
+    (regrouped (tokens page.metadata) (map AChar page.space) (tokens page.contents) (AnEnd (codes "head")) (AStart (codes "body") page.body false) (AnEnd (codes "body")) (AnEnd (codes "html")) AnEof)
 
 -- a plain page is built as it is written
 pub page_built : (page : Page) → IsPlainPage page → built (tokens (page_trees page)) ≡ Some (page_trees page)
@@ -164,13 +165,13 @@ page_built page h =
     let s1 : Building = with_stack (record d { mode = AfterHead; skip = false }) (root page (before page []) ∷ []) in
     let s2 : Building = with_stack (record d { mode = AfterHead; skip = false }) (root page u ∷ []) in
     let s3 : Building = with_stack (in_body d) (body_open page d.next no_trees ∷ root page u ∷ []) in
-    let ys : List Token = AStart (codes "body") page.body ∷ (tokens page.contents ++ back) in
+    let ys : List Token = AStart (codes "body") page.body false ∷ (tokens page.contents ++ back) in
     let zs : List Token = map AChar page.space ++ ys in
     let whole : Steps start (front page ++ ((tokens page.metadata ++ AnEnd (codes "head") ∷ []) ++ zs)) last =
     steps_on start s0 last (front page) ((tokens page.metadata ++ AnEnd (codes "head") ∷ []) ++ zs) (front_built page)
     (steps_on s0 s1 last (tokens page.metadata ++ AnEnd (codes "head") ∷ []) zs m.1
     (steps_on s1 s2 last (map AChar page.space) ys (space_built d page page.space h.space)
-    (steps_on s2 s3 last (AStart (codes "body") page.body ∷ []) (tokens page.contents ++ back) (body_begins d page u) c.1))) in
+    (steps_on s2 s3 last (AStart (codes "body") page.body false ∷ []) (tokens page.contents ++ back) (body_begins d page u) c.1))) in
     ap (λ xs. tree_of (tree_steps start xs)) (page_tokens page) ∙ ap tree_of whole
     ∙ ap (λ t. Some (joined t (element_node (codes "html") page.html (joined u (element_node (codes "body") page.body page.contents no_trees)) no_trees))) c.2
     ∙ ap (λ t. Some (doctype_node (codes "html") (element_node (codes "html") page.html (element_node (codes "head") page.head page.metadata t) no_trees)))

@@ -5,7 +5,8 @@ use Rattle.std.proofs.lemmas.List.{append_assoc}
 use mathlib.Core.Path.{◌∙◌, sym, ap, subst}
 use Rattle.html_rules.specs.Building.{Building, Open, with_stack}
 use Rattle.html_rules.specs.PlainTrees.{Class, ABlock, AList, ADescriptionList, AHeading, AParagraph, APhrase, AFormatting, AnAnchor, AVoid, AnItem, ADescription, AButton, ABreak, ASource, AnInput, AForm, APre, ARuby, ARubyText, ARawText, AMetadata, ATable, ACaption, AColumnGroup, AColumn, ARowGroup, ARow, ACell, Another, Within, admits, are_plain, begins_text, class_among, class_of, classes, inside, may_be_text, names_of}
-use Rattle.html_rules.specs.TreeTokens.{Trees, no_trees, text_node, comment_node, doctype_node, element_node, end_of, is_among, joined, tokens, Token, AChar, AComment, AStart}
+use Rattle.html_standard.specs.Tokens.{Token, AChar, AComment, AStart}
+use Rattle.html_rules.specs.TreeTokens.{Trees, no_trees, text_node, comment_node, doctype_node, element_node, end_of, is_among, joined, tokens}
 use Rattle.html_rules.proofs.ElementSteps.{IsBuilt, no_and, one, then_built}
 use Rattle.html_rules.proofs.PlainElements.{ElementBuilt, anchor, block, button, description, description_list, formatting_element, heading, input, item, list, not_so, paragraph, phrase, ruby, ruby_text, source, thematic_break, void}
 use Rattle.html_rules.proofs.PlainParts.{caption_element, cell_element, column, column_group, form, metadata, pre, raw_text, row, row_group, table, text_in}
@@ -80,9 +81,9 @@ plain_built w (element_node name attrs children later) h b o os edge s r =
     let parts : ((admits w (class_of name) children && are_plain (inside w (class_of name)) children) ≡ true) × (are_plain w later ≡ true) =
     and_parts (admits w (class_of name) children && are_plain (inside w (class_of name)) children) (are_plain w later) h in
     let more : (admits w (class_of name) children ≡ true) × (are_plain (inside w (class_of name)) children ≡ true) = and_parts (admits w (class_of name) children) (are_plain (inside w (class_of name)) children) parts.0 in
-    let first : Built b o os (AStart name attrs ∷ (tokens children ++ end_of name)) (one name attrs children) =
+    let first : Built b o os (AStart name attrs false ∷ (tokens children ++ end_of name)) (one name attrs children) =
     element name attrs children w more.0 more.1 (plain_built (inside w (class_of name)) children more.1) b o os s r in
-    let whole : Built b o os ((AStart name attrs ∷ (tokens children ++ end_of name)) ++ tokens later) (element_node name attrs children later) =
-    again w b o os (AStart name attrs ∷ (tokens children ++ end_of name)) (one name attrs children) later first s
+    let whole : Built b o os ((AStart name attrs false ∷ (tokens children ++ end_of name)) ++ tokens later) (element_node name attrs children later) =
+    again w b o os (AStart name attrs false ∷ (tokens children ++ end_of name)) (one name attrs children) later first s
     (ap (λ x. begins_text later && x) (ends_element o.children name attrs children) ∙ no_and (begins_text later)) (plain_built w later parts.1) in
-    subst (λ (xs : List Token). Built b o os (AStart name attrs ∷ xs) (element_node name attrs children later)) (append_assoc (tokens children) (end_of name) (tokens later)) whole
+    subst (λ (xs : List Token). Built b o os (AStart name attrs false ∷ xs) (element_node name attrs children later)) (append_assoc (tokens children) (end_of name) (tokens later)) whole

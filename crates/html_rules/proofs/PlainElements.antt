@@ -7,7 +7,8 @@ use Rattle.html_rules.specs.ElementNames.{scope_of}
 use Rattle.html_rules.specs.PlainTrees.{Class, ABlock, AList, ADescriptionList, AHeading, AParagraph, APhrase, AFormatting, AnAnchor, AVoid, AnItem, ADescription, AButton, ABreak, ASource, AnInput, ARuby, ARubyText, FlowPlace, HeadingPlace, ListPlace, DescriptionListPlace, RubyPlace, Within, admits, are_plain, holds_blocks, inside, is_flow, is_heading, is_list, is_description_list, is_none, names_of}
 use Rattle.html_rules.specs.RuleWords.{Scope}
 use Rattle.html_rules.specs.TreeRules.{headings}
-use Rattle.html_rules.specs.TreeTokens.{Attr, Trees, no_trees, text_node, comment_node, doctype_node, element_node, end_of, is_among, tokens, Token, AStart}
+use Rattle.html_standard.specs.Tokens.{Attr, Token, AStart}
+use Rattle.html_rules.specs.TreeTokens.{Trees, no_trees, text_node, comment_node, doctype_node, element_node, end_of, is_among, tokens}
 use Rattle.html_rules.proofs.ElementSteps.{Begun, Ended, IsBuilt, begun, begun_formatting, begun_plainly, element_built, ended, ended_formatting, one}
 use Rattle.html_rules.proofs.RuleFacts.{block_opens, block_ordinary, block_no_heading, block_barless, list_opens, list_ordinary, list_no_heading, list_barless, list_holds, description_list_opens, description_list_ordinary, description_list_no_heading, description_list_barless, description_list_holds, paragraph_opens, paragraph_ordinary, paragraph_no_heading, heading_opens, heading_ordinary, heading_barless, phrase_opens, phrase_ordinary, phrase_no_heading, phrase_barless, ruby_opens, ruby_ordinary, ruby_no_heading, ruby_barless, ruby_text_opens, ruby_text_ordinary, ruby_text_no_heading, ruby_text_barless, item_opens, item_ordinary, item_no_heading, item_barless, description_opens, description_ordinary, description_no_heading, description_barless, button_ordinary, button_no_heading, formatting_opens, formatting_is, formatting_no_heading, formatting_barless, anchor_is, anchor_no_heading, void_is, break_is, source_is}
 use Rattle.html_rules.proofs.RuleShapes.{Formatting, HoldsItems, IsBreak, IsSource, IsVoid, OpensBlock, OpensFormatting, OpensHeading, OpensItem, OpensPhrase, OpensRubyText, Ordinary, Runs, with_leaf}
@@ -19,7 +20,7 @@ use Rattle.html_rules.proofs.TreeLists.{Steps, of_each, step_on}
 abbrev pub ElementBuilt : List ℕ → Class → Type 0
 ElementBuilt name kind = (attrs : List Attr) (children : Trees) (w : Within) → admits w kind children ≡ true → are_plain (inside w kind) children ≡ true → IsBuilt (inside w kind) children →
     (b : Building) (o : Open) (os : List Open) → Steady w (outer b) (key o ∷ keys os) → Ready b (key o ∷ keys os) →
-    Built b o os (AStart name attrs ∷ (tokens children ++ end_of name)) (one name attrs children)
+    Built b o os (AStart name attrs false ∷ (tokens children ++ end_of name)) (one name attrs children)
 
 pub not_so : (b : Bool) → not b ≡ true → b ≡ false
 not_so true k = cc
@@ -30,7 +31,7 @@ not_so false k = refl
 -- one that is not listed
 pub ordinary : (name : List ℕ) → Ordinary name → (attrs : List Attr) (children : Trees) (v : Within) (b : Building) (o : Open) (os : List Open) → InFlow (outer b) (key o ∷ keys os) →
     Begun b o os name attrs (outer b) → Steady v (outer b) (key_of b.next name ∷ key o ∷ keys os) → IsBuilt v children →
-    Built b o os (AStart name attrs ∷ (tokens children ++ end_of name)) (one name attrs children)
+    Built b o os (AStart name attrs false ∷ (tokens children ++ end_of name)) (one name attrs children)
 ordinary name facts attrs children v b o os f start steady inner =
     element_built name attrs children v b o os (outer b) facts.ends start steady inner
     (λ d kept r. subst (λ (y : Outer). Ended d b.next name attrs children o os y) kept
@@ -39,7 +40,7 @@ ordinary name facts attrs children v b o os f start steady inner =
 -- one that is listed
 formatted : (name : List ℕ) → Formatting name → (attrs : List Attr) (children : Trees) (v : Within) (b : Building) (o : Open) (os : List Open) → InFlow (outer b) (key o ∷ keys os) →
     Begun b o os name attrs (outer b) → Steady v (outer b) (key_of b.next name ∷ key o ∷ keys os) → IsBuilt v children → Ready b (key o ∷ keys os) →
-    Built b o os (AStart name attrs ∷ (tokens children ++ end_of name)) (one name attrs children)
+    Built b o os (AStart name attrs false ∷ (tokens children ++ end_of name)) (one name attrs children)
 formatted name facts attrs children v b o os f start steady inner r =
     element_built name attrs children v b o os (outer b) facts.ends start steady inner
     (λ d kept rd. subst (λ (y : Outer). Ended d b.next name attrs children o os y) kept
@@ -75,9 +76,12 @@ list name is attrs children w h plain inner b o os s r =
     let facts : Ordinary name = of_each Ordinary (names_of AList) list_ordinary name is in
     ordinary name facts attrs children (inside w AList) b o os p.flow
     (begun name attrs b o os p.flow r (of_each OpensBlock (names_of AList) list_opens name is attrs (with_stack b (o ∷ os)) p.no_p))
-    (steady_in w ListPlace (outer b) b.next name (key o ∷ keys os) (of_each Barless (names_of AList) list_barless name is)
-    (into_flow name b.next (outer b) (key o) (keys os) facts.passes p.flow, of_each (λ n. is_among n headings ≡ false) (names_of AList) list_no_heading name is, is,
-    lacks_more (codes "p") name b.next (key o ∷ keys os) (of_each Barless (names_of AList) list_barless name is).no_p p.lacks_p) s.bars) inner
+    (steady_in w ListPlace (outer b) b.next name (key o ∷ keys os) (of_each Barless (names_of AList) list_barless name is) (
+      into_flow name b.next (outer b) (key o) (keys os) facts.passes p.flow,
+      of_each (λ n. is_among n headings ≡ false) (names_of AList) list_no_heading name is,
+      is,
+      lacks_more (codes "p") name b.next (key o ∷ keys os) (of_each Barless (names_of AList) list_barless name is).no_p p.lacks_p,
+    ) s.bars) inner
 
 pub description_list : (name : List ℕ) → is_among name (names_of ADescriptionList) ≡ true → ElementBuilt name ADescriptionList
 description_list name is attrs children w h plain inner b o os s r =
@@ -85,9 +89,12 @@ description_list name is attrs children w h plain inner b o os s r =
     let facts : Ordinary name = of_each Ordinary (names_of ADescriptionList) description_list_ordinary name is in
     ordinary name facts attrs children (inside w ADescriptionList) b o os p.flow
     (begun name attrs b o os p.flow r (of_each OpensBlock (names_of ADescriptionList) description_list_opens name is attrs (with_stack b (o ∷ os)) p.no_p))
-    (steady_in w DescriptionListPlace (outer b) b.next name (key o ∷ keys os) (of_each Barless (names_of ADescriptionList) description_list_barless name is)
-    (into_flow name b.next (outer b) (key o) (keys os) facts.passes p.flow, of_each (λ n. is_among n headings ≡ false) (names_of ADescriptionList) description_list_no_heading name is, is,
-    lacks_more (codes "p") name b.next (key o ∷ keys os) (of_each Barless (names_of ADescriptionList) description_list_barless name is).no_p p.lacks_p) s.bars) inner
+    (steady_in w DescriptionListPlace (outer b) b.next name (key o ∷ keys os) (of_each Barless (names_of ADescriptionList) description_list_barless name is) (
+      into_flow name b.next (outer b) (key o) (keys os) facts.passes p.flow,
+      of_each (λ n. is_among n headings ≡ false) (names_of ADescriptionList) description_list_no_heading name is,
+      is,
+      lacks_more (codes "p") name b.next (key o ∷ keys os) (of_each Barless (names_of ADescriptionList) description_list_barless name is).no_p p.lacks_p,
+    ) s.bars) inner
 
 pub heading : (name : List ℕ) → is_among name (names_of AHeading) ≡ true → ElementBuilt name AHeading
 heading name is attrs children w h plain inner b o os s r =
@@ -230,23 +237,23 @@ none_only (doctype_node name later) h = absurd (true≢false (sym h))
 none_only (element_node name attrs children later) h = absurd (true≢false (sym h))
 
 pub leaf : (name : List ℕ) (attrs : List Attr) (children : Trees) (ok : Bool) (b : Building) (o : Open) (os : List Open) → is_none children ≡ true → end_of name ≡ [] → Ready b (key o ∷ keys os) →
-    tree_step (with_stack b (o ∷ os)) (AStart name attrs) ≡ Some (with_leaf name attrs ok b o os) →
-    Built b o os (AStart name attrs ∷ (tokens children ++ end_of name)) (one name attrs children)
+    tree_step (with_stack b (o ∷ os)) (AStart name attrs false) ≡ Some (with_leaf name attrs ok b o os) →
+    Built b o os (AStart name attrs false ∷ (tokens children ++ end_of name)) (one name attrs children)
 leaf name attrs children ok b o os none ends r step =
-    subst (λ (t : Trees). Built b o os (AStart name attrs ∷ (tokens t ++ end_of name)) (one name attrs t)) (none_only children none)
+    subst (λ (t : Trees). Built b o os (AStart name attrs false ∷ (tokens t ++ end_of name)) (one name attrs t)) (none_only children none)
     (record {
       after = record b { next = suc b.next; frameset_ok = ok };
-      steps = subst (λ (xs : List Token). Steps (with_stack b (o ∷ os)) (AStart name attrs ∷ xs) (with_leaf name attrs ok b o os)) (sym ends)
-          (step_on (with_stack b (o ∷ os)) (with_leaf name attrs ok b o os) (with_leaf name attrs ok b o os) (AStart name attrs) [] step refl);
+      steps = subst (λ (xs : List Token). Steps (with_stack b (o ∷ os)) (AStart name attrs false ∷ xs) (with_leaf name attrs ok b o os)) (sym ends)
+          (step_on (with_stack b (o ∷ os)) (with_leaf name attrs ok b o os) (with_leaf name attrs ok b o os) (AStart name attrs false) [] step refl);
       ready = record { skip = r.skip; fits = r.fits; numbers = below_more b.next (key o ∷ keys os) r.numbers };
       kept = refl;
     })
 
 flow_leaf : (name : List ℕ) (attrs : List Attr) (children : Trees) (ok : Bool) (b : Building) (o : Open) (os : List Open) → is_none children ≡ true → end_of name ≡ [] →
-    InFlow (outer b) (key o ∷ keys os) → Ready b (key o ∷ keys os) → Runs (AStart name attrs) (with_stack b (o ∷ os)) (with_leaf name attrs ok b o os) →
-    Built b o os (AStart name attrs ∷ (tokens children ++ end_of name)) (one name attrs children)
+    InFlow (outer b) (key o ∷ keys os) → Ready b (key o ∷ keys os) → Runs (AStart name attrs false) (with_stack b (o ∷ os)) (with_leaf name attrs ok b o os) →
+    Built b o os (AStart name attrs false ∷ (tokens children ++ end_of name)) (one name attrs children)
 flow_leaf name attrs children ok b o os none ends f r runs =
-    leaf name attrs children ok b o os none ends r (step_by_rules (with_stack b (o ∷ os)) (with_leaf name attrs ok b o os) (key o ∷ keys os) (AStart name attrs) f r.skip runs)
+    leaf name attrs children ok b o os none ends r (step_by_rules (with_stack b (o ∷ os)) (with_leaf name attrs ok b o os) (key o ∷ keys os) (AStart name attrs false) f r.skip runs)
 
 pub void : (name : List ℕ) → is_among name (names_of AVoid) ≡ true → ElementBuilt name AVoid
 void name is attrs children w h plain inner b o os s r =
@@ -270,7 +277,7 @@ thematic_break name is attrs children w h plain inner b o os s r =
 input_i : ElementBuilt (codes "input") AnInput
 input_i attrs children w h plain inner b o os s r =
     let parts : (is_flow w.place ≡ true) × (is_none children ≡ true) = and_parts (is_flow w.place) (is_none children) h in
-    let made : (ok : Bool) × Runs (AStart (codes "input") attrs) (with_stack b (o ∷ os)) (with_leaf (codes "input") attrs ok b o os) = input_made attrs b o os (none_needed (o ∷ os) b.listed r.fits) in
+    let made : (ok : Bool) × Runs (AStart (codes "input") attrs false) (with_stack b (o ∷ os)) (with_leaf (codes "input") attrs ok b o os) = input_made attrs b o os (none_needed (o ∷ os) b.listed r.fits) in
     flow_leaf (codes "input") attrs children made.0 b o os parts.1 refl (flow_of w.place (outer b) (key o ∷ keys os) parts.0 s.place) r made.1
 
 pub input : (name : List ℕ) → is_among name (names_of AnInput) ≡ true → ElementBuilt name AnInput

@@ -8,7 +8,8 @@ use Rattle.html_rules.specs.Building.{Building, Marker, Open, act, cleared, form
 use Rattle.html_rules.specs.PlainTrees.{AForm, APre, ARawText, AMetadata, ATable, ACaption, AColumnGroup, AColumn, ARowGroup, ARow, ACell, Place, FlowPlace, HeadingPlace, ListPlace, DescriptionListPlace, RubyPlace, TablePlace, ColumnGroupPlace, RowGroupPlace, RowPlace, HeadPlace, Within, are_plain, begins_feed, holds_blocks, inside, is_column_group, is_flow, is_head, is_none, is_raw, is_text, may_be_text, names_of}
 use Rattle.html_rules.specs.RuleWords.{Mode, InCaption, InCell, InColumnGroup, InHead, InRow, InTable, InTableBody, Text}
 use Rattle.html_rules.specs.TreeRules.{headings, rules}
-use Rattle.html_rules.specs.TreeTokens.{Attr, Trees, no_trees, text_node, comment_node, doctype_node, element_node, end_of, is_among, tokens, with_char, Token, AChar, AStart, AnEnd}
+use Rattle.html_standard.specs.Tokens.{Attr, Token, AChar, AStart, AnEnd}
+use Rattle.html_rules.specs.TreeTokens.{Trees, no_trees, text_node, comment_node, doctype_node, element_node, end_of, is_among, tokens, with_char}
 use Rattle.html_rules.proofs.ElementSteps.{Filled, IsBuilt, element_built, filled, less_numbers, more_numbers, one}
 use Rattle.html_rules.proofs.PlainElements.{ElementBuilt, Spot, flow_at, leaf, not_so, spot}
 use Rattle.html_rules.proofs.RuleFacts.{caption_barless, caption_is, caption_no_heading, cell_barless, cell_is, cell_no_heading, column_group_barless, column_group_is, column_group_space, column_is, form_is, form_no_heading, metadata_is, pre_barless, pre_no_heading, pre_opens, pre_ordinary, raw_text_is, row_barless, row_group_barless, row_group_is, row_group_space, row_is, row_space, table_barless, table_is, table_space}
@@ -29,7 +30,7 @@ table_t attrs children w h plain inner b o os s r =
     element_built name attrs children (inside w ATable) b o os x facts.ends
     (record {
       after = c;
-      step = step_by_rules (with_stack b (o ∷ os)) (with_stack c (open_of b.next name attrs no_trees ∷ o ∷ os)) (key o ∷ keys os) (AStart name attrs) p.flow r.skip (facts.opens attrs (with_stack b (o ∷ os)) p.no_p);
+      step = step_by_rules (with_stack b (o ∷ os)) (with_stack c (open_of b.next name attrs no_trees ∷ o ∷ os)) (key o ∷ keys os) (AStart name attrs false) p.flow r.skip (facts.opens attrs (with_stack b (o ∷ os)) p.no_p);
       ready = record { skip = r.skip; fits = pass r.fits; numbers = more_numbers b.next name (key o ∷ keys os) r.numbers };
       kept = refl;
     })
@@ -51,7 +52,7 @@ table = of_each (λ n. ElementBuilt n ATable) (names_of ATable) (table_t, tt)
 -- a part of a table that holds other parts
 part : (mode after : Mode) (name : List ℕ) (attrs : List Attr) (children : Trees) (v : Within) (b : Building) (o : Open) (os : List Open) → IsPart mode o.name after name → b.mode ≡ mode →
     is_deep (key o ∷ keys os) ≡ true → Ready b (key o ∷ keys os) → Steady v (record (outer b) { mode = after }) (key_of b.next name ∷ key o ∷ keys os) → IsBuilt v children →
-    Built b o os (AStart name attrs ∷ (tokens children ++ end_of name)) (one name attrs children)
+    Built b o os (AStart name attrs false ∷ (tokens children ++ end_of name)) (one name attrs children)
 part mode after name attrs children v b o [] facts is deep r steady inner = absurd (true≢false (sym deep))
 part mode after name attrs children v b o (p ∷ ps) facts is deep r steady inner =
     let x : Outer = record (outer b) { mode = after } in
@@ -60,7 +61,7 @@ part mode after name attrs children v b o (p ∷ ps) facts is deep r steady inne
     element_built name attrs children v b o os x facts.ends
     (record {
       after = c;
-      step = step_in (with_stack b (o ∷ os)) (with_stack c (open_of b.next name attrs no_trees ∷ o ∷ os)) (AStart name attrs) mode is r.skip (facts.opens b attrs o.attrs o.number o.children p ps);
+      step = step_in (with_stack b (o ∷ os)) (with_stack c (open_of b.next name attrs no_trees ∷ o ∷ os)) (AStart name attrs false) mode is r.skip (facts.opens b attrs o.attrs o.number o.children p ps);
       ready = record { skip = r.skip; fits = pass r.fits; numbers = more_numbers b.next name (key o ∷ keys os) r.numbers };
       kept = refl;
     }) steady inner
@@ -75,7 +76,7 @@ part mode after name attrs children v b o (p ∷ ps) facts is deep r steady inne
 -- a part that holds what a body holds: a caption or a cell
 marked_part : (mode after : Mode) (name : List ℕ) (attrs : List Attr) (children : Trees) (v : Within) (b : Building) (o : Open) (os : List Open) → IsMarkedPart mode o.name after name → b.mode ≡ mode →
     is_deep (key o ∷ keys os) ≡ true → Ready b (key o ∷ keys os) → Steady v (record (outer b) { mode = after }) (key_of b.next name ∷ key o ∷ keys os) → IsBuilt v children →
-    Built b o os (AStart name attrs ∷ (tokens children ++ end_of name)) (one name attrs children)
+    Built b o os (AStart name attrs false ∷ (tokens children ++ end_of name)) (one name attrs children)
 marked_part mode after name attrs children v b o [] facts is deep r steady inner = absurd (true≢false (sym deep))
 marked_part mode after name attrs children v b o (p ∷ ps) facts is deep r steady inner =
     let x : Outer = record (outer b) { mode = after } in
@@ -84,7 +85,7 @@ marked_part mode after name attrs children v b o (p ∷ ps) facts is deep r stea
     element_built name attrs children v b o os x facts.ends
     (record {
       after = c;
-      step = step_in (with_stack b (o ∷ os)) (with_stack c (open_of b.next name attrs no_trees ∷ o ∷ os)) (AStart name attrs) mode is r.skip (facts.opens b attrs o.attrs o.number o.children p ps);
+      step = step_in (with_stack b (o ∷ os)) (with_stack c (open_of b.next name attrs no_trees ∷ o ∷ os)) (AStart name attrs false) mode is r.skip (facts.opens b attrs o.attrs o.number o.children p ps);
       ready = record { skip = r.skip; fits = mark facts.marker r.fits; numbers = more_numbers b.next name (key o ∷ keys os) r.numbers };
       kept = refl;
     }) steady inner
@@ -147,7 +148,7 @@ column name is attrs children w h plain inner b o os s r =
     let parts : (is_column_group w.place ≡ true) × (is_none children ≡ true) = and_parts (is_column_group w.place) (is_none children) h in
     let a : At ColumnGroupPlace (outer b) (key o ∷ keys os) = column_group_at w.place (outer b) (key o ∷ keys os) parts.0 s.place in
     let facts : IsLeafIn InColumnGroup name = of_each (IsLeafIn InColumnGroup) (names_of AColumn) column_is name is in
-    leaf name attrs children b.frameset_ok b o os parts.1 facts.ends r (step_in (with_stack b (o ∷ os)) (with_leaf name attrs b.frameset_ok b o os) (AStart name attrs) InColumnGroup a.0 r.skip (facts.made attrs b o os))
+    leaf name attrs children b.frameset_ok b o os parts.1 facts.ends r (step_in (with_stack b (o ∷ os)) (with_leaf name attrs b.frameset_ok b o os) (AStart name attrs false) InColumnGroup a.0 r.skip (facts.made attrs b o os))
 
 -- ---- form
 
@@ -166,7 +167,7 @@ form_f attrs children w h plain inner b o os s r =
     element_built name attrs children (inside w AForm) b o os x facts.ends
     (record {
       after = c;
-      step = step_by_rules (with_stack b (o ∷ os)) (with_stack c (open_of b.next name attrs no_trees ∷ o ∷ os)) ks (AStart name attrs) p.flow r.skip (facts.opens attrs (with_stack b (o ∷ os)) free p.no_p);
+      step = step_by_rules (with_stack b (o ∷ os)) (with_stack c (open_of b.next name attrs no_trees ∷ o ∷ os)) ks (AStart name attrs false) p.flow r.skip (facts.opens attrs (with_stack b (o ∷ os)) free p.no_p);
       ready = record { skip = r.skip; fits = pass r.fits; numbers = more_numbers b.next name ks r.numbers };
       kept = refl;
     })
@@ -243,8 +244,8 @@ pre_p attrs children w h plain inner b o os s r =
     let last : Building = with_stack f.after (grown o name attrs children ∷ os) in
     record {
       after = f.after;
-      steps = step_on (with_stack b (o ∷ os)) (record (with_stack c opened) { skip = true }) last (AStart name attrs) xs
-          (step_by_rules (with_stack b (o ∷ os)) (record (with_stack c opened) { skip = true }) ks (AStart name attrs) p.flow r.skip (pre_opens.0 attrs (with_stack b (o ∷ os)) p.no_p))
+      steps = step_on (with_stack b (o ∷ os)) (record (with_stack c opened) { skip = true }) last (AStart name attrs false) xs
+          (step_by_rules (with_stack b (o ∷ os)) (record (with_stack c opened) { skip = true }) ks (AStart name attrs false) p.flow r.skip (pre_opens.0 attrs (with_stack b (o ∷ os)) p.no_p))
           (none_dropped (with_stack c opened) xs (first_token children (inside w APre) name (not_so (begins_feed children) parts.1) plain) ∙ f.steps);
       ready = f.ready;
       kept = f.kept;
@@ -275,13 +276,13 @@ raw_children (element_node m bs children later) w b n name attrs os raw plain mo
 
 -- in the modes of flow, and in the head
 raw_opens : (name : List ℕ) → IsRawText name → (attrs : List Attr) (b : Building) (o : Open) (os : List Open) (p : Place) → (is_flow p || is_head p) ≡ true → At p (outer b) (key o ∷ keys os) → b.skip ≡ false →
-    tree_step (with_stack b (o ∷ os)) (AStart name attrs) ≡ Some (in_text name attrs (with_stack b (o ∷ os)))
+    tree_step (with_stack b (o ∷ os)) (AStart name attrs false) ≡ Some (in_text name attrs (with_stack b (o ∷ os)))
 raw_opens name facts attrs b o os p h a skip = by_place (is_flow p) refl
   where
-    by_place : (x : Bool) → is_flow p ≡ x → tree_step (with_stack b (o ∷ os)) (AStart name attrs) ≡ Some (in_text name attrs (with_stack b (o ∷ os)))
-    by_place true e = step_by_rules (with_stack b (o ∷ os)) (in_text name attrs (with_stack b (o ∷ os))) (key o ∷ keys os) (AStart name attrs) (flow_of p (outer b) (key o ∷ keys os) e a) skip (facts.opens attrs (with_stack b (o ∷ os)))
+    by_place : (x : Bool) → is_flow p ≡ x → tree_step (with_stack b (o ∷ os)) (AStart name attrs false) ≡ Some (in_text name attrs (with_stack b (o ∷ os)))
+    by_place true e = step_by_rules (with_stack b (o ∷ os)) (in_text name attrs (with_stack b (o ∷ os))) (key o ∷ keys os) (AStart name attrs false) (flow_of p (outer b) (key o ∷ keys os) e a) skip (facts.opens attrs (with_stack b (o ∷ os)))
     by_place false e =
-        step_in (with_stack b (o ∷ os)) (in_text name attrs (with_stack b (o ∷ os))) (AStart name attrs) InHead (head_at p (outer b) (key o ∷ keys os) (ap (λ x. x || is_head p) (sym e) ∙ h) a) skip
+        step_in (with_stack b (o ∷ os)) (in_text name attrs (with_stack b (o ∷ os))) (AStart name attrs false) InHead (head_at p (outer b) (key o ∷ keys os) (ap (λ x. x || is_head p) (sym e) ∙ h) a) skip
         (facts.opens_in_head attrs (with_stack b (o ∷ os)))
 
 pub raw_text : (name : List ℕ) → is_among name (names_of ARawText) ≡ true → ElementBuilt name ARawText
@@ -295,7 +296,7 @@ raw_text name is attrs children w h plain inner b o os s r =
     let last : Building = with_stack after (grown o name attrs children ∷ os) in
     record {
       after = after;
-      steps = step_on (with_stack b (o ∷ os)) empty last (AStart name attrs) (tokens children ++ end_of name) (raw_opens name facts attrs b o os w.place parts.0 s.place r.skip)
+      steps = step_on (with_stack b (o ∷ os)) empty last (AStart name attrs false) (tokens children ++ end_of name) (raw_opens name facts attrs b o os w.place parts.0 s.place r.skip)
           (steps_on empty full last (tokens children) (end_of name) (raw_children children (inside w ARawText) c b.next name attrs (o ∷ os) parts.1 plain refl r.skip)
           (rw facts.ends (step_on full last last (AnEnd name) [] (step_in full last (AnEnd name) Text refl r.skip (facts.closes c b.next attrs children o os)) refl)));
       ready = record { skip = r.skip; fits = r.fits; numbers = below_more b.next (key o ∷ keys os) r.numbers };
@@ -307,7 +308,7 @@ metadata name is attrs children w h plain inner b o os s r =
     let parts : (is_head w.place ≡ true) × (is_none children ≡ true) = and_parts (is_head w.place) (is_none children) h in
     let facts : IsLeafIn InHead name = of_each (IsLeafIn InHead) (names_of AMetadata) metadata_is name is in
     leaf name attrs children b.frameset_ok b o os parts.1 facts.ends r
-    (step_in (with_stack b (o ∷ os)) (with_leaf name attrs b.frameset_ok b o os) (AStart name attrs) InHead (head_at w.place (outer b) (key o ∷ keys os) parts.0 s.place) r.skip (facts.made attrs b o os))
+    (step_in (with_stack b (o ∷ os)) (with_leaf name attrs b.frameset_ok b o os) (AStart name attrs false) InHead (head_at w.place (outer b) (key o ∷ keys os) parts.0 s.place) r.skip (facts.made attrs b o os))
 
 -- ---- texts
 

@@ -7,7 +7,8 @@ use native.Mathlib.Omega.{arith}
 use Rattle.html_rules.specs.Building.{cleared, Building, Open, Entry, Marker, Listed, in_scope, is_open, is_listed, mode_of, names_of_stack, needs_none, last_listed, without_third, same_attrs}
 use Rattle.html_rules.specs.PlainTrees.{AList, ADescriptionList, ARuby, ATable, AColumnGroup, ARowGroup, ARow, Place, FlowPlace, HeadingPlace, ListPlace, DescriptionListPlace, RubyPlace, TablePlace, ColumnGroupPlace, RowGroupPlace, RowPlace, HeadPlace, Within, is_column_group, is_description_list, is_flow, is_head, is_heading, is_list, is_row, is_row_group, is_ruby, is_table, names_of}
 use Rattle.html_rules.specs.TreeRules.{formatting, headings}
-use Rattle.html_rules.specs.TreeTokens.{Attr, Trees, is_among}
+use Rattle.html_standard.specs.Tokens.{Attr}
+use Rattle.html_rules.specs.TreeTokens.{Trees, is_among}
 use Rattle.html_rules.specs.RuleWords.{Mode, InBody, InCaption, InCell, InColumnGroup, InHead, InRow, InTable, InTableBody}
 
 -- what an open element keeps

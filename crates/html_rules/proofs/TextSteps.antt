@@ -8,7 +8,8 @@ use Rattle.html_rules.specs.Building.{Building, Open, Taken, act, done, fits, ho
 use Rattle.html_rules.specs.ElementNames.{scope_of}
 use Rattle.html_rules.specs.PlainTrees.{Place, FlowPlace, HeadingPlace, ListPlace, DescriptionListPlace, RubyPlace, TablePlace, ColumnGroupPlace, RowGroupPlace, RowPlace, HeadPlace, Within, is_text}
 use Rattle.html_rules.specs.TreeRules.{rules}
-use Rattle.html_rules.specs.TreeTokens.{Attr, Trees, no_trees, text_node, comment_node, joined, with_char, Token, AChar, AComment, AStart}
+use Rattle.html_standard.specs.Tokens.{Attr, Token, AChar, AComment, AStart}
+use Rattle.html_rules.specs.TreeTokens.{Trees, no_trees, text_node, comment_node, joined, with_char}
 use Rattle.html_rules.specs.RuleWords.{Hidden, ImpliedEndTags, InScope, Pop, PopUntil, Scope, Action, InsertCharacter, Always, ButtonScope, Character, Condition, ListElement, FramesetNotOk, Next, InBody, InCaption, InCell, InColumnGroup, InHead, InRow, InTable, InTableBody, InsertElement, Mode, NoListed, Null, Pattern, Reconstruct, Rule, WhiteSpace, StartOf, Stay, Text, These, rule}
 use Rattle.html_rules.proofs.TreeLists.{Steps, ends_text, more_char, new_char, step_on}
 use Rattle.html_rules.proofs.RuleShapes.{OpensAnchor, grown, inserted_plainly, Runs, RunsIn, marked, pick}
@@ -102,28 +103,28 @@ other_runs b o os c z s h = (other_done (run 11 (AChar c)) b o os c z s h, other
 
 -- an anchor's start tag, where none is open
 anchor_taken : (attrs : List Attr) (b : Building) → last_listed (codes "a" ∷ []) b.listed ≡ None →
-    taken (AStart (codes "a") attrs) b (rules InBody) ≡ record { acts = Reconstruct ∷ InsertElement ∷ ListElement ∷ []; goes = Stay }
+    taken (AStart (codes "a") attrs false) b (rules InBody) ≡ record { acts = Reconstruct ∷ InsertElement ∷ ListElement ∷ []; goes = Stay }
 unfolding rules taken
-anchor_taken attrs b k = take_rule (AStart (codes "a") attrs) b (StartOf (codes "a" ∷ [])) (NoListed (These (codes "a" ∷ []))) (Reconstruct ∷ InsertElement ∷ ListElement ∷ []) Stay (drop 29 (rules InBody)) refl (ap is_none k)
+anchor_taken attrs b k = take_rule (AStart (codes "a") attrs false) b (StartOf (codes "a" ∷ [])) (NoListed (These (codes "a" ∷ []))) (Reconstruct ∷ InsertElement ∷ ListElement ∷ []) Stay (drop 29 (rules InBody)) refl (ap is_none k)
 
 anchor_done : (again : Mode → Building → Option Building) (attrs : List Attr) (b : Building) → needs_none b.listed b.stack ≡ true → last_listed (codes "a" ∷ []) b.listed ≡ None →
-    done again (taken (AStart (codes "a") attrs) b (rules InBody)) (AStart (codes "a") attrs) b ≡ Some (marked (codes "a") attrs b)
+    done again (taken (AStart (codes "a") attrs false) b (rules InBody)) (AStart (codes "a") attrs false) b ≡ Some (marked (codes "a") attrs b)
 unfolding act
-anchor_done again attrs b h k = ap (λ t. done again t (AStart (codes "a") attrs) b) (anchor_taken attrs b k) ∙ rw (h, act) refl
+anchor_done again attrs b h k = ap (λ t. done again t (AStart (codes "a") attrs false) b) (anchor_taken attrs b k) ∙ rw (h, act) refl
 
 run_suc : (fuel : ℕ) (token : Token) (mode : Mode) (b : Building) → run (suc fuel) token mode b ≡ done (run fuel token) (taken token b (rules mode)) token b
 unfolding run
 run_suc fuel token mode b = refl
 
 anchor_by : (again : Mode → Building → Option Building) (attrs : List Attr) (b : Building) →
-    (done again (taken (AStart (codes "a") attrs) b (rules InCaption)) (AStart (codes "a") attrs) b ≡ again InBody b)
-    × (done again (taken (AStart (codes "a") attrs) b (rules InCell)) (AStart (codes "a") attrs) b ≡ again InBody b)
+    (done again (taken (AStart (codes "a") attrs false) b (rules InCaption)) (AStart (codes "a") attrs false) b ≡ again InBody b)
+    × (done again (taken (AStart (codes "a") attrs false) b (rules InCell)) (AStart (codes "a") attrs false) b ≡ again InBody b)
 unfolding rules taken
 anchor_by again attrs b = (refl, refl)
 
 pub anchor_opens : OpensAnchor (codes "a")
 anchor_opens attrs b h k =
-    let token : Token = AStart (codes "a") attrs in
+    let token : Token = AStart (codes "a") attrs false in
     let inner : run 11 token InBody b ≡ Some (marked (codes "a") attrs b) = run_suc 10 token InBody b ∙ anchor_done (run 10 token) attrs b h k in (
       run_suc 11 token InBody b ∙ anchor_done (run 11 token) attrs b h k,
       run_suc 11 token InCaption b ∙ (anchor_by (run 11 token) attrs b).0 ∙ inner,
@@ -149,60 +150,60 @@ from_body token b c by hand =
     (run_suc 11 token InBody b ∙ by (run 11 token), run_suc 11 token InCaption b ∙ (hand (run 11 token)).0 ∙ inner, run_suc 11 token InCell b ∙ (hand (run 11 token)).1 ∙ inner)
 
 button_taken : (attrs : List Attr) (b : Building) → in_scope (scope_of Scope) (codes "button" ∷ []) b.stack ≡ false →
-    taken (AStart (codes "button") attrs) b (rules InBody) ≡ record { acts = Reconstruct ∷ InsertElement ∷ FramesetNotOk ∷ []; goes = Stay }
+    taken (AStart (codes "button") attrs false) b (rules InBody) ≡ record { acts = Reconstruct ∷ InsertElement ∷ FramesetNotOk ∷ []; goes = Stay }
 unfolding rules taken
 button_taken attrs b k =
-    pass_rule (AStart (codes "button") attrs) b (StartOf (codes "button" ∷ [])) (InScope Scope (These (codes "button" ∷ [])))
+    pass_rule (AStart (codes "button") attrs false) b (StartOf (codes "button" ∷ [])) (InScope Scope (These (codes "button" ∷ [])))
     (ImpliedEndTags ∷ PopUntil (These (codes "button" ∷ [])) ∷ Reconstruct ∷ InsertElement ∷ FramesetNotOk ∷ []) Stay (drop 20 (rules InBody)) k
 
 button_done : (attrs : List Attr) (b : Building) → needs_none b.listed b.stack ≡ true → in_scope (scope_of Scope) (codes "button" ∷ []) b.stack ≡ false →
-    (again : Mode → Building → Option Building) → done again (taken (AStart (codes "button") attrs) b (rules InBody)) (AStart (codes "button") attrs) b ≡ Some (inserted_plainly (codes "button") attrs b)
+    (again : Mode → Building → Option Building) → done again (taken (AStart (codes "button") attrs false) b (rules InBody)) (AStart (codes "button") attrs false) b ≡ Some (inserted_plainly (codes "button") attrs b)
 unfolding act
-button_done attrs b h k again = ap (λ t. done again t (AStart (codes "button") attrs) b) (button_taken attrs b k) ∙ rw (h, act) refl
+button_done attrs b h k again = ap (λ t. done again t (AStart (codes "button") attrs false) b) (button_taken attrs b k) ∙ rw (h, act) refl
 
 button_by : (attrs : List Attr) (b : Building) (again : Mode → Building → Option Building) →
-    (done again (taken (AStart (codes "button") attrs) b (rules InCaption)) (AStart (codes "button") attrs) b ≡ again InBody b)
-    × (done again (taken (AStart (codes "button") attrs) b (rules InCell)) (AStart (codes "button") attrs) b ≡ again InBody b)
+    (done again (taken (AStart (codes "button") attrs false) b (rules InCaption)) (AStart (codes "button") attrs false) b ≡ again InBody b)
+    × (done again (taken (AStart (codes "button") attrs false) b (rules InCell)) (AStart (codes "button") attrs false) b ≡ again InBody b)
 unfolding rules taken
 button_by attrs b again = (refl, refl)
 
 pub button_opens : (attrs : List Attr) (b : Building) → needs_none b.listed b.stack ≡ true → in_scope (scope_of Scope) (codes "button" ∷ []) b.stack ≡ false →
-    Runs (AStart (codes "button") attrs) b (inserted_plainly (codes "button") attrs b)
-button_opens attrs b h k = from_body (AStart (codes "button") attrs) b (inserted_plainly (codes "button") attrs b) (button_done attrs b h k) (button_by attrs b)
+    Runs (AStart (codes "button") attrs false) b (inserted_plainly (codes "button") attrs b)
+button_opens attrs b h k = from_body (AStart (codes "button") attrs false) b (inserted_plainly (codes "button") attrs b) (button_done attrs b h k) (button_by attrs b)
 
-input_taken : (attrs : List Attr) (b : Building) → is_hidden attrs ≡ true → taken (AStart (codes "input") attrs) b (rules InBody) ≡ record { acts = Reconstruct ∷ InsertElement ∷ Pop ∷ []; goes = Stay }
+input_taken : (attrs : List Attr) (b : Building) → is_hidden attrs ≡ true → taken (AStart (codes "input") attrs false) b (rules InBody) ≡ record { acts = Reconstruct ∷ InsertElement ∷ Pop ∷ []; goes = Stay }
 unfolding rules taken
-input_taken attrs b k = take_rule (AStart (codes "input") attrs) b (StartOf (codes "input" ∷ [])) Hidden (Reconstruct ∷ InsertElement ∷ Pop ∷ []) Stay (drop 38 (rules InBody)) refl k
+input_taken attrs b k = take_rule (AStart (codes "input") attrs false) b (StartOf (codes "input" ∷ [])) Hidden (Reconstruct ∷ InsertElement ∷ Pop ∷ []) Stay (drop 38 (rules InBody)) refl k
 
-input_seen : (attrs : List Attr) (b : Building) → is_hidden attrs ≡ false → taken (AStart (codes "input") attrs) b (rules InBody) ≡ record { acts = Reconstruct ∷ InsertElement ∷ Pop ∷ FramesetNotOk ∷ []; goes = Stay }
+input_seen : (attrs : List Attr) (b : Building) → is_hidden attrs ≡ false → taken (AStart (codes "input") attrs false) b (rules InBody) ≡ record { acts = Reconstruct ∷ InsertElement ∷ Pop ∷ FramesetNotOk ∷ []; goes = Stay }
 unfolding rules taken
-input_seen attrs b k = pass_rule (AStart (codes "input") attrs) b (StartOf (codes "input" ∷ [])) Hidden (Reconstruct ∷ InsertElement ∷ Pop ∷ []) Stay (drop 38 (rules InBody)) k
+input_seen attrs b k = pass_rule (AStart (codes "input") attrs false) b (StartOf (codes "input" ∷ [])) Hidden (Reconstruct ∷ InsertElement ∷ Pop ∷ []) Stay (drop 38 (rules InBody)) k
 
 input_by : (attrs : List Attr) (b : Building) (again : Mode → Building → Option Building) →
-    (done again (taken (AStart (codes "input") attrs) b (rules InCaption)) (AStart (codes "input") attrs) b ≡ again InBody b)
-    × (done again (taken (AStart (codes "input") attrs) b (rules InCell)) (AStart (codes "input") attrs) b ≡ again InBody b)
+    (done again (taken (AStart (codes "input") attrs false) b (rules InCaption)) (AStart (codes "input") attrs false) b ≡ again InBody b)
+    × (done again (taken (AStart (codes "input") attrs false) b (rules InCell)) (AStart (codes "input") attrs false) b ≡ again InBody b)
 unfolding rules taken
 input_by attrs b again = (refl, refl)
 
 input_done : (attrs : List Attr) (b : Building) (o : Open) (os : List Open) → needs_none b.listed (o ∷ os) ≡ true → is_hidden attrs ≡ true → (again : Mode → Building → Option Building) →
-    done again (taken (AStart (codes "input") attrs) (with_stack b (o ∷ os)) (rules InBody)) (AStart (codes "input") attrs) (with_stack b (o ∷ os)) ≡ Some (record b { stack = grown o (codes "input") attrs no_trees ∷ os; next = suc b.next })
+    done again (taken (AStart (codes "input") attrs false) (with_stack b (o ∷ os)) (rules InBody)) (AStart (codes "input") attrs false) (with_stack b (o ∷ os)) ≡ Some (record b { stack = grown o (codes "input") attrs no_trees ∷ os; next = suc b.next })
 unfolding act
-input_done attrs b o os h k again = ap (λ t. done again t (AStart (codes "input") attrs) (with_stack b (o ∷ os))) (input_taken attrs (with_stack b (o ∷ os)) k) ∙ rw (h, act) refl
+input_done attrs b o os h k again = ap (λ t. done again t (AStart (codes "input") attrs false) (with_stack b (o ∷ os))) (input_taken attrs (with_stack b (o ∷ os)) k) ∙ rw (h, act) refl
 
 input_seen_done : (attrs : List Attr) (b : Building) (o : Open) (os : List Open) → needs_none b.listed (o ∷ os) ≡ true → is_hidden attrs ≡ false → (again : Mode → Building → Option Building) →
-    done again (taken (AStart (codes "input") attrs) (with_stack b (o ∷ os)) (rules InBody)) (AStart (codes "input") attrs) (with_stack b (o ∷ os)) ≡
+    done again (taken (AStart (codes "input") attrs false) (with_stack b (o ∷ os)) (rules InBody)) (AStart (codes "input") attrs false) (with_stack b (o ∷ os)) ≡
     Some (record b { stack = grown o (codes "input") attrs no_trees ∷ os; next = suc b.next; frameset_ok = false })
 unfolding act
-input_seen_done attrs b o os h k again = ap (λ t. done again t (AStart (codes "input") attrs) (with_stack b (o ∷ os))) (input_seen attrs (with_stack b (o ∷ os)) k) ∙ rw (h, act) refl
+input_seen_done attrs b o os h k again = ap (λ t. done again t (AStart (codes "input") attrs false) (with_stack b (o ∷ os))) (input_seen attrs (with_stack b (o ∷ os)) k) ∙ rw (h, act) refl
 
 -- an input, hidden or not
 pub input_made : (attrs : List Attr) (b : Building) (o : Open) (os : List Open) → needs_none b.listed (o ∷ os) ≡ true →
-    (ok : Bool) × Runs (AStart (codes "input") attrs) (with_stack b (o ∷ os)) (record b { stack = grown o (codes "input") attrs no_trees ∷ os; next = suc b.next; frameset_ok = ok })
+    (ok : Bool) × Runs (AStart (codes "input") attrs false) (with_stack b (o ∷ os)) (record b { stack = grown o (codes "input") attrs no_trees ∷ os; next = suc b.next; frameset_ok = ok })
 input_made attrs b o os h = by_test (is_hidden attrs) refl
   where
-    by_test : (x : Bool) → is_hidden attrs ≡ x → (ok : Bool) × Runs (AStart (codes "input") attrs) (with_stack b (o ∷ os)) (record b { stack = grown o (codes "input") attrs no_trees ∷ os; next = suc b.next; frameset_ok = ok })
-    by_test true k = (b.frameset_ok, from_body (AStart (codes "input") attrs) (with_stack b (o ∷ os)) (record b { stack = grown o (codes "input") attrs no_trees ∷ os; next = suc b.next }) (input_done attrs b o os h k) (input_by attrs (with_stack b (o ∷ os))))
-    by_test false k = (false, from_body (AStart (codes "input") attrs) (with_stack b (o ∷ os)) (record b { stack = grown o (codes "input") attrs no_trees ∷ os; next = suc b.next; frameset_ok = false }) (input_seen_done attrs b o os h k) (input_by attrs (with_stack b (o ∷ os))))
+    by_test : (x : Bool) → is_hidden attrs ≡ x → (ok : Bool) × Runs (AStart (codes "input") attrs false) (with_stack b (o ∷ os)) (record b { stack = grown o (codes "input") attrs no_trees ∷ os; next = suc b.next; frameset_ok = ok })
+    by_test true k = (b.frameset_ok, from_body (AStart (codes "input") attrs false) (with_stack b (o ∷ os)) (record b { stack = grown o (codes "input") attrs no_trees ∷ os; next = suc b.next }) (input_done attrs b o os h k) (input_by attrs (with_stack b (o ∷ os))))
+    by_test false k = (false, from_body (AStart (codes "input") attrs false) (with_stack b (o ∷ os)) (record b { stack = grown o (codes "input") attrs no_trees ∷ os; next = suc b.next; frameset_ok = false }) (input_seen_done attrs b o os h k) (input_by attrs (with_stack b (o ∷ os))))
 
 -- ---- comments
 

@@ -5,7 +5,8 @@ use Rattle.std.proofs.lemmas.Bool.{eqb-true, true≢false}
 use Rattle.std.proofs.lemmas.Slice.Eq.{bytes_eq-Decides}
 use mathlib.Core.Path.{◌∙◌, sym, ap, subst}
 use Rattle.html_rules.specs.Building.{Building, is_space, tree_step, tree_steps}
-use Rattle.html_rules.specs.TreeTokens.{Attr, Trees, no_trees, text_node, comment_node, doctype_node, element_node, joined, with_char, is_among, Token}
+use Rattle.html_standard.specs.Tokens.{Attr, Token}
+use Rattle.html_rules.specs.TreeTokens.{Trees, no_trees, text_node, comment_node, doctype_node, element_node, joined, with_char, is_among}
 
 pub joined_none : (t : Trees) → joined t no_trees ≡ t
 joined_none no_trees = refl

@@ -6,7 +6,8 @@ use Rattle.std.specs.List.{list_any, list_all}
 use Rattle.std.specs.Option.{option_and_then}
 use Rattle.html_rules.specs.ElementNames.{implied_names, scope_of, special_names}
 use Rattle.html_rules.specs.TreeRules.{rules, cells, groups}
-use Rattle.html_rules.specs.TreeTokens.{Attr, Trees, no_trees, comment_node, doctype_node, element_node, joined, with_char, is_among, Token, AChar, AComment, ADoctype, AStart, AnEnd, AnEof}
+use Rattle.html_standard.specs.Tokens.{Attr, Doctype as DoctypeToken, Token, AChar, AComment, ADoctype, AStart, AnEnd, AnEof}
+use Rattle.html_rules.specs.TreeTokens.{Trees, no_trees, comment_node, doctype_node, element_node, joined, with_char, is_among}
 use Rattle.html_rules.specs.RuleWords.{Mode, Initial, InBody, Text, InTable, InCaption, InColumnGroup, InTableBody, InRow, InCell, Names, Own, These, Pattern, WhiteSpace, Null, Character, Comment, Doctype, EndOfFile, AnythingElse, AnyStart, AnyEnd, DoctypeOf, StartOf, EndOf, ButtonScope, Condition, Always, NoForm, Hidden, NoListed, CurrentNode, InScope, Action, InsertCharacter, InsertComment, AppendDoctype, InsertElement, InsertNamed, Pop, FramesetNotOk, Reconstruct, CloseP, ImpliedEndTags, ImpliedEndTagsBut, ListElement, ListMarker, ClearToMarker, AdoptionAgency, SetForm, EndForm, AnyOtherEndTag, DropLineFeed, PopIf, PopUntil, CloseItems, ClearStackTo, Next, Stay, SwitchTo, ReprocessIn, UseRulesFor, ReadText, SwitchBack, ResetMode, ResetAndReprocess, Stop, NoRule, Rule, rule}
 
 -- an open element, and the nodes that have been finished in it; the number tells elements apart
@@ -36,12 +37,12 @@ pub record Building : Type 0 where
 -- ---- the token's tag
 
 abbrev pub own_name : Token → List ℕ
-own_name (AStart name attrs) = name
+own_name (AStart name attrs closing) = name
 own_name (AnEnd name) = name
 own_name _ = []
 
 abbrev pub own_attrs : Token → List Attr
-own_attrs (AStart name attrs) = attrs
+own_attrs (AStart name attrs closing) = attrs
 own_attrs _ = []
 
 abbrev pub names_for : Names → Token → List (List ℕ)
@@ -232,7 +233,7 @@ with_comment (AComment text) ts = joined ts (comment_node text no_trees)
 with_comment _ ts = ts
 
 abbrev pub with_doctype : Token → Trees → Trees
-with_doctype (ADoctype name) ts = joined ts (doctype_node name no_trees)
+with_doctype (ADoctype doctype) ts = joined ts (doctype_node (unwrap_or doctype.name []) no_trees)
 with_doctype _ ts = ts
 
 unfoldable pub act : Action → Token → Building → Option Building
@@ -270,17 +271,29 @@ all_acts (a ∷ acts) token b = option_and_then (all_acts acts token) (act a tok
 abbrev pub is_space : ℕ → Bool
 is_space c = c == 9 || c == 10 || c == 12 || c == 13 || c == 32
 
+abbrev pub is_missing : Option (List ℕ) → Bool
+is_missing None = true
+is_missing (Some text) = false
+
+abbrev pub is_word : List ℕ → Option (List ℕ) → Bool
+is_word word None = false
+is_word word (Some text) = bytes_eq text word
+
+-- a doctype of that name without identifiers, for which the document stays in no-quirks mode
+abbrev pub is_plain_doctype : List ℕ → DoctypeToken → Bool
+is_plain_doctype word doctype = is_word word doctype.name && is_missing doctype.public_id && is_missing doctype.system_id && not doctype.force_quirks
+
 abbrev pub fits : Pattern → Token → Bool
 fits AnythingElse token = true
 fits WhiteSpace (AChar c) = is_space c
 fits Null (AChar c) = c == 0
 fits Character (AChar c) = true
 fits Comment (AComment text) = true
-fits Doctype (ADoctype name) = true
-fits (DoctypeOf word) (ADoctype name) = bytes_eq name word
+fits Doctype (ADoctype doctype) = true
+fits (DoctypeOf word) (ADoctype doctype) = is_plain_doctype word doctype
 fits EndOfFile AnEof = true
-fits AnyStart (AStart name attrs) = true
-fits (StartOf names) (AStart name attrs) = is_among name names
+fits AnyStart (AStart name attrs closing) = true
+fits (StartOf names) (AStart name attrs closing) = is_among name names
 fits AnyEnd (AnEnd name) = true
 fits (EndOf names) (AnEnd name) = is_among name names
 fits _ _ = false

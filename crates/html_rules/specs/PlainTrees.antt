@@ -3,7 +3,8 @@ use Rattle.std.specs.Prelude.{ℕ, ◌≡◌, Bool, true, false, not, cond, ◌&
 use Rattle.std.specs.List.{list_all}
 use Rattle.html_rules.specs.Building.{is_space}
 use Rattle.html_rules.specs.TreeRules.{blocks, cells, groups, headings}
-use Rattle.html_rules.specs.TreeTokens.{Attr, Trees, no_trees, text_node, comment_node, doctype_node, element_node, is_among}
+use Rattle.html_standard.specs.Tokens.{Attr}
+use Rattle.html_rules.specs.TreeTokens.{Trees, no_trees, text_node, comment_node, doctype_node, element_node, is_among}
 
 -- ---- classes of elements
 

@@ -1,13 +1,10 @@
 -- Trees of nodes, and the tokens that a tokenizer makes of the markup that writes such trees with every tag.
-use Rattle.std.specs.Prelude.{ℕ, Bool, List, [], ◌∷◌, ◌++◌, map, bytes_eq, codes, cond}
+use Rattle.std.specs.Prelude.{ℕ, Bool, false, None, Option, Some, List, [], ◌∷◌, ◌++◌, map, bytes_eq, codes, cond}
 use Rattle.std.specs.List.{list_any}
+use Rattle.html_standard.specs.Tokens.{Attr, Doctype, Token, AChar, AComment, ADoctype, AStart, AnEnd}
 
 abbrev pub is_among : List ℕ → List (List ℕ) → Bool
 is_among name names = list_any (bytes_eq name) names
-
-pub record Attr : Type 0 where
-  pub name : List ℕ
-  pub value : List ℕ
 
 -- a list of sibling nodes: empty, or its first node (for an element its children too) and the siblings after that
 pub data Trees : Type 0 where
@@ -37,14 +34,9 @@ with_char (comment_node contents later) c = comment_node contents (with_char lat
 with_char (doctype_node name later) c = doctype_node name (with_char later c)
 with_char (element_node name attrs children later) c = element_node name attrs children (with_char later c)
 
--- what the tokenizer gives to tree construction; a doctype without identifiers
-pub data Token : Type 0 where
-  AChar : ℕ → Token
-  AComment : List ℕ → Token
-  ADoctype : List ℕ → Token
-  AStart : List ℕ → List Attr → Token
-  AnEnd : List ℕ → Token
-  AnEof : Token
+-- a doctype without identifiers
+abbrev pub doctype_named : List ℕ → Doctype
+doctype_named name = record { name = Some name; public_id = None; system_id = None; force_quirks = false }
 
 -- the void elements (13.1.2)
 abbrev pub void_names : List (List ℕ)
@@ -59,5 +51,5 @@ abbrev pub tokens : Trees → List Token
 tokens no_trees = []
 tokens (text_node contents later) = map AChar contents ++ tokens later
 tokens (comment_node contents later) = AComment contents ∷ tokens later
-tokens (doctype_node name later) = ADoctype name ∷ tokens later
-tokens (element_node name attrs children later) = AStart name attrs ∷ (tokens children ++ (end_of name ++ tokens later))
+tokens (doctype_node name later) = ADoctype (doctype_named name) ∷ tokens later
+tokens (element_node name attrs children later) = AStart name attrs false ∷ (tokens children ++ (end_of name ++ tokens later))

@@ -55,7 +55,7 @@ def main():
                 if seen['parse5 differs'] < 6:
                     print('PARSE5', context, json.dumps(text), '\n   ', json.dumps(trees), '\n   ', json.dumps(theirs))
         done += len(batch)
-    print(dict(seen))
+        print(done, dict(seen), flush=True)
 
 
 if __name__ == "__main__":

@@ -80,7 +80,7 @@ def main():
                 if seen['differs'] < 6:
                     print(written(tokens), '\n   ', json.dumps(got), '\n   ', json.dumps(theirs))
         done += 5000
-    print(dict(seen))
+        print(done, dict(seen), flush=True)
     for mode, rules in RULES.items():
         never = [i + 1 for i in range(len(rules)) if (mode, i) not in new]
         print(mode, len(rules), 'never taken', never)

@@ -96,8 +96,10 @@ def token(t):
     if t[0] == "char":
         return "AChar %d" % ord(t[1])
     if t[0] == "start":
-        return "AStart %s %s" % (codes(t[1]), attributes(t[2]))
-    return {"comment": "AComment ", "doctype": "ADoctype ", "end": "AnEnd "}[t[0]] + codes(t[1])
+        return "AStart %s %s false" % (codes(t[1]), attributes(t[2]))
+    if t[0] == "doctype":
+        return "ADoctype (doctype_named %s)" % codes(t[1])
+    return {"comment": "AComment ", "end": "AnEnd "}[t[0]] + codes(t[1])
 
 
 def trees(siblings):
@@ -115,10 +117,11 @@ def rows():
 
 def agreement():
     out = ["-- The trees of the rows of rows.jsonl, computed from the rules; written by generate.py.",
-           "use Rattle.std.specs.Prelude.{◌≡◌, [], ◌∷◌, None, Some, codes, refl}",
+           "use Rattle.std.specs.Prelude.{◌≡◌, false, [], ◌∷◌, None, Some, codes, refl}",
            "use Rattle.html_rules.specs.Building.{built, built_fragment, tree_step, run, taken, act, in_scope}",
            "use Rattle.html_rules.specs.TreeRules.{rules}",
-           "use Rattle.html_rules.specs.TreeTokens.{no_trees, text_node, comment_node, doctype_node, element_node, AChar, AComment, ADoctype, AStart, AnEnd}"]
+           "use Rattle.html_rules.specs.TreeTokens.{no_trees, text_node, comment_node, doctype_named, doctype_node, element_node}",
+           "use Rattle.html_standard.specs.Tokens.{AChar, AComment, ADoctype, AStart, AnEnd}"]
     for i, row in enumerate(rows(), 1):
         call = "built_fragment " + codes(row["context"]) if row["context"] else "built"
         tree = "None" if row["tree"] is None else "Some " + trees(row["tree"])

@@ -12,7 +12,8 @@ use Rattle.html_rules.specs.Building.{act, in_found_mode, in_scope, run, taken, 
 use Rattle.html_rules.specs.PlainTrees.{%(classes)s, names_of}
 use Rattle.html_rules.specs.RuleWords.{InCaption, InCell, InColumnGroup, InHead, InRow, InTable, InTableBody}
 use Rattle.html_rules.specs.TreeRules.{headings, rules}
-use Rattle.html_rules.specs.TreeTokens.{AChar, is_among}
+use Rattle.html_rules.specs.TreeTokens.{is_among}
+use Rattle.html_standard.specs.Tokens.{AChar}
 use Rattle.html_rules.proofs.FormSteps.{form_closes, form_opens}
 use Rattle.html_rules.proofs.RuleShapes.{Formatting, HoldsItems, IsBreak, IsForm, IsLeafIn, IsMarkedPart, IsPart, IsRawText, IsSource, IsTable, IsVoid, KeepsSpace, OpensBlock, OpensFormatting, OpensHeading, OpensItem, OpensPhrase, OpensPre, OpensRubyText, Ordinary, RunsIn, grown, open_of, with_one}
 use Rattle.html_rules.proofs.StackKeys.{Barless}
