@@ -1,0 +1,3 @@
+pub mod Bytes
+pub mod Units
+pub mod Rows

@@ -1,0 +1,3 @@
+pub mod Labels
+pub mod SingleByte
+pub mod Utf16

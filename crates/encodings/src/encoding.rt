@@ -1,0 +1,117 @@
+//! Encodings, their labels and names.
+
+ghost use Rattle.std.specs.Prelude.{◌≡◌, List, Some, bytes_eq, map, ℕ};
+ghost use Rattle.std.specs.Str.{IsTrimAscii};
+ghost use Rattle.std.specs.Char.{to_ascii_lowercase};
+ghost use Rattle.encodings.specs.Labels.{for_bom, labelled};
+
+use crate::labels::LABELS;
+use crate::single_byte::SingleByte;
+
+/// An encoding of the Encoding Standard.
+#[derive(Clone, Copy, Debug, Drop, PartialEq, Eq)]
+pub enum Encoding {
+    /// UTF-8.
+    Utf8,
+    /// UTF-16, the byte of the upper bits first.
+    Utf16Be,
+    /// UTF-16, the byte of the lower bits first.
+    Utf16Le,
+    /// GBK: simplified Chinese. It is decoded as gb18030 is.
+    Gbk,
+    /// gb18030: simplified Chinese.
+    Gb18030,
+    /// Big5: traditional Chinese.
+    Big5,
+    /// EUC-JP: Japanese.
+    EucJp,
+    /// ISO-2022-JP: Japanese.
+    Iso2022Jp,
+    /// Shift_JIS: Japanese.
+    ShiftJis,
+    /// EUC-KR: Korean.
+    EucKr,
+    /// What labels stand for that are dangerous to decode, such as `iso-2022-kr`: the text of any
+    /// bytes is one U+FFFD.
+    Replacement,
+    /// An encoding in which each byte is a character.
+    SingleByte(SingleByte),
+}
+
+impl Encoding {
+    /// The encoding that a label names, as `charset` of a `meta` or of an HTTP header has it. White
+    /// space around the label and the case of its letters do not matter: ` UTF-8 `, `latin1` and
+    /// `ISO-8859-1` are labels, and the last two name windows-1252. None where the Encoding Standard
+    /// has no such label.
+    pub fn for_label(label: &[u8]) -> Option<Encoding>
+        ensures { (trimmed : List ℕ) × IsTrimAscii label.now trimmed
+            × (result ≡ labelled (λ row. row.0.now) (λ row. row.1) LABELS (map to_ascii_lowercase trimmed)) }
+    {
+        find(&LABELS, label.trim_ascii())
+    }
+
+    /// The name of the encoding, which is one of its labels: `windows-1252`, `Shift_JIS`, `UTF-8`.
+    pub fn name(self) -> &'static str {
+        match self {
+            Encoding::Utf8 => "UTF-8",
+            Encoding::Utf16Be => "UTF-16BE",
+            Encoding::Utf16Le => "UTF-16LE",
+            Encoding::Gbk => "GBK",
+            Encoding::Gb18030 => "gb18030",
+            Encoding::Big5 => "Big5",
+            Encoding::EucJp => "EUC-JP",
+            Encoding::Iso2022Jp => "ISO-2022-JP",
+            Encoding::ShiftJis => "Shift_JIS",
+            Encoding::EucKr => "EUC-KR",
+            Encoding::Replacement => "replacement",
+            Encoding::SingleByte(single) => single.name(),
+        }
+    }
+
+    /// The encoding whose byte order mark the bytes begin with, and how many bytes the mark has.
+    pub fn for_bom(bytes: &[u8]) -> Option<(Encoding, usize)>
+        ensures { result ≡ for_bom bytes.now }
+    {
+        if bytes.starts_with(b"\xEF\xBB\xBF") {
+            return Some((Encoding::Utf8, 3));
+        }
+        if bytes.starts_with(b"\xFE\xFF") {
+            return Some((Encoding::Utf16Be, 2));
+        }
+        if bytes.starts_with(b"\xFF\xFE") {
+            return Some((Encoding::Utf16Le, 2));
+        }
+        None
+    }
+
+    /// What a page means that declares this encoding in its markup. Markup that can be read is not
+    /// in UTF-16, so that means UTF-8; `x-user-defined` means windows-1252.
+    pub(crate) fn of_markup(self) -> Encoding {
+        match self {
+            Encoding::Utf16Be | Encoding::Utf16Le => Encoding::Utf8,
+            Encoding::SingleByte(SingleByte::XUserDefined) => {
+                Encoding::SingleByte(SingleByte::Windows1252)
+            }
+            _ => self,
+        }
+    }
+}
+
+/// The encoding of a label in the rows.
+fn find(rows: &[(&str, Encoding)], label: &[u8]) -> Option<Encoding>
+    ensures { result ≡ labelled (λ row. row.0.now) (λ row. row.1) rows.now (map to_ascii_lowercase label.now) }
+{
+    for (name, encoding) in rows {
+        if is_same(name.as_bytes(), label) {
+            return Some(*encoding);
+        }
+    }
+    None
+}
+
+/// Whether two labels are the same but for the case of letters.
+fn is_same(name: &[u8], label: &[u8]) -> bool
+    ensures { result ≡ bytes_eq (map to_ascii_lowercase name.now) (map to_ascii_lowercase label.now) }
+{
+    name.eq_ignore_ascii_case(label)
+}

@@ -1,0 +1,3 @@
+pub mod ShiftJisSteps
+pub mod EucJpSteps
+pub mod IsoSteps

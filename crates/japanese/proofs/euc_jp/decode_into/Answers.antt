@@ -1,0 +1,12 @@
+use Rattle.decoded_text.proofs.Loops.{loop_step}
+use Rattle.japanese.specs.declared.table.TheConstants.{JIS0208, JIS0212}
+use Rattle.japanese.specs.EucJp.{characters}
+use Rattle.japanese.proofs.EucJpSteps.{runs}
+use Rattle.japanese.proofs.euc_jp.decode_into.Goals as goal
+
+pub loop-character-preserved : goal.loop-character-preserved
+loop-character-preserved c = record {
+  continues = λ more last. loop_step (characters JIS0208 JIS0212) (runs JIS0208 JIS0212) _ _ _ _ _ _ _ _ _ more _ (c.loop-character.invariant.continues more last)
+      (c.in-Some.ensures.some more last) c.in_ok-push.ensures.appends c.ascii_front.ensures.parts c.ascii_front.ensures.ascii c.in_ok-push_ascii.ensures.appends;
+  counted = c.in_ok-push_ascii.ensures.counted;
+}
