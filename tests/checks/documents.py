@@ -25,7 +25,7 @@ sys.path.insert(0, str(pathlib.Path(__file__).resolve().parents[1] / "tools"))
 from rows import ROOT, built  # noqa: E402
 
 EXAMPLES = ROOT / "crates" / "examples"
-SHOWN = {"ebnf", "c", "toml", "html", "css", "json", "yaml", "make", "diff", "markdown", "antt", "contracts"}
+SHOWN = {"ebnf", "shown", "c", "toml", "html", "css", "json", "yaml", "make", "diff", "markdown", "antt", "contracts"}
 SECONDS = 120
 
 
