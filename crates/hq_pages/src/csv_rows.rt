@@ -73,7 +73,7 @@ impl Rows {
                 column = self.write_cell(column, &cell)?;
             }
         }
-        self.write_above(column, usize::MAX)?;
+        self.write_above(column, true)?;
         Ok(self.writer.end_record()?)
     }
 
@@ -81,7 +81,7 @@ impl Rows {
     fn write_cell(&mut self, column: usize, cell: &NodeRef<'_>) -> Result<usize, Fault> {
         let text = joined_words(self.alloc, cell.text()?.as_str())?;
         let rows = span_of(cell, "rowspan", MOST_ROWS).saturating_sub(1);
-        let mut column = self.write_above(column, 1)?;
+        let mut column = self.write_above(column, false)?;
         for _ in 0..span_of(cell, "colspan", MOST_SPAN) {
             if column >= MOST_COLUMNS {
                 break;
@@ -93,23 +93,34 @@ impl Rows {
         Ok(column)
     }
 
-    /// Writes the cells of earlier rows that stand from this column on, up to a column that is free,
-    /// or to the last one where `free` is larger than 1. Returns the column behind them.
-    fn write_above(&mut self, column: usize, free: usize) -> Result<usize, Fault> {
+    /// Writes the cells of earlier rows from this column on, up to the first free column, or to the
+    /// last column where `all` is true. Returns the column behind them.
+    fn write_above(&mut self, column: usize, all: bool) -> Result<usize, Fault> {
         let mut column = column;
-        while let Some(cell) = self.above.get_mut(column) {
-            if cell.rows == 0 && free == 1 {
+        for _ in 0..self.above.len() {
+            if !self.write_reaching(column, all)? {
                 break;
             }
-            self.writer.write_field(if cell.rows == 0 {
-                b""
-            } else {
-                cell.text.as_bytes()
-            })?;
-            cell.rows = cell.rows.saturating_sub(1);
             column = column.saturating_add(1);
         }
         Ok(column)
+    }
+
+    /// Writes the cell of an earlier row at a column, if one reaches there, or else an empty field
+    /// where `all` is true. Returns whether something was written.
+    fn write_reaching(&mut self, column: usize, all: bool) -> Result<bool, Fault> {
+        let Some(cell) = self.above.get_mut(column) else {
+            return Ok(false);
+        };
+        if cell.rows == 0 && !all {
+            return Ok(false);
+        }
+        self.writer.write_field(cell.text.as_bytes())?;
+        cell.rows = cell.rows.saturating_sub(1);
+        if cell.rows == 0 {
+            cell.text.clear();
+        }
+        Ok(true)
     }
 
     /// Notes that a cell reaches into so many rows below, at a column.
@@ -140,14 +151,12 @@ impl Rows {
 
 /// How many rows or columns a cell spans; 0 rows reach to the end of the table.
 fn span_of(cell: &NodeRef<'_>, name: &str, most: usize) -> usize {
-    let Some(Ok(span)) = cell
-        .attr(name)
-        .map(|written| written.trim().parse::<usize>())
-    else {
+    let Some(written) = cell.attr(name) else {
         return 1;
     };
-    if span == 0 && name == "rowspan" {
-        return most;
+    match written.trim().parse::<usize>() {
+        Ok(0) if name == "rowspan" => most,
+        Ok(span) => span.min(most).max(1),
+        Err(_) => 1,
     }
-    span.clamp(1, most)
 }

@@ -167,11 +167,20 @@ pub fn report(rt: &HostRuntime, fault: &Fault) {
     }
 }
 
+/// How many characters a text has.
+fn characters(text: &str) -> usize {
+    let mut count: usize = 0;
+    for _ in text.chars() {
+        count = count.saturating_add(1);
+    }
+    count
+}
+
 /// Shows where a text stops being a selector.
 fn show_place(rt: &HostRuntime, text: &str) {
     let at = valid_selector_prefix(rt.alloc(), text);
     let column = match text.get(..at) {
-        Some(front) => front.chars().count(),
+        Some(front) => characters(front),
         None => 0,
     };
     if !text.contains('\n') {

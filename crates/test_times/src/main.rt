@@ -16,7 +16,7 @@ use dom_nodes::fault::OutOfMemory;
 use dom_nodes::node_id::NodeId;
 use dom_sanitize::sanitize::{Allow, sanitize, sanitize_tree};
 use dom_select::matcher::Matcher;
-use dom_select::matcher::descendants::{DescendantMatches, select_below};
+use dom_select::matcher::descendants::select_below;
 use dom_selection::document_select::DocumentSelect;
 use dom_trees::tree::Tree;
 use std::alloc::Global;
@@ -39,7 +39,6 @@ enum Call {
     Select,
     Index,
     Tables,
-    Each,
     Find,
     Edits,
     Clone,
@@ -54,11 +53,11 @@ enum Call {
 }
 
 #[rattlefmt::skip]
-const CALLS: [(&str, Call); 24] = [
+const CALLS: [(&str, Call); 23] = [
     ("parse", Call::Parse), ("page", Call::Page), ("drop", Call::Drop), ("tokens", Call::Tokens),
     ("walk", Call::Walk), ("html", Call::Html), ("text", Call::Text),
     ("formatted", Call::Formatted), ("md", Call::Md), ("select", Call::Select),
-    ("index", Call::Index), ("tables", Call::Tables), ("each", Call::Each), ("find", Call::Find),
+    ("index", Call::Index), ("tables", Call::Tables), ("find", Call::Find),
     ("edits", Call::Edits), ("clone", Call::Clone), ("append", Call::Append),
     ("clean", Call::Clean), ("validate", Call::Validate), ("copy", Call::Copy),
     ("merge", Call::Merge), ("normalize", Call::Normalize), ("strip", Call::Strip),
@@ -281,7 +280,6 @@ fn count_found(page: &Page<'_>, call: Call) -> Option<usize> {
             Ok(mut index) => count_indexed(&mut index, &page.matcher, call),
             Err(OutOfMemory) => None,
         },
-        Call::Each => Some(DescendantMatches::new(document.root(), &page.matcher).count()),
         Call::Find => match document.root().find_descendants(page.selector) {
             Ok(found) => Some(found.len()),
             Err(OutOfMemory) => None,
