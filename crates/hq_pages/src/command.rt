@@ -92,10 +92,11 @@ pub fn command<'a>(alloc: Global) -> Result<Command<'a>, AllocError> {
 }
 
 fn selector<'a>(alloc: Global) -> Result<Arg<'a>, AllocError> {
+    let whole: [&'a str; 3] = ["document", "tree", "script"];
     Arg::new(alloc, "selector")
         .value_name("SELECTOR")
         .help("What to look for; a FILE with --document, --tree or --script")
-        .required_unless_present_any(&["document", "tree", "script"])
+        .required_unless_present_any(whole.as_slice())
 }
 
 fn files<'a>(alloc: Global) -> Arg<'a> {
