@@ -19,6 +19,15 @@ import sys
 
 ROOT = pathlib.Path(__file__).resolve().parents[2]
 ROOTS, SHARED = ("test_calls", "test_queries", "test_times", "test_batch", "examples", "dq", "hq", "hq_pages"), "test_lines"
+# Public functions that no program calls, with the reason. One that a program calls is a fault here.
+UNCALLED = {
+    ("Tree", "move_allowed"): "its caller proves that the move is allowed, which only tree construction (html5_trees) does",
+    ("", "plain_trees_are_built"): "a law: it has no body",
+    ("", "declared_encoding"): "no reader of pages in other encodings than UTF-8 yet",
+    ("", "decode_into"): "no reader of pages in other encodings than UTF-8 yet",
+    ("Encoding", "for_bom"): "no reader of pages in other encodings than UTF-8 yet",
+    ("SingleByte", "decode_into"): "no reader of pages in other encodings than UTF-8 yet",
+}
 # Comments, strings, characters, and imports of specs.
 BLANK = re.compile(r'//[^\n]*|"(?:\\.|[^"\\])*"|\'(?:\\[^\']+|[^\'\\])\'|\bghost use [^;]*;', re.S)
 GENERICS = re.compile(r"<(?:[^<>]|<[^<>]*>)*>")
@@ -412,12 +421,16 @@ def coverage():
         owner = function.owners[-1] if function.owners else ""
         if (owner or function.name) in names and (function.is_public or function.block == "trait"):
             public.add((owner, function.name))
+    below, unmet = uncalled_below(files, names)
+    stale = set(UNCALLED) - (public - called) - unmet
+    for owner, name in sorted(stale):
+        print(f"{owner}{'::' if owner else ''}{name}: something calls it, but it is listed as uncalled")
+    public, below, unmet = public - set(UNCALLED), below - set(UNCALLED), unmet - set(UNCALLED)
     for owner, name in sorted(public - called):
         print(f"{owner}{'::' if owner else ''}{name}: no test and no program calls it")
-    below, unmet = uncalled_below(files, names)
     for owner, name in sorted(unmet):
         print(f"{owner}{'::' if owner else ''}{name}: nothing calls it")
-    passed, failed = len(public & called) + len(below - unmet), len(public - called) + len(unmet)
+    passed, failed = len(public & called) + len(below - unmet), len(public - called) + len(unmet) + len(stale)
     print(f"public functions that are called: {passed} passed, {failed} failed")
     return passed, failed if public and below else failed + 1
 
