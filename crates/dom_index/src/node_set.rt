@@ -120,8 +120,8 @@ pub(crate) fn intersect(table: &mut Vec<bool>, other: &[bool])
 }
 
 /// Removes the nodes that can't have the type of the compound selector. Returns `true` only if all
-/// remaining nodes match it: it is a type selector alone, and the names of these nodes have
-/// numbers.
+/// remaining nodes match it: it is a type selector alone, and the names of these nodes are in the
+/// table of known names.
 pub(crate) fn filter_by_type(
     preorder: &Preorder<'_>,
     compound: &Compound,

@@ -1,9 +1,9 @@
 //! HTML documents: parse, select, edit, sanitize and write them, with proved contracts.
 //!
-//! Most programs begin with `use dom_query::prelude::*;`. This crate hands on the public names of
-//! the crates below, under the module names of the Rust crate dom_query, and adds three things of
-//! its own: `run`, which runs a script of lines over markup; `drive`, the program `dq`; and the
-//! Markdown and formatted text of documents and selections.
+//! Most programs begin with `use dom_query::prelude::*;`. This crate re-exports the public names of
+//! the crates below, under the module names of the Rust crate dom_query, and adds three things:
+//! `run`, which runs a script of lines over markup; `drive`, the program `dq`; and the Markdown and
+//! formatted text of documents and selections.
 #![tactic(auto)]
 
 mod document_md;

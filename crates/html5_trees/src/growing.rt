@@ -1,5 +1,6 @@
 //! The tree under construction, and the elements that tree construction keeps: the stack of open
-//! elements, the list of active formatting elements, and the head and form element pointers.
+//! elements, the list of active formatting elements, and the head and form element pointers. A call
+//! that returns a `Result` fails only when memory or node ids run out.
 
 ghost use Rattle.std.specs.Prelude.{◌≡◌, IfOk};
 ghost use Rattle.dom_links.specs.Growth.{lone};
@@ -101,7 +102,7 @@ impl GrowingTree {
         }
     }
 
-    /// The stack of open elements.
+    /// Returns the stack of open elements.
     pub fn open(&self) -> &OpenElements {
         &self.stack
     }
@@ -284,8 +285,8 @@ impl GrowingTree {
         put_doctype(&mut self.tree, parts)
     }
 
-    /// Adds those attributes of a tag to the element at an index of the stack that it doesn't have
-    /// yet.
+    /// Adds to the element at an index of the stack those of a tag's attributes whose names it
+    /// doesn't have yet.
     pub fn add_attrs(&mut self, place: usize, tag: &Tag) -> Result<(), PageFault> {
         let Some(open) = self.stack.get(place) else {
             return Ok(());

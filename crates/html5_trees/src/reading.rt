@@ -102,8 +102,8 @@ impl PageReader {
         self.builder.settled()
     }
 
-    /// Returns the tree after the last piece. That of a page may not have the shape of a page yet;
-    /// see `shape::make_page`. Fails with the first fault.
+    /// Returns the tree after the last piece. The tree of a page may not have the shape of a page
+    /// yet; see `shape::make_page`. Fails with the first fault: memory or node ids ran out.
     pub fn finish(self) -> Result<BuiltTree, PageFault> {
         let mut reader = self;
         reader.read_end()?;

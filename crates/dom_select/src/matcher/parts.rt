@@ -93,8 +93,8 @@ fn part_holds(part: &Part, caches: &mut SelectorCaches<'_>, id: &NodeId, node: &
     }
 }
 
-/// Returns whether the tree has the node and the simple selector matches its data, apart from its
-/// place.
+/// Returns whether the tree has the node and the simple selector matches its data. Where the node
+/// is in the tree isn't tested.
 pub(crate) fn data_passes(part: &Part, tree: &Tree, id: &NodeId) -> bool
     ensures { result ≡ data_passes part.now tree.now id.now }
 {

@@ -1,5 +1,5 @@
 //! Removing elements from the stack of open elements and from the list of active formatting
-//! elements.
+//! elements. A call that returns a `Result` fails only when memory runs out.
 
 ghost use Rattle.std.specs.Prelude.{◌≡◌};
 
