@@ -29,7 +29,7 @@ fn read_pieces(alloc: Global, pieces: &[&[u8]]) -> Result<Document, Fault> {
     Ok(parser.finish()?)
 }
 
-/// Prints a fragment: what could be the rows of a table.
+/// Prints a fragment that is parsed as the rows of a table.
 pub fn print_fragment<W: Write>(alloc: Global, out: &mut W) -> Result<(), Fault> {
     let context = Context::Html("tbody");
     let rows = parse_page_fragment(alloc, "<tr><td>1<td>2", context, Options::default())?;

@@ -1,4 +1,4 @@
-//! What is done with each file: it is read, changed, and printed or written back.
+//! What is done with each file: it is read and changed, and then printed or written back.
 
 use crate::output::print_matches;
 use crate::rewriting::{print_document, write_back};
@@ -11,15 +11,15 @@ use hq_pages::pages::{read_document, top_of};
 use hq_pages::tree::tree_text;
 use std::io::Write;
 
-/// What was read of a file.
+/// A file that was read.
 #[derive(Drop)]
 pub struct Page<'a> {
     pub name: &'a str,
     pub document: Document,
 }
 
-/// Does with a file what the options ask for, and returns whether something matched; without a
-/// selector that is always so.
+/// Does with a file what the options ask for, and returns whether something matched; `true` if the
+/// options have no selector.
 pub fn do_file<W: Write>(
     rt: &HostRuntime,
     name: &str,
@@ -62,8 +62,8 @@ fn do_job<W: Write>(
     }
 }
 
-/// Changes a document as the options say, before anything is printed: elements are taken out, it is
-/// sanitised, and its addresses are made whole.
+/// Changes a document as the options say, before anything is printed: elements are removed, the
+/// document is sanitised, and its addresses are made absolute.
 pub fn change(document: &mut Document, options: &Options<'_>) -> Result<(), Fault> {
     for selector in options.removed.as_slice() {
         let ids = document.select_matcher(selector)?.ids()?;

@@ -1,4 +1,4 @@
-//! Streams of pages: a line of JSON is read, and a line of JSON answers it.
+//! Streams of pages: for each line of JSON that is read, a line of JSON is written.
 
 use crate::pages::change;
 use dom_query::{
@@ -17,7 +17,7 @@ use std::fs;
 use std::io::{BufRead, BufReader, Write};
 use std::time::Instant;
 
-/// What has been read and answered so far.
+/// How much was read and written so far.
 #[derive(Clone, Copy, Drop)]
 pub struct Counts {
     pub pages: u64,
@@ -38,8 +38,8 @@ impl Counts {
     }
 }
 
-/// Answers the lines of all files, and returns whether something matched. A file that can't be read
-/// ends the run.
+/// Writes the answers to the lines of all files, and returns whether something matched. A file that
+/// can't be read ends the run.
 pub fn answer_files<W: Write>(
     rt: &HostRuntime,
     options: &Options<'_>,
@@ -78,7 +78,7 @@ fn answer_file<W: Write>(
     }
 }
 
-/// Answers each line of a reader.
+/// Writes the answer to each line of a reader.
 fn answer_lines<R: BufRead, W: Write>(
     alloc: Global,
     reader: &mut R,
@@ -98,7 +98,7 @@ fn answer_lines<R: BufRead, W: Write>(
     Ok(())
 }
 
-/// Answers a line; an empty one has no answer.
+/// Writes the answer to a line. An empty line has no answer.
 fn answer_line<W: Write>(
     alloc: Global,
     line: &[u8],
@@ -120,7 +120,7 @@ fn answer_line<W: Write>(
     Ok(())
 }
 
-/// The members of the answer to a line.
+/// Returns the members of the answer to a line.
 fn answer_of(
     alloc: Global,
     line: &[u8],
@@ -144,7 +144,7 @@ fn answer_of(
     Ok(members)
 }
 
-/// Puts the answer to a page into the members of its line.
+/// Adds the answer to a page to the members of its line.
 fn answer_page(
     alloc: Global,
     page: &[u8],
@@ -170,7 +170,7 @@ fn answer_page(
     }
 }
 
-/// Puts what a selector matches into the members, or how many matches there are.
+/// Adds what a selector matches to the members, or how many matches there are.
 fn put_matches(
     alloc: Global,
     document: &Document,
@@ -195,7 +195,8 @@ fn put_matches(
     put(alloc, members, "matches", Value::Array(values))
 }
 
-/// What shows a match: an object, a text, or null where it lacks the attribute.
+/// Returns the JSON value for a match: an object, a text, or null if the match doesn't have the
+/// attribute that is asked for.
 fn value_of(alloc: Global, node: &NodeRef<'_>, printing: Printing<'_>) -> Result<Value, Fault> {
     if let Show::All = printing.show {
         return summary_value(alloc, node, None);
@@ -206,7 +207,7 @@ fn value_of(alloc: Global, node: &NodeRef<'_>, printing: Printing<'_>) -> Result
     }
 }
 
-/// What the commands of a script print over a page.
+/// Returns what the commands of a script print for a page.
 fn output_of(
     alloc: Global,
     document: &mut Document,

@@ -10,7 +10,8 @@ use std::alloc::Global;
 use std::fs;
 use std::io::Read;
 
-/// The node whose children are the tree: the root, or the element `html` that a fragment is in.
+/// Returns the node whose children are the top of what was read: the root, or for a fragment the
+/// element `html` around it.
 pub fn top_of(document: &Document, reading: Reading<'_>) -> NodeId {
     let root = document.root().id;
     if !is_of_fragment(reading) {
@@ -32,7 +33,9 @@ fn is_of_fragment(reading: Reading<'_>) -> bool {
 /// How many bytes are read at once.
 const PIECE: usize = 64 * 1024;
 
-/// The document that a file stands for; `-` is standard input.
+/// Reads a file and returns its document. The name `-` means standard input. Fails if the file
+/// can't be read or is compressed, if explicit markup is refused, and when memory or node ids run
+/// out.
 pub fn read_document(
     rt: &HostRuntime,
     name: &str,
@@ -47,7 +50,7 @@ pub fn read_document(
     }
 }
 
-/// The document that the bytes of a reader stand for.
+/// Reads everything from a reader and returns its document.
 fn read_from<R: Read>(
     alloc: Global,
     reader: &mut R,
@@ -63,7 +66,7 @@ fn read_from<R: Read>(
     }
 }
 
-/// The options of the library by which a page is read.
+/// Returns the options of the library with which a page is parsed.
 pub fn page_options(reading: Reading<'_>) -> PageOptions {
     match reading {
         Reading::Explicit => PageOptions::default(),
@@ -79,7 +82,7 @@ pub fn page_options(reading: Reading<'_>) -> PageOptions {
     }
 }
 
-/// What reads a page, or a fragment in that context.
+/// Returns a parser for a page, or for a fragment if there is a context.
 fn parser_of(
     alloc: Global,
     context: Option<Context<'_>>,
@@ -121,7 +124,7 @@ fn next_piece<'a, R: Read>(reader: &mut R, room: &'a mut [u8]) -> Result<Option<
     }
 }
 
-/// The document that explicit markup spells.
+/// Reads explicit markup and returns its document.
 fn read_explicit<R: Read>(alloc: Global, reader: &mut R) -> Result<Document, Fault> {
     let mut bytes = Vec::new(alloc);
     if let Err(fault) = reader.read_to_end(&mut bytes) {
@@ -137,7 +140,7 @@ fn read_explicit<R: Read>(alloc: Global, reader: &mut R) -> Result<Document, Fau
     }
 }
 
-/// Why explicit markup is refused.
+/// Returns the fault of explicit markup, with line and column.
 fn refused(text: &str, fault: MarkupFault) -> Fault {
     let (line, column) = fault.line_and_column(text);
     match fault.kind {
@@ -151,7 +154,7 @@ fn refused(text: &str, fault: MarkupFault) -> Fault {
     }
 }
 
-/// Where bytes aren't UTF-8 any more.
+/// Returns the fault for bytes that aren't UTF-8 from this offset on, with line and column.
 fn not_utf8(bytes: &[u8], at: usize) -> Fault {
     let front = match bytes.get(..at) {
         Some(front) => front,
