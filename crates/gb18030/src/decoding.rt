@@ -9,13 +9,13 @@ use crate::table::{CODES, FIRSTS, GB18030};
 use decoded_text::{Decoded, ascii_front};
 use std::alloc::AllocError;
 
-/// Appends the characters of the bytes, and returns the bytes that are not decoded yet: at most
-/// three, whose character goes on in bytes that follow. Where the bytes are the last ones, all are
-/// decoded.
+/// Appends the characters of the bytes, and returns the bytes that aren't decoded yet: at most
+/// three, the beginning of a character that the next bytes continue. If `is_last` is true, all
+/// bytes are decoded.
 ///
 /// # Errors
 ///
-/// `AllocError` where memory is short.
+/// Fails with `AllocError` if memory runs out.
 pub fn decode_into<'b>(
     out: &mut Decoded,
     bytes: &'b [u8],
@@ -38,7 +38,7 @@ pub fn decode_into<'b>(
     Ok(rest)
 }
 
-/// The first character and the bytes behind it; none where that takes more bytes than there are.
+/// Returns the first character and the bytes after it; `None` if it is incomplete.
 fn next(bytes: &[u8], is_last: bool) -> Option<(Option<char>, &[u8])>
     ensures none { IfNone result (length bytes.now < 4) }
     ensures last { IsTrue is_last → IfNone result (bytes.now ≡ []) }
@@ -53,7 +53,7 @@ fn next(bytes: &[u8], is_last: bool) -> Option<(Option<char>, &[u8])>
     Some((alone(*first), behind))
 }
 
-/// The character of two or four bytes, of which the first was read, and the bytes behind it.
+/// Returns the character of two or four bytes, of which the first was read, and the bytes after it.
 fn pair(first: u8, behind: &[u8], is_last: bool) -> Option<(Option<char>, &[u8])>
     requires { IsTrue (is_lead first) }
     ensures none { IfNone result (length behind.now < 3) }
@@ -75,7 +75,7 @@ fn pair(first: u8, behind: &[u8], is_last: bool) -> Option<(Option<char>, &[u8])
     }
 }
 
-/// The character of four bytes, of which two were read, and the bytes behind it.
+/// Returns the character of four bytes, of which two were read, and the bytes after it.
 fn four<'b>(
     first: u8,
     second: u8,
@@ -111,21 +111,21 @@ fn four<'b>(
     Some((of_four(first, second, *third, *fourth), rest))
 }
 
-/// Whether a byte is the first of two or four, or the third of four.
+/// Returns whether a byte is the first of two or four, or the third of four.
 fn is_lead(byte: u8) -> bool
     ensures { result ≡ is_lead byte }
 {
     0x81 <= byte && byte <= 0xFE
 }
 
-/// Whether a byte is the second or the fourth of four.
+/// Returns whether a byte is the second or the fourth of four.
 fn is_digit(byte: u8) -> bool
     ensures { result ≡ is_digit byte }
 {
     0x30 <= byte && byte <= 0x39
 }
 
-/// The character of a byte alone.
+/// Returns the character of a byte alone.
 fn alone(byte: u8) -> Option<char>
     ensures { result ≡ alone byte }
 {
@@ -136,7 +136,7 @@ fn alone(byte: u8) -> Option<char>
     }
 }
 
-/// The character of two bytes.
+/// Returns the character of two bytes.
 fn of_two(first: u8, second: u8) -> Option<char>
     requires { IsTrue (is_lead first) }
     ensures { result ≡ of_two GB18030 first second }
@@ -151,7 +151,7 @@ fn of_two(first: u8, second: u8) -> Option<char>
     )
 }
 
-/// The character of a pointer.
+/// Returns the character of a pointer.
 #[tactic(auto, unfolding(crate::specs::Decoding::character_at))]
 fn character_at(index: &[u16], pointer: usize) -> Option<char>
     ensures { result ≡ character_at index.now pointer }
@@ -162,7 +162,7 @@ fn character_at(index: &[u16], pointer: usize) -> Option<char>
     char::from_u32(u32::from(index[pointer]))
 }
 
-/// The character of four bytes.
+/// Returns the character of four bytes.
 fn of_four(first: u8, second: u8, third: u8, fourth: u8) -> Option<char>
     requires first { IsTrue (is_lead first) }
     requires second { IsTrue (is_digit second) }

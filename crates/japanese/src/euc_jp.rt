@@ -9,13 +9,13 @@ use crate::table::{JIS0208, JIS0212};
 use decoded_text::{Decoded, ascii_front};
 use std::alloc::AllocError;
 
-/// Appends the characters of the bytes, and returns the bytes that are not decoded yet: at most
-/// two, whose character goes on in bytes that follow. Where the bytes are the last ones, all are
+/// Appends the characters of the bytes, and returns the bytes that aren't decoded yet: at most two,
+/// the beginning of a character that the next bytes continue. If `is_last` is true, all bytes are
 /// decoded.
 ///
 /// # Errors
 ///
-/// `AllocError` where memory is short.
+/// Fails with `AllocError` if memory runs out.
 pub fn decode_into<'b>(
     out: &mut Decoded,
     bytes: &'b [u8],
@@ -38,7 +38,7 @@ pub fn decode_into<'b>(
     Ok(rest)
 }
 
-/// The first character and the bytes behind it; none where that takes more bytes than there are.
+/// Returns the first character and the bytes after it; `None` if it is incomplete.
 fn next(bytes: &[u8], is_last: bool) -> Option<(Option<char>, &[u8])>
     ensures none { IfNone result (length bytes.now < 3) }
     ensures last { IsTrue is_last → IfNone result (bytes.now ≡ []) }
@@ -53,7 +53,8 @@ fn next(bytes: &[u8], is_last: bool) -> Option<(Option<char>, &[u8])>
     Some((alone(*lead), behind))
 }
 
-/// The character of two or three bytes, of which the first was read, and the bytes behind it.
+/// Returns the character of two or three bytes, of which the first was read, and the bytes after
+/// it.
 fn pair(lead: u8, behind: &[u8], is_last: bool) -> Option<(Option<char>, &[u8])>
     requires { IsTrue (is_lead lead) }
     ensures none { IfNone result (length behind.now < 2) }
@@ -75,7 +76,7 @@ fn pair(lead: u8, behind: &[u8], is_last: bool) -> Option<(Option<char>, &[u8])>
     }
 }
 
-/// The character of three bytes, of which two were read, and the bytes behind it.
+/// Returns the character of three bytes, of which two were read, and the bytes after it.
 fn three<'b>(
     lead: u8,
     trail: u8,
@@ -102,28 +103,28 @@ fn three<'b>(
     }
 }
 
-/// Whether a byte is a row or a cell of an index.
+/// Returns whether a byte is a row or a cell of an index.
 fn is_high(byte: u8) -> bool
     ensures { result ≡ is_high byte }
 {
     0xA1 <= byte && byte <= 0xFE
 }
 
-/// Whether a byte is the first of two or three.
+/// Returns whether a byte is the first of two or three.
 fn is_lead(byte: u8) -> bool
     ensures { result ≡ is_lead byte }
 {
     byte == 0x8E || byte == 0x8F || is_high(byte)
 }
 
-/// Whether a third byte follows two.
+/// Returns whether a third byte follows two.
 fn is_three(lead: u8, trail: u8) -> bool
     ensures { result ≡ is_three lead trail }
 {
     lead == 0x8F && is_high(trail)
 }
 
-/// The character of a byte alone.
+/// Returns the character of a byte alone.
 fn alone(byte: u8) -> Option<char>
     ensures { result ≡ alone byte }
 {
@@ -134,7 +135,7 @@ fn alone(byte: u8) -> Option<char>
     }
 }
 
-/// The character of two bytes.
+/// Returns the character of two bytes.
 fn of_two(lead: u8, trail: u8) -> Option<char>
     ensures { result ≡ of_two JIS0208 lead trail }
 {
@@ -144,7 +145,7 @@ fn of_two(lead: u8, trail: u8) -> Option<char>
     of_cell(&JIS0208, lead, trail)
 }
 
-/// The character of a row and a cell.
+/// Returns the character of a row and a cell.
 fn of_cell(index: &[u16], row: u8, cell: u8) -> Option<char>
     ensures { result ≡ of_cell index.now row cell }
 {
