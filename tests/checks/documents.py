@@ -6,7 +6,7 @@ A fenced block is checked by the words behind its fence:
   built programs `hq` and `dq` on the PATH. It must end with status 0 (a line may end in `|| true` where it is meant to fail).
 - `sh build`: commands that build something, which aren't run here.
 - `text output`, or another word before `output`: what the `sh` block before it must print, on standard output and standard error.
-- `rust`: part of a file of crates/examples/src, line for line but for its indentation.
+- `rust`: part of a file of crates/examples/src or crates/callers/src, line for line but for its indentation.
 - `text`: part of what the program `examples` prints.
 - `python`: run by python3 where the Python package can be loaded (`python output` is compared like `text output`).
 - Any other word (`ebnf`, `c`, `toml`, `html`, `css`): shown, not checked.
@@ -25,6 +25,7 @@ sys.path.insert(0, str(pathlib.Path(__file__).resolve().parents[1] / "tools"))
 from rows import ROOT, built  # noqa: E402
 
 EXAMPLES = ROOT / "crates" / "examples"
+CALLERS = ROOT / "crates" / "callers"
 SHOWN = {"ebnf", "shown", "c", "toml", "html", "css", "json", "yaml", "make", "diff", "markdown", "antt", "contracts"}
 SECONDS = 120
 
@@ -102,7 +103,7 @@ def faults_of(page, sources, printed_by_examples, counted):
             elif words == ["python"] and has_python():
                 printed, fault = fault_of_run(block, words, folder)
             elif words[0] == "rust":
-                fault = None if any(is_part_of(block, text) for text in sources) else "no file of crates/examples/src has this"
+                fault = None if any(is_part_of(block, text) for text in sources) else "no file of the quoted crates has this"
             elif words == ["text"]:
                 fault = None if is_part_of(block, printed_by_examples) else "the program `examples` doesn't print this"
             elif words[0] not in {"sh", "python", *SHOWN}:
@@ -141,7 +142,8 @@ def broken_links(page, counted):
 
 def documents():
     """Checks all pages, and returns how many blocks and links are right and wrong."""
-    sources = [file.read_text(encoding="utf-8") for file in sorted((EXAMPLES / "src").glob("*.rt"))]
+    files = [file for crate in (EXAMPLES, CALLERS) for file in sorted((crate / "src").glob("*.rt"))]
+    sources = [file.read_text(encoding="utf-8") for file in files]
     printed = (EXAMPLES / "stdout").read_text(encoding="utf-8")
     counted, faults = [0], []
     for page in dict.fromkeys(pages()):
