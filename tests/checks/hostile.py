@@ -19,7 +19,7 @@ for folder in ("tools", "second_definitions"):
 import grammars  # noqa: E402
 from rows import SECONDS, built  # noqa: E402
 
-CHANGED = b"<>/\"'=&-!?#; \x00\x80\xff"
+CHANGED = b"<>/\"'=&-!?#; \t\n\f\r\x00\x80\xff"
 MARKUPS = (
     '<!doctype HTML><p CLASS="a&amp;b" id=\'x\' k = v>1 < 2 &gt;</p>',
     '<!DOCTYPE a PUBLIC "p" \'s\'><ul><li>&#39;&#x27;&nbsp;</li><BR/></ul>',
@@ -281,7 +281,7 @@ PAGES = (
     "<form><form><ul><li>a<li>b<ul><li>c</ul><dl><dt>d<dd>e</dl><h1>g<h2>h</h1></form><button>i<button>j</button><ruby>k<rb>l<rt>m"
     "</ruby><marquee>o</p></marquee><applet>p</applet><image><hr></br><pre>\n q</pre><body x=y><html z=w>",
 )
-PAGE_MARKS = ("", "<", ">", "&", "\0", "/")
+PAGE_MARKS = ("", "<", ">", "&", "\0", "/", " ", "=", "\f", "\r", '"', "'", "-", "!")
 # Bytes with a byte order mark, characters of each length, and what isn't UTF-8.
 PAGE_BYTES = (
     b"",
