@@ -1,4 +1,4 @@
-"""table_rows.py [PYTHON'S NODE_PATH]: writes tests/rows/hq/tables_*.jsonl, rows for every entry of the tables of the crates that
+"""table_rows.py [NODE_PATH]: writes tests/rows/*/tables_*.jsonl, rows for every entry of the tables of the crates that
 read pages (source_tables.py), for every state of the tokenizer and every character that a state may name, and for every
 character in every insertion mode.
 
@@ -16,7 +16,7 @@ import state_pages
 from rows import ROOT
 
 PEER = ROOT / "tests" / "peers" / "trees_parse5.js"
-ROWS = ROOT / "tests" / "rows" / "hq"
+ROWS = ROOT / "tests" / "rows"
 RAW = "title style script textarea xmp iframe noembed noframes noscript".split()
 # Names that stand for all that a mode doesn't mention.
 SAMPLE = "a b body div frame frameset head html input li link p rt span svg td textarea title x-y".split()
@@ -137,8 +137,8 @@ class Pages:
     def add(self, entry, text, context=None, scripting=False):
         self.asked.append((entry, text, context, scripting))
 
-    def rows(self):
-        """The rows, with the peer's trees."""
+    def answers(self):
+        """The pages with the peer's trees and quirks modes."""
         words, behind = [], []
         for entry, text, context, scripting in self.asked:
             name = next((it for it in MENDED if f"<{it}" in text or f"</{it}" in text or context == it), None)
@@ -151,6 +151,11 @@ class Pages:
         for (entry, text, context, scripting), name, (tree, mode) in zip(self.asked, behind, json.loads(ran.stdout)):
             if name:
                 tree = tree.replace(f"<{MENDED[name]}>", f"<{name}>")
+            yield entry, text, context, scripting, tree, mode
+
+    def rows(self):
+        """The rows, with the peer's trees."""
+        for entry, text, context, scripting, tree, _ in self.answers():
             args = ["--tree", *(["--context", context] if context else []), *(["--scripting"] if scripting else [])]
             yield {"entry": entry, "args": args, "markup": text, "output": tree}
 
@@ -200,14 +205,14 @@ def fragment_pages(pages):
     pages.add("in head noscript: <noscript>", "<head><noscript><link></noscript>3", None, True)
 
 
-def quirks_pages(pages, entries):
-    """Each identifier of a doctype: as it is, in other case, with more behind it, with less, and with a system identifier. In quirks
-    mode a table doesn't close a paragraph."""
+def quirks_pages(pages, entries, whole=False):
+    """Each identifier of a doctype: as it is, and for `whole` in other case, with more behind it, with less, and with a system
+    identifier. In quirks mode a table doesn't close a paragraph."""
     for array, text in entries:
         if array not in ("QUIRKY", "QUIRKY_NAMES", "HTML_4", "XHTML"):
             continue
-        for public in (text, text.upper(), text + "x", text[:-1], "x" + text):
-            for system in ("", ' "x"'):
+        for public in (text, text.upper(), text + "x", text[:-1], "x" + text) if whole else (text,):
+            for system in ("", ' "x"') if whole else ("",):
                 pages.add(f"{array}: {text}", f'<!DOCTYPE html PUBLIC "{public}"{system}><p>1<table>2')
     system = "http://www.ibm.com/data/dtd/v11/ibmxhtml1-transitional.dtd"
     for written in (system, system.upper(), system + "x", system[:-1]):
@@ -415,10 +420,27 @@ def hint_rows(entries):
         yield {"entry": f"HINTS: {part}", "args": [written], "error": error, "status": 2}
 
 
-def write(name, rows):
+MODES_OF_PEER = {"no-quirks": "NoQuirks", "limited-quirks": "LimitedQuirks", "quirks": "Quirks"}
+
+
+def quirks_rows(entries):
+    """The quirks mode for each identifier of a doctype, and for the doctypes of the rule of quirks: rows of `test_calls`."""
+    pages, rows = Pages(), {}
+    quirks_pages(pages, entries, True)
+    for page in rule_pages.RULES["quirks"]:
+        if not isinstance(page, tuple):
+            pages.add("rule quirks", page)
+    for entry, text, _, _, _, mode in pages.answers():
+        row = rows.setdefault(entry, {"entry": entry, "args": [], "output": ""})
+        row["args"].append(f"web-mode {text}")
+        row["output"] += f"quirks_mode: {MODES_OF_PEER[mode]}\n"
+    return rows.values()
+
+
+def write(name, rows, program="hq"):
     """Writes a file of rows."""
     text = "".join(json.dumps(row, ensure_ascii=False) + "\n" for row in rows)
-    (ROWS / f"tables_{name}.jsonl").write_text(text, encoding="utf-8")
+    (ROWS / program / f"tables_{name}.jsonl").write_text(text, encoding="utf-8")
     print(f"tables_{name}.jsonl: {text.count(chr(10))} rows, {len(text.encode())} bytes")
 
 
@@ -439,6 +461,7 @@ def main():
     write("characters", peers_rows(lambda pages: state_pages.mode_characters(pages, MODES)))
     write("states", peers_rows(state_pages.states))
     write("rules", peers_rows(rule_pages.rules))
+    write("quirks", quirks_rows(entries), "test_calls")
     write("hq", [*calm_rows(entries), *address_rows(entries), *cleaning_rows(entries), *option_rows(), *conflict_rows(entries), *hint_rows(entries)])
 
 
