@@ -4,7 +4,10 @@
 - "in row", an end tag `tbody`, `tfoot` or `thead` is ignored unless that element is in table scope;
 - "in select", a start tag `hr` closes an open `option` and `optgroup`, and is inserted;
 - a CDATA section may begin wherever the adjusted current node isn't an HTML element, integration points included;
-- "any other end tag" looks for an HTML element of that name.
+- "any other end tag" looks for an HTML element of that name;
+- "in body", the content of `noframes` is text;
+- in a fragment, the content of `noscript` is text only with scripting;
+- `feDropShadow` is an SVG element.
 
 table_rows.py knows of one more: parse5 7.1.2 doesn't know the element `search`."""
 import pathlib
@@ -32,7 +35,21 @@ CHANGES = {
             "        if (tid === elementId && p.treeAdapter.getNamespaceURI(element) === html_js_1.NS.HTML &&\n"
             "            (tid !== html_js_1.TAG_ID.UNKNOWN || p.treeAdapter.getTagName(element) === tn)) {\n",
         ),
+        (
+            "        case html_js_1.TAG_ID.BASE:\n        case html_js_1.TAG_ID.LINK:\n        case html_js_1.TAG_ID.META:\n        case html_js_1.TAG_ID.STYLE:\n"
+            "        case html_js_1.TAG_ID.TITLE:\n",
+            "        case html_js_1.TAG_ID.NOFRAMES:\n"
+            "        case html_js_1.TAG_ID.BASE:\n        case html_js_1.TAG_ID.LINK:\n        case html_js_1.TAG_ID.META:\n        case html_js_1.TAG_ID.STYLE:\n"
+            "        case html_js_1.TAG_ID.TITLE:\n",
+        ),
+        (
+            "            case html_js_1.TAG_ID.NOSCRIPT: {\n                this.tokenizer.state = index_js_1.TokenizerMode.RAWTEXT;\n",
+            "            case html_js_1.TAG_ID.NOSCRIPT: {\n"
+            "                if (this.fragmentContextID === html_js_1.TAG_ID.NOSCRIPT && !this.options.scriptingEnabled) break;\n"
+            "                this.tokenizer.state = index_js_1.TokenizerMode.RAWTEXT;\n",
+        ),
     ],
+    "dist/cjs/common/foreign-content.js": [("    'feDistantLight',\n", "    'feDistantLight',\n    'feDropShadow',\n")],
     "dist/cjs/tokenizer/index.js": [
         ("        this.inForeignNode = false;\n", "        this.inForeignNode = false;\n        this.allowsCdata = false;\n"),
         ("            if (this.inForeignNode) {\n", "            if (this.allowsCdata) {\n"),

@@ -7,6 +7,7 @@ the HTML Standard; NODE_PATH names the folder of that copy. For an element that 
 rule treats alike. Run it by hand after a table has changed; the test command reads the rows alone."""
 import json
 import os
+import re
 import subprocess
 import sys
 
@@ -150,7 +151,7 @@ class Pages:
         ran = subprocess.run(["node", PEER], input=json.dumps(words), capture_output=True, text=True, check=True, env=node())
         for (entry, text, context, scripting), name, (tree, mode) in zip(self.asked, behind, json.loads(ran.stdout)):
             if name:
-                tree = tree.replace(f"<{MENDED[name]}>", f"<{name}>")
+                tree = re.sub(rf"(?<=[< ]){MENDED[name]}(?=>)", name, tree)
             yield entry, text, context, scripting, tree, mode
 
     def rows(self):
