@@ -168,7 +168,10 @@ RULES = {
         f"{D}<table>1<frameset>",
         f"{D}<div></div> <frameset><frame>",
     ],
-    "frameset-ok: input": [f"{D}<input type={it}><frameset>" for it in ("hidden", "HIDDEN", "hidde", "hiddenx", "''")] + [f"{D}<input><frameset>"],
+    "frameset-ok: input": [
+        *(f"{D}<input type={it}><frameset>" for it in ("hidden", "HIDDEN", "hidde", "hiddenx", "''")),
+        f"{D}<input><frameset>",
+    ],
     "frameset-ok: others": [
         f"{D}<body><frameset>",
         f"{D}<body><body><frameset>",
@@ -225,8 +228,14 @@ RULES = {
     ],
     # 13.2.6.3 Implied end tags
     "implied end tags": [
-        f"{D}<form><{it}></form>1</{it}>2" for it in "dd dt li optgroup option p rb rp rt rtc div b".split()
-    ] + [f"{D}<ruby><rtc><rt>1<rtc>2<rb>3<rp>4", f"{D}<ruby><rtc>1<rp>2", f"{D}<ruby><rb>1<rt>2<rb>3", f"{D}<rtc><rt>1", f"{D}<ruby><div><rb>1<rt>2", f"{D}<ruby><p><rtc>1<rt>2"],
+        *(f"{D}<form><{it}></form>1</{it}>2" for it in "dd dt li optgroup option p rb rp rt rtc div b".split()),
+        f"{D}<ruby><rtc><rt>1<rtc>2<rb>3<rp>4",
+        f"{D}<ruby><rtc>1<rp>2",
+        f"{D}<ruby><rb>1<rt>2<rb>3",
+        f"{D}<rtc><rt>1",
+        f"{D}<ruby><div><rb>1<rt>2",
+        f"{D}<ruby><p><rtc>1<rt>2",
+    ],
     # 13.2.6.4.1 initial and 13.2.6.4.2 before html
     "initial: doctypes": [
         "<!doctype html><!doctype x>1",
@@ -525,7 +534,11 @@ RULES = {
         ("</table>1<td>2", "table"),
         f"{D}<template><tr><table>1",
     ],
-    "in table: hidden input": [f"{D}<table><input type={it}>1<td>2" for it in ("hidden", "HIDDEN", "text", "hiddenx", "''")] + [f"{D}<table><input>1", f"{D}<table><tr><input type=hidden a=1>1"],
+    "in table: hidden input": [
+        *(f"{D}<table><input type={it}>1<td>2" for it in ("hidden", "HIDDEN", "text", "hiddenx", "''")),
+        f"{D}<table><input>1",
+        f"{D}<table><tr><input type=hidden a=1>1",
+    ],
     "in table: form": [
         f"{D}<table><form a=1>1<form b=2><td>3</form>4",
         f"{D}<form><table><form a=1><td>1",
@@ -616,7 +629,13 @@ RULES = {
         f"{D}<select>\0 1\0",
         f"{D}<select><option><hr>1<optgroup><option><hr>2",
     ],
-    "in select in table": [f"{D}<table><td><select><{it}>1" for it in "caption table tbody tfoot thead tr td th col p".split()] + [f"{D}<table><td><select></{it}>1" for it in "caption table tbody tfoot thead tr td th col p".split()] + [f"{D}<table><caption><select></table>1", f"{D}<table><select><td>1", f"{D}<table><tr><select><option>1</tr>2"],
+    "in select in table": [
+        *(f"{D}<table><td><select><{it}>1" for it in "caption table tbody tfoot thead tr td th col p".split()),
+        *(f"{D}<table><td><select></{it}>1" for it in "caption table tbody tfoot thead tr td th col p".split()),
+        f"{D}<table><caption><select></table>1",
+        f"{D}<table><select><td>1",
+        f"{D}<table><tr><select><option>1</tr>2",
+    ],
     # behind the body and framesets
     "after body": [
         f"{D}<p>1</body> 2<p>3",
@@ -660,7 +679,11 @@ RULES = {
         f"{D}<svg></svg><![CDATA[1]]>",
         f"{D}<svg><p><![CDATA[1]]>",
     ],
-    "foreign: font": [f"{D}<svg><font {it}=1>2" for it in ("color", "face", "size", "COLOR", "x", "colors")] + [f"{D}<math><font>1", f"{D}<svg><font></font>1</font>2"],
+    "foreign: font": [
+        *(f"{D}<svg><font {it}=1>2" for it in ("color", "face", "size", "COLOR", "x", "colors")),
+        f"{D}<math><font>1",
+        f"{D}<svg><font></font>1</font>2",
+    ],
     "foreign: breaking out": [
         f"{D}<svg><g><p>1",
         f"{D}<svg><desc><svg><b>1",

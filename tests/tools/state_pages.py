@@ -139,7 +139,10 @@ REFERENCES = {
 for _name, _text in REFERENCES.items():
     for _place, (_front, _behind) in PLACES.items():
         STATES[_name + _place] = (_front + _text, "1y;" + _behind)
-NUMBERS = "0 x0 1 9 10 12 13 x1F 32 x7F x80 x9F xA0 xD7FF xD800 xDFFF xE000 xFDD0 xFDEF xFFFD xFFFE xFFFF x10000 x1FFFF x10FFFF x110000 99999999999 xFFFFFFFFF"
+NUMBERS = (
+    "0 x0 1 9 10 12 13 x1F 32 x7F x80 x9F xA0 xD7FF xD800 xDFFF xE000 xFDD0 xFDEF xFFFD xFFFE xFFFF x10000 x1FFFF x10FFFF x110000 "
+    "99999999999 xFFFFFFFFF"
+)
 
 MARKS = [*"-!/<>&\"'=?`[]; ", "\t", "\n", "\f", "\r", "\r\n", "\0"]
 # What else is put into most states, into those of character references, and into those that look for words.
@@ -152,7 +155,7 @@ def characters(state):
     """The characters that a state has rows for."""
     if "reference" in state or "ampersand" in state:
         return [*MARKS, *REFERENCE_LETTERS]
-    if "DOCTYPE" in state or "declaration" in state or state in ("tag open", "end tag open") or "end tag" in state or "double escape" in state:
+    if any(it in state for it in ("DOCTYPE", "declaration", "end tag", "double escape")) or state == "tag open":
         return list(dict.fromkeys([*MARKS, *WORD_LETTERS]))
     return [*MARKS, *LETTERS]
 
@@ -173,7 +176,10 @@ def states(pages):
             pages.add(f"numeric character reference end: {number}", f'<b a="&#{number}{end}">&#{number}{end}')
 
 
-RUNS = (" ", "\t", "\n", "\f", "\r", "\0", "1", " 1", "1 ", "1 2", " 1 2\n3", "\0 1", "1\0", "1\0 \0", "\n1", "<!--1-->", "<!doctype x>", " <!--1--> 2")
+RUNS = (
+    *(" ", "\t", "\n", "\f", "\r", "\0", "1", " 1", "1 ", "1 2", " 1 2\n3", "\0 1", "1\0", "1\0 \0", "\n1"),
+    *("<!--1-->", "<!doctype x>", " <!--1--> 2"),
+)
 
 
 def mode_characters(pages, modes):

@@ -87,7 +87,9 @@ PAGES = {
         "template": "<!doctype html><template><table><form a=1><tr><td>3",
     },
     "html in template": {"template": "<!doctype html><html a=1><template><html a=2 b=3></template><html c=4>"},
-    "foreign": {"annotation-xml": "<!doctype html><math><annotation-xml encoding=Text/HTML><div>1<svg><annotation-xml encoding=text/html><div>2"},
+    "foreign": {
+        "annotation-xml": "<!doctype html><math><annotation-xml encoding=Text/HTML><div>1<svg><annotation-xml encoding=text/html><div>2"
+    },
     "text point": {
         name: "".join(f"<math><{it}><{name} a=1>1</{name}></{it}></math>" for it in "mi mo mn ms mtext annotation-xml x-y".split())
         for name in ("mglyph", "malignmark", "b", "x-y", "svg", "annotation-xml")
@@ -124,7 +126,11 @@ FRAGMENTS = (
     "</{}>1<col>2<body a=1><p>3</p>",
     "<form>1<form>2<a>3<a>4<head><frameset>5",
 )
-FOREIGN_CONTEXTS = "svg svg,svg path,svg desc,svg title,svg foreignObject,math math,math mi,math mo,math mn,math ms,math mtext,math annotation-xml,svg x-y"
+FOREIGN_CONTEXTS = [
+    *(f"svg {name}" for name in ("svg", "path", "desc", "title", "foreignObject")),
+    *(f"math {name}" for name in ("math", "mi", "mo", "mn", "ms", "mtext", "annotation-xml")),
+    "svg x-y",
+]
 # Where parse5 7.1.2 is older than the standard: an element that it doesn't know, and one that every rule treats alike.
 MENDED = {"search": "section"}
 
@@ -197,7 +203,7 @@ def question_pages(pages):
 
 def fragment_pages(pages):
     """Each name as the context of fragments."""
-    for name in [*source_tables.names(), "x-y", *FOREIGN_CONTEXTS.split(",")]:
+    for name in [*source_tables.names(), "x-y", *FOREIGN_CONTEXTS]:
         for text in FRAGMENTS:
             pages.add(f"fragment: {name}", text.format(name.split()[-1]), name)
     pages.add("fragment: noscript", "1<b>2</b>&amp;", "noscript", True)
@@ -247,7 +253,9 @@ def reference_pages(pages, entries):
             pages.add(f"{array}: {text}", f'<p a="&#{number};b" b=&#x{number:x}>&#{number};c&#x{number:X}d')
         if array == "REFERENCES":
             name = text.rstrip(";")
-            pages.add(f"{array}: {text}", f"<title>&{text}&{name}x</title><p a=\"x&{text}y\" b='&{text}' c=&{text} d='&{name}=' e=&{name}>1&{text}2&{name}3")
+            front = f"<title>&{text}&{name}x</title>"
+            values = f"a=\"x&{text}y\" b='&{text}' c=&{text} d='&{name}=' e=&{name}"
+            pages.add(f"{array}: {text}", f"{front}<p {values}>1&{text}2&{name}3")
         if array == "SPACES":
             space = "\t\n\f\r "[int(text)]
             for front in ("<colgroup>", "", "<tbody>"):
@@ -285,7 +293,8 @@ def calm_rows(entries):
             continue
         head, body = IN_HEAD.get(text, ""), "" if text in IN_HEAD else CALM.get(text, f"<{text}>x</{text}>")
         page = f"<!DOCTYPE html><html><head>{head}</head><body>{body}</body></html>"
-        yield {"entry": f"calm: {text}", "args": ["--jsonl", "--document"], "markup": written({"html": page}), "output": written({"document": page}), "status": 1}
+        row = {"entry": f"calm: {text}", "args": ["--jsonl", "--document"]}
+        yield {**row, "markup": written({"html": page}), "output": written({"document": page}), "status": 1}
 
 
 def written(value):
@@ -299,7 +308,8 @@ def address_rows(entries):
     for name in [*names, "srcset", "alt", "ping", "data-href", "hrefx"]:
         value = "https://a.example/b/d" if name in names else "d"
         output = f'<html><head></head><body><p {name}="{value}"></p></body></html>\n'
-        yield {"entry": f"--base ADDRESSES: {name}", "args": ["-d", "-b", "https://a.example/b/c"], "markup": f"<p {name}=d>", "output": output}
+        row = {"entry": f"--base ADDRESSES: {name}", "args": ["-d", "-b", "https://a.example/b/c"]}
+        yield {**row, "markup": f"<p {name}=d>", "output": output}
 
 
 def cleaning_rows(entries):
@@ -458,12 +468,14 @@ def main():
     write("modes", peers_rows(mode_pages))
     write("names", peers_rows(question_pages))
     write("fragments", peers_rows(fragment_pages))
-    write("texts", peers_rows(*(lambda pages, make=make: make(pages, entries) for make in (quirks_pages, adjusting_pages, reference_pages))))
+    makers = (quirks_pages, adjusting_pages, reference_pages)
+    write("texts", peers_rows(*(lambda pages, make=make: make(pages, entries) for make in makers)))
     write("characters", peers_rows(lambda pages: state_pages.mode_characters(pages, MODES)))
     write("states", peers_rows(state_pages.states))
     write("rules", peers_rows(rule_pages.rules))
     write("quirks", quirks_rows(entries), "test_calls")
-    write("hq", [*calm_rows(entries), *address_rows(entries), *cleaning_rows(entries), *option_rows(), *conflict_rows(entries), *hint_rows(entries)])
+    made = [make(entries) for make in (calm_rows, address_rows, cleaning_rows, conflict_rows, hint_rows)]
+    write("hq", [row for rows in [*made, option_rows()] for row in rows])
 
 
 if __name__ == "__main__":
