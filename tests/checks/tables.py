@@ -47,6 +47,7 @@ def text_faults(known, errors):
             is_there = f"OPTIONS: {text}" in known
         elif array == "OPTIONS":
             is_there = f"OPTIONS: {text}" in known or text in source_tables.OTHER_OPTIONS
+            is_there = is_there or any(f"--{text}" in row.get("args", []) and "error" not in row for row in ALL)
         elif array == "mathml_attr":
             is_there = f"mathml_attr: {text}" in known
         else:
