@@ -16,7 +16,8 @@ The fields of a row: `markup` is the standard input; `args` is the list of argum
 and `error` are what the program must write to standard output and standard error; `status` is its exit status, 0 if the field is
 missing. `markup_hex` and `script_hex` hold bytes in hexadecimal, for inputs that are not UTF-8. A text may also be a list of
 pieces, each a text and how often it is repeated, in which {n} is replaced by the number of the repetition; an argument may be
-a list of a text and how often it is repeated.
+a list of a text and how often it is repeated. `entry` names the rule or the entry of a table that the row is for
+(tests/checks/tables.py).
 
 tests/checks/documents.py says how the commands, programs and outputs in the documents are checked.
 
@@ -50,6 +51,7 @@ import refusals  # noqa: E402
 import standard  # noqa: E402
 import standard_rules  # noqa: E402
 import streams  # noqa: E402
+import tables as entries_of_tables  # noqa: E402
 import ways  # noqa: E402
 from rows import ROOT, SECONDS, built, given, words_of  # noqa: E402
 
@@ -266,7 +268,7 @@ def main():
     counts, edits_left = (None, lambda: (0, 0)) if rows_alone else gate(clock)
     tables = [rows, cleaned, followed, asked_each_way]
     tables += [documents.documents, reference.reference, options.options, standard.standard, standard_rules.checked]
-    tables += [wrong_bodies, coverage.coverage, hostile.hostile]
+    tables += [wrong_bodies, coverage.coverage, entries_of_tables.tables, hostile.hostile]
     counts = [counts] if counts else []
     with ThreadPoolExecutor() as pool:
         # (what is done beside the edits neither measures the processor time of others nor changes a child before it starts)

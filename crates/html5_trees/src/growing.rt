@@ -251,7 +251,7 @@ impl GrowingTree {
 
     /// Inserts characters. The document itself can't have text, so characters there are ignored.
     pub fn put_text(&mut self, placing: Placing, text: &str) -> Result<(), PageFault> {
-        let gap = self.gap(placing);
+        let gap = self.gap(placing.at_any_depth());
         let at_top = is_at_top(&gap);
         if at_top && self.context.is_none() {
             return Ok(());
@@ -261,7 +261,7 @@ impl GrowingTree {
 
     /// Inserts a comment at the appropriate place.
     pub fn put_comment(&mut self, placing: Placing, text: &str) -> Result<(), PageFault> {
-        let gap = self.gap(placing);
+        let gap = self.gap(placing.at_any_depth());
         put_comment(&mut self.tree, gap, text)
     }
 
