@@ -69,6 +69,22 @@ kept_for OnlyText forest n kind indexes index long is right = tt
 kept_for (HasText text) forest n kind indexes index long is right = tt
 kept_for (Contains text) forest n kind indexes index long is right = tt
 
+-- a simple selector that asks for no index
+pub asks_for_none : (part : Part) (forest : Forest) (n : ℕ) (indexes : List ℕ) → ((position : positions.Position) → part ≡ Position position → ⊥) → HasIndexFor part forest n indexes
+asks_for_none (Position position) forest n indexes other = absurd (other position refl)
+asks_for_none Universal forest n indexes other = tt
+asks_for_none (Part.«Type» name) forest n indexes other = tt
+asks_for_none (Id value) forest n indexes other = tt
+asks_for_none (Class word) forest n indexes other = tt
+asks_for_none (Attribute asked) forest n indexes other = tt
+asks_for_none Root forest n indexes other = tt
+asks_for_none Link forest n indexes other = tt
+asks_for_none Never forest n indexes other = tt
+asks_for_none Empty forest n indexes other = tt
+asks_for_none OnlyText forest n indexes other = tt
+asks_for_none (HasText text) forest n indexes other = tt
+asks_for_none (Contains text) forest n indexes other = tt
+
 -- the first simple selectors of a list have their indexes
 
 abbrev pub AreIndexesBelow : ℕ → List Part → Forest → ℕ → List ℕ → Type 0
@@ -87,8 +103,8 @@ pub part_written : (count : ℕ) (parts : List Part) (position : positions.Posit
     slice_get parts count ≡ Some (Position position) → AreIndexesBelow count parts forest n indexes → AreIndexesBelow (count + 1) parts forest n (set indexes (kind_place position.kind) index)
 part_written count parts position forest n indexes index long is here so_far =
     one_more_part count parts (Position position) forest n (set indexes (kind_place position.kind) index) here
-      (λ i part below found. kept_for part forest n position.kind indexes index long is (so_far i part below found))
-      (index_here forest n position.kind indexes index long is)
+    (λ i part below found. kept_for part forest n position.kind indexes index long is (so_far i part below found))
+    (index_here forest n position.kind indexes index long is)
 
 -- no index is more than the greatest number
 pub index_small : (forest : Forest) (nodes : List TreeNode) (kind : IndexKind) (n : ℕ) (node : TreeNode) → IsSoundArena nodes → forest_of nodes ≡ forest → IsNodeOf forest n node → index_at kind forest n ≤ 4294967295
