@@ -19,7 +19,7 @@ use crate::type_filter::{
 };
 use dom_nodes::fault::OutOfMemory;
 use dom_select::matcher::caches::SelectorCaches;
-use dom_select::matcher::compounds::test_compound;
+use dom_select::matcher::compounds::{CompoundTest, indexes_for};
 use dom_selectors::syntax::{Combinator, Compound};
 use dom_trees::node_ref::NodeRef;
 
@@ -85,7 +85,10 @@ fn compound_holds(
         return answer;
     }
     let node = NodeRef::new(numbered(preorder.tree, n), preorder.tree);
-    test_compound(prepared.compound, &node, &prepared.answers, caches, asked)
+    let indexes = indexes_for(prepared.compound, &node, caches);
+    prepared
+        .compound
+        .test(&node, &prepared.answers, indexes, asked)
 }
 
 /// Returns the set of elements. Fails only when memory runs out.
