@@ -1,0 +1,120 @@
+//! What becomes of a node where it stands.
+
+ghost use Rattle.std.specs.Prelude.{◌≡◌, IfOk};
+ghost use Rattle.dom_clean.specs.Cleaned.{in_body};
+ghost use Rattle.dom_clean.specs.Fates.{element_fate, fate_of, text_fate, is_dropped, is_unseen, may_stay, place_below};
+ghost use Rattle.dom_clean.specs.Policies.{policy_of};
+ghost use Rattle.dom_clean.specs.declared.fates.Fate.TheVariants.{Stays};
+ghost use Rattle.dom_nodes.specs.declared.node_data.NodeData.TheVariants.{Element as AnElement};
+
+use crate::lists::{Lists, is_among};
+use crate::values::spellable;
+use dom_html5::{Scope, TOP, holds_text};
+use dom_nodes::fault::OutOfMemory;
+use dom_nodes::name::NamespaceRef;
+use dom_nodes::node_data::{Element, NodeData};
+use html5_trees::Kind;
+use std::alloc::Global;
+
+/// What becomes of a node.
+#[derive(Clone, Copy, Drop)]
+pub(crate) enum Fate {
+    /// It stays, over what is left of its children.
+    Stays,
+    /// What is left of its children stands in its place.
+    Unwrapped,
+    /// It vanishes with all that is below it.
+    Vanishes,
+}
+
+/// What a node stands in, and how many kept elements may lie in one another
+/// there.
+#[derive(Clone, Copy, Drop)]
+pub(crate) struct Place {
+    pub(crate) scope: Scope,
+    pub(crate) left: usize,
+}
+
+/// The contents of a body.
+pub(crate) fn in_body(lists: &Lists) -> Place
+    ensures { result ≡ in_body (policy_of lists.now) }
+{
+    Place {
+        scope: TOP.inside(Kind::Html).inside(Kind::Body).behind(),
+        left: lists.depth,
+    }
+}
+
+/// What becomes of a node.
+pub(crate) fn fate_of(
+    alloc: Global,
+    lists: &Lists,
+    place: &Place,
+    content: &NodeData,
+) -> Result<Fate, OutOfMemory>
+    ensures { IfOk result (λ fate. fate ≡ fate_of (policy_of lists.now) place.now content.now) }
+{
+    match content {
+        NodeData::Text { contents } => text_fate(alloc, place, contents.as_str()),
+        NodeData::Element(element) => Ok(element_fate(lists, place, element)),
+        _ => Ok(Fate::Vanishes),
+    }
+}
+
+fn is_unseen(kind: Kind) -> bool
+    ensures { result ≡ is_unseen kind }
+{
+    matches!(kind, Kind::Head | Kind::Metadata | Kind::Verbatim)
+}
+
+fn is_dropped(lists: &Lists, element: &Element) -> bool
+    ensures { result ≡ is_dropped (policy_of lists.now) element.now }
+{
+    element.template_contents().is_some()
+        || is_unseen(Kind::of(&element.name().local()))
+        || is_among(element.node_name(), &lists.dropped)
+}
+
+fn may_stay(lists: &Lists, place: &Place, element: &Element) -> bool
+    ensures { result ≡ may_stay (policy_of lists.now) place.now element.now }
+{
+    matches!(element.name().ns(), NamespaceRef::Html)
+        && is_among(element.node_name(), &lists.elements)
+        && place.scope.admits(Kind::of(&element.name().local()))
+        && place.left > 0
+}
+
+fn text_fate(alloc: Global, place: &Place, contents: &str) -> Result<Fate, OutOfMemory>
+    ensures { IfOk result (λ fate. fate ≡ text_fate place.now contents.now) }
+{
+    let text = spellable(alloc, contents)?;
+    if holds_text(place.scope.parent, text.as_str()) {
+        return Ok(Fate::Stays);
+    }
+    Ok(Fate::Vanishes)
+}
+
+fn element_fate(lists: &Lists, place: &Place, element: &Element) -> Fate
+    ensures { result ≡ element_fate (policy_of lists.now) place.now element.now }
+{
+    if is_dropped(lists, element) {
+        return Fate::Vanishes;
+    }
+    if may_stay(lists, place, element) {
+        return Fate::Stays;
+    }
+    Fate::Unwrapped
+}
+
+/// What the children of an element that stays stand in.
+pub(crate) fn place_below(place: &Place, element: &Element) -> Place
+    ensures { result ≡ place_below Stays place.now (AnElement element.now) }
+{
+    Place {
+        scope: place
+            .scope
+            .inside(Kind::of(&element.name().local()))
+            .behind(),
+        left: place.left.saturating_sub(1),
+    }
+}
