@@ -7,8 +7,8 @@ use Rattle.dom_markup.specs.Bytes.{is_whitespace}
 use Rattle.dom_markup.specs.ValueTrees.{ValueTrees}
 use Rattle.dom_markup.specs.ValueTrees.ValueTrees.{no_trees, text_node, comment_node, doctype_node, element_node}
 use Rattle.html5_trees.specs.ElementKinds.{kind_of}
-use Rattle.html5_trees.specs.declared.element_kinds.Kind.{Kind}
-use Rattle.html5_trees.specs.declared.element_kinds.Kind.TheVariants.{Html, Head, Verbatim, Pre, Table, ColumnGroup, RowGroup, TableRow}
+use Rattle.html5_trees.specs.declared.element_kinds.ElementCategory.{ElementCategory}
+use Rattle.html5_trees.specs.declared.element_kinds.ElementCategory.TheVariants.{Html, Head, Verbatim, Pre, Table, ColumnGroup, RowGroup, TableRow}
 use Rattle.dom_html5.specs.Calm.{admits, are_calm, behind, behind_first, inside, may_hold_text}
 use Rattle.dom_html5.specs.declared.calm.nesting.Scope.{Scope}
 use Rattle.dom_clean.specs.Joined.{AreTidy, joined, merges, with_text}
@@ -16,7 +16,7 @@ use Rattle.dom_clean.specs.Joined.{AreTidy, joined, merges, with_text}
 both_white : (a b : List ℕ) → list_all is_whitespace a ≡ true → list_all is_whitespace b ≡ true → list_all is_whitespace (a ++ b) ≡ true
 both_white a b p q = list_all-append is_whitespace a b ∙ and_from (list_all is_whitespace a) (list_all is_whitespace b) p q
 
-holds_more : (kind : Kind) (a b : List ℕ) → merges kind ≡ true → a ≢ [] → may_hold_text kind a ≡ true → may_hold_text (behind_first kind) b ≡ true → may_hold_text kind (a ++ b) ≡ true
+holds_more : (kind : ElementCategory) (a b : List ℕ) → merges kind ≡ true → a ≢ [] → may_hold_text kind a ≡ true → may_hold_text (behind_first kind) b ≡ true → may_hold_text kind (a ++ b) ≡ true
 holds_more Verbatim a b ok some p q = absurd (true≢false (sym ok))
 holds_more Pre [] b ok some p q = absurd (some refl)
 holds_more Pre (x ∷ a) b ok some p q = p
@@ -28,18 +28,18 @@ holds_more RowGroup a b ok some p q = both_white a b p q
 holds_more TableRow a b ok some p q = both_white a b p q
 holds_more _ a b ok some p q = p
 
-merges_behind : (kind : Kind) → merges kind ≡ true → merges (behind_first kind) ≡ true
+merges_behind : (kind : ElementCategory) → merges kind ≡ true → merges (behind_first kind) ≡ true
 merges_behind Pre ok = refl
 merges_behind _ ok = ok
 
-merges_inside : (scope : Scope) (kind : Kind) → merges kind ≡ true → merges (inside scope kind).parent ≡ true
+merges_inside : (scope : Scope) (kind : ElementCategory) → merges kind ≡ true → merges (inside scope kind).parent ≡ true
 merges_inside scope Verbatim ok = ok
 merges_inside scope _ ok = ok
 
 twice : (scope : Scope) → behind (behind scope) ≡ behind scope
-twice scope = ap (λ (kind : Kind). record scope { parent = kind }) (kinds scope.parent)
+twice scope = ap (λ (kind : ElementCategory). record scope { parent = kind }) (kinds scope.parent)
   where
-    kinds : (kind : Kind) → behind_first (behind_first kind) ≡ behind_first kind
+    kinds : (kind : ElementCategory) → behind_first (behind_first kind) ≡ behind_first kind
     kinds Pre = refl
     kinds _ = refl
 

@@ -16,8 +16,8 @@ use Rattle.dom_markup.specs.ValueTrees.ValueTrees.{no_trees, text_node, comment_
 use Rattle.html5_trees.specs.ElementKinds.{kind_of}
 use Rattle.dom_html5.specs.Calm.{admits, are_calm, bars, begins_line, behind, behind_first, behind_text, inside, may_hold_text}
 use Rattle.html5_trees.specs.ElementKinds.{may_hold}
-use Rattle.html5_trees.specs.declared.element_kinds.Kind.{Kind}
-use Rattle.html5_trees.specs.declared.element_kinds.Kind.TheVariants.{Block, Pre}
+use Rattle.html5_trees.specs.declared.element_kinds.ElementCategory.{ElementCategory}
+use Rattle.html5_trees.specs.declared.element_kinds.ElementCategory.TheVariants.{Block, Pre}
 use Rattle.dom_html5.specs.declared.calm.nesting.Scope.{Scope}
 use Rattle.dom_clean.specs.Cleaned.{after_lines, cleaned, followed_by, held_by, left_of, text_or, without_lines}
 use Rattle.dom_clean.specs.Fates.{fate_of, is_dropped, may_stay, place_below, spellable}
@@ -76,16 +76,16 @@ in_pre scope = record scope { parent = Pre }
 abbrev in_block : Scope → Scope
 in_block scope = record scope { parent = Block }
 
-pre-holds : (kind : Kind) → may_hold Block kind ≡ may_hold Pre kind
+pre-holds : (kind : ElementCategory) → may_hold Block kind ≡ may_hold Pre kind
 pre-holds _ = refl
 
-pre-admits : (scope : Scope) (kind : Kind) → admits (in_block scope) kind ≡ admits (in_pre scope) kind
+pre-admits : (scope : Scope) (kind : ElementCategory) → admits (in_block scope) kind ≡ admits (in_pre scope) kind
 pre-admits scope kind = ap (λ b. b && not (bars (in_block scope) kind)) (pre-holds kind) ∙ ap (λ b. may_hold Pre kind && not b) (same-bars kind)
   where
-    same-bars : (kind : Kind) → bars (in_block scope) kind ≡ bars (in_pre scope) kind
+    same-bars : (kind : ElementCategory) → bars (in_block scope) kind ≡ bars (in_pre scope) kind
     same-bars _ = refl
 
-pre-inside : (scope : Scope) (kind : Kind) → inside (in_block scope) kind ≡ inside (in_pre scope) kind
+pre-inside : (scope : Scope) (kind : ElementCategory) → inside (in_block scope) kind ≡ inside (in_pre scope) kind
 pre-inside scope _ = refl
 
 calm-or : (scope : Scope) (left : List ℕ) (later others : ValueTrees) → begins_line left ≡ false → are_calm (in_block scope) later ≡ true → are_calm (in_pre scope) others ≡ true → are_calm (in_pre scope) (text_or left later others) ≡ true
@@ -101,7 +101,7 @@ calm-lines scope (element_node n a children later) p =
     ap (λ b. (b && are_calm (inside (in_pre scope) (kind_of n)) children) && are_calm (in_block scope) later) (sym (pre-admits scope (kind_of n)))
     ∙ ap (λ s. (admits (in_block scope) (kind_of n) && are_calm s children) && are_calm (in_block scope) later) (sym (pre-inside scope (kind_of n))) ∙ p
 
-calm-held : (scope : Scope) (kind : Kind) (below : ValueTrees) → are_calm (behind (inside scope kind)) below ≡ true → are_calm (inside scope kind) (held_by kind below) ≡ true
+calm-held : (scope : Scope) (kind : ElementCategory) (below : ValueTrees) → are_calm (behind (inside scope kind)) below ≡ true → are_calm (inside scope kind) (held_by kind below) ≡ true
 calm-held scope Pre below p = calm-lines scope below p
 calm-held scope _ below p = p
 
@@ -116,7 +116,7 @@ allowed-lines policy (comment_node c later) p = absurd p
 allowed-lines policy (doctype_node n u s later) p = absurd p
 allowed-lines policy (element_node n a children later) p = p
 
-allowed-held : (policy : Policy) (kind : Kind) (below : ValueTrees) → AreAllowed policy below → AreAllowed policy (held_by kind below)
+allowed-held : (policy : Policy) (kind : ElementCategory) (below : ValueTrees) → AreAllowed policy below → AreAllowed policy (held_by kind below)
 allowed-held policy Pre below p = allowed-lines policy below p
 allowed-held policy _ below p = p
 
@@ -125,7 +125,7 @@ record IsHeld (policy : Policy) (scope : Scope) (trees : ValueTrees) : Type 0 wh
   allowed : AreAllowed policy trees
   calm : are_calm scope trees ≡ true
 
-held : (policy : Policy) (scope : Scope) (kind : Kind) (void : Bool) (below : ValueTrees) → AreAllowed policy below → are_calm (behind (inside scope kind)) below ≡ true →
+held : (policy : Policy) (scope : Scope) (kind : ElementCategory) (void : Bool) (below : ValueTrees) → AreAllowed policy below → are_calm (behind (inside scope kind)) below ≡ true →
     IsHeld policy (inside scope kind) (cond void no_trees (held_by kind below))
 held policy scope kind void below p q =
     cond_both void no_trees (held_by kind below) (IsHeld policy (inside scope kind)) (λ _. record { allowed = tt; calm = refl })
@@ -168,9 +168,9 @@ followed : (policy : Policy) (place : Place) (a b : ValueTrees) → IsSettled pl
 followed policy place a b is p q = record { allowed = allowed-followed policy a b p.allowed q.allowed; calm = calm-followed place.scope a b is p.calm q.calm }
 
 settled : (scope : Scope) → IsSettled (behind scope)
-settled scope = ap (λ (kind : Kind). record scope { parent = kind }) (twice scope.parent)
+settled scope = ap (λ (kind : ElementCategory). record scope { parent = kind }) (twice scope.parent)
   where
-    twice : (kind : Kind) → behind_first (behind_first kind) ≡ behind_first kind
+    twice : (kind : ElementCategory) → behind_first (behind_first kind) ≡ behind_first kind
     twice Pre = refl
     twice _ = refl
 

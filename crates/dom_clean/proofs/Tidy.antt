@@ -20,8 +20,8 @@ use Rattle.dom_markup.specs.Plain.{ArePlain, IsPlainIn, IsPlainTrees}
 use Rattle.dom_markup.specs.ValueTrees.{Attribute, ValueTrees}
 use Rattle.dom_markup.specs.ValueTrees.ValueTrees.{no_trees, text_node, comment_node, doctype_node, element_node}
 use Rattle.html5_trees.specs.ElementKinds.{kind_of}
-use Rattle.html5_trees.specs.declared.element_kinds.Kind.{Kind}
-use Rattle.html5_trees.specs.declared.element_kinds.Kind.TheVariants.{Pre}
+use Rattle.html5_trees.specs.declared.element_kinds.ElementCategory.{ElementCategory}
+use Rattle.html5_trees.specs.declared.element_kinds.ElementCategory.TheVariants.{Pre}
 use Rattle.dom_html5.specs.Calm.{admits, behind_text, may_hold_text}
 use Rattle.dom_clean.specs.Cleaned.{after_lines, cleaned, followed_by, held_by, left_of, text_or, without_lines}
 use Rattle.dom_clean.specs.declared.fates.Fate.{Fate}
@@ -150,7 +150,7 @@ tidy_lines (comment_node c later) tidy = absurd tidy
 tidy_lines (doctype_node n u s later) tidy = absurd tidy
 tidy_lines (element_node n a children later) tidy = tidy
 
-tidy_held : (kind : Kind) (ts : ValueTrees) → AreTidy ts → AreTidy (held_by kind ts)
+tidy_held : (kind : ElementCategory) (ts : ValueTrees) → AreTidy ts → AreTidy (held_by kind ts)
 tidy_held Pre ts tidy = tidy_lines ts tidy
 tidy_held _ ts tidy = tidy
 

@@ -25,8 +25,8 @@ use Rattle.dom_clean.specs.Policy.{Policy}
 use Rattle.dom_clean.proofs.Lines.{lines_before_tag, lines_escaped, lines_seen}
 use Rattle.dom_clean.proofs.Spellings.{spellable_utf8}
 use Rattle.html5_trees.specs.ElementKinds.{kind_of}
-use Rattle.html5_trees.specs.declared.element_kinds.Kind.{Kind}
-use Rattle.html5_trees.specs.declared.element_kinds.Kind.TheVariants.{Pre}
+use Rattle.html5_trees.specs.declared.element_kinds.ElementCategory.{ElementCategory}
+use Rattle.html5_trees.specs.declared.element_kinds.ElementCategory.TheVariants.{Pre}
 use Rattle.std.specs.Prelude.{codes}
 use Rattle.std.specs.Str.{IsUtf8}
 use Rattle.dom_clean.specs.Written.{start_of, text_of}
@@ -120,7 +120,7 @@ text-lines (comment_node c later) are = refl
 text-lines (doctype_node n u s later) are = refl
 text-lines (element_node n a children later) are = refl
 
-text-held : (kind : Kind) (ts : ValueTrees) → AreRead ts → text_of (held_by kind ts) ≡ seen (is_pre kind) (text_of ts)
+text-held : (kind : ElementCategory) (ts : ValueTrees) → AreRead ts → text_of (held_by kind ts) ≡ seen (is_pre kind) (text_of ts)
 text-held Pre ts are = text-lines ts are
 text-held _ ts are = refl
 

@@ -11,8 +11,8 @@ use Rattle.dom_markup.specs.Escaping.{escaped_text}
 use Rattle.dom_markup.specs.Html.{closing}
 use Rattle.dom_markup.specs.Names.{void_names}
 use Rattle.html5_trees.specs.ElementKinds.{kind_of}
-use Rattle.html5_trees.specs.declared.element_kinds.Kind.{Kind}
-use Rattle.html5_trees.specs.declared.element_kinds.Kind.TheVariants.{Pre}
+use Rattle.html5_trees.specs.declared.element_kinds.ElementCategory.{ElementCategory}
+use Rattle.html5_trees.specs.declared.element_kinds.ElementCategory.TheVariants.{Pre}
 use Rattle.dom_clean.specs.Cleaned.{after_lines, cleaned}
 use Rattle.dom_clean.specs.Fates.{cleaned_attrs, place_below, spellable}
 use Rattle.dom_clean.specs.Policy.{Policy}
@@ -25,7 +25,7 @@ use Rattle.dom_clean.specs.declared.writer.Entry.TheVariants.{Row, End}
 
 -- ---- the front of a `pre`
 
-abbrev pub is_pre : Kind → Bool
+abbrev pub is_pre : ElementCategory → Bool
 is_pre Pre = true
 is_pre kind = false
 

@@ -11,8 +11,8 @@ use Rattle.dom_markup.specs.Names.{void_names}
 use Rattle.dom_markup.specs.ValueTrees.{ValueTrees}
 use Rattle.dom_markup.specs.ValueTrees.ValueTrees.{no_trees, text_node, comment_node, doctype_node, element_node}
 use Rattle.html5_trees.specs.ElementKinds.{kind_of}
-use Rattle.html5_trees.specs.declared.element_kinds.Kind.{Kind}
-use Rattle.html5_trees.specs.declared.element_kinds.Kind.TheVariants.{Body, Html, Pre}
+use Rattle.html5_trees.specs.declared.element_kinds.ElementCategory.{ElementCategory}
+use Rattle.html5_trees.specs.declared.element_kinds.ElementCategory.TheVariants.{Body, Html, Pre}
 use Rattle.dom_html5.specs.Calm.{behind, behind_text, inside, top}
 use Rattle.dom_clean.specs.Fates.{cleaned_attrs, fate_of, place_below, spellable}
 use Rattle.dom_clean.specs.declared.fates.Fate.{Fate}
@@ -44,7 +44,7 @@ without_lines (text_node contents later) = text_or (after_lines contents) later 
 without_lines trees = trees
 
 -- what an element of that kind is left with: a line feed right behind the tag of a `pre` is none of its text
-abbrev pub held_by : Kind → ValueTrees → ValueTrees
+abbrev pub held_by : ElementCategory → ValueTrees → ValueTrees
 held_by Pre trees = without_lines trees
 held_by kind trees = trees
 

@@ -16,8 +16,8 @@ use Rattle.dom_nodes.specs.declared.node_data.NodeData.TheVariants.{Element as A
 use Rattle.dom_markup.specs.Html.{is_html}
 use Rattle.dom_markup.specs.ValueTrees.{Attribute}
 use Rattle.html5_trees.specs.ElementKinds.{kind_of}
-use Rattle.html5_trees.specs.declared.element_kinds.Kind.{Kind}
-use Rattle.html5_trees.specs.declared.element_kinds.Kind.TheVariants.{Head, Metadata, Verbatim}
+use Rattle.html5_trees.specs.declared.element_kinds.ElementCategory.{ElementCategory}
+use Rattle.html5_trees.specs.declared.element_kinds.ElementCategory.TheVariants.{Head, Metadata, Verbatim}
 use Rattle.dom_html5.specs.Calm.{admits, behind, inside, may_hold_text}
 use Rattle.url.specs.Parser.{Parsed, parse_url}
 use Rattle.url.specs.Parts.{Parts, serialize}
@@ -149,7 +149,7 @@ cleaned_attrs policy element = attrs_behind policy element.name.local [] element
 -- ---- nodes
 
 -- the elements that vanish whatever the policy says: their texts are not for readers
-abbrev pub is_unseen : Kind → Bool
+abbrev pub is_unseen : ElementCategory → Bool
 is_unseen Head = true
 is_unseen Metadata = true
 is_unseen Verbatim = true

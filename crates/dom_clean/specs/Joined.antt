@@ -9,8 +9,8 @@ use Rattle.dom_markup.specs.Plain.{IsPlainName}
 use Rattle.dom_markup.specs.ValueTrees.{Attribute, ValueTrees}
 use Rattle.dom_markup.specs.ValueTrees.ValueTrees.{no_trees, text_node, comment_node, doctype_node, element_node}
 use Rattle.html5_trees.specs.ElementKinds.{kind_of}
-use Rattle.html5_trees.specs.declared.element_kinds.Kind.{Kind}
-use Rattle.html5_trees.specs.declared.element_kinds.Kind.TheVariants.{Verbatim}
+use Rattle.html5_trees.specs.declared.element_kinds.ElementCategory.{ElementCategory}
+use Rattle.html5_trees.specs.declared.element_kinds.ElementCategory.TheVariants.{Verbatim}
 use Rattle.dom_clean.specs.Spelled.{AreSpelled, Front, IsQuietName}
 
 -- a text before trees, joined with a text that they begin with
@@ -27,7 +27,7 @@ joined (doctype_node name public system later) = doctype_node name public system
 joined (element_node name attributes children later) = element_node name attributes (joined children) (joined later)
 
 -- an element that may hold two texts may hold them as one
-abbrev pub merges : Kind → Bool
+abbrev pub merges : ElementCategory → Bool
 merges Verbatim = false
 merges kind = true
 

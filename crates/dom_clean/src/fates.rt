@@ -13,7 +13,7 @@ use dom_html5::{Scope, TOP, holds_text};
 use dom_nodes::fault::OutOfMemory;
 use dom_nodes::name::NamespaceRef;
 use dom_nodes::node_data::{Element, NodeData};
-use html5_trees::Kind;
+use html5_trees::ElementCategory;
 use std::alloc::Global;
 
 /// What becomes of a node.
@@ -40,7 +40,10 @@ pub(crate) fn in_body(lists: &Lists) -> Place
     ensures { result ≡ in_body (policy_of lists.now) }
 {
     Place {
-        scope: TOP.inside(Kind::Html).inside(Kind::Body).behind(),
+        scope: TOP
+            .inside(ElementCategory::Html)
+            .inside(ElementCategory::Body)
+            .behind(),
         left: lists.depth,
     }
 }
@@ -61,17 +64,20 @@ pub(crate) fn fate_of(
     }
 }
 
-fn is_unseen(kind: Kind) -> bool
+fn is_unseen(kind: ElementCategory) -> bool
     ensures { result ≡ is_unseen kind }
 {
-    matches!(kind, Kind::Head | Kind::Metadata | Kind::Verbatim)
+    matches!(
+        kind,
+        ElementCategory::Head | ElementCategory::Metadata | ElementCategory::Verbatim
+    )
 }
 
 fn is_dropped(lists: &Lists, element: &Element) -> bool
     ensures { result ≡ is_dropped (policy_of lists.now) element.now }
 {
     element.template_contents().is_some()
-        || is_unseen(Kind::of(&element.name().local()))
+        || is_unseen(ElementCategory::of(&element.name().local()))
         || is_among(element.node_name(), &lists.dropped)
 }
 
@@ -80,7 +86,9 @@ fn may_stay(lists: &Lists, place: &Place, element: &Element) -> bool
 {
     matches!(element.name().ns(), NamespaceRef::Html)
         && is_among(element.node_name(), &lists.elements)
-        && place.scope.admits(Kind::of(&element.name().local()))
+        && place
+            .scope
+            .admits(ElementCategory::of(&element.name().local()))
         && place.left > 0
 }
 
@@ -113,7 +121,7 @@ pub(crate) fn place_below(place: &Place, element: &Element) -> Place
     Place {
         scope: place
             .scope
-            .inside(Kind::of(&element.name().local()))
+            .inside(ElementCategory::of(&element.name().local()))
             .behind(),
         left: place.left.saturating_sub(1),
     }

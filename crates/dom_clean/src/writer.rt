@@ -33,7 +33,7 @@ use dom_nodes::fault::OutOfMemory;
 use dom_nodes::node_data::{Element, NodeData};
 use dom_nodes::node_id::NodeId;
 use dom_trees::tree::Tree;
-use html5_trees::Kind;
+use html5_trees::ElementCategory;
 use std::alloc::Global;
 use std::marker::Model;
 
@@ -324,7 +324,10 @@ fn push_tag(
 fn is_pre(element: &Element) -> bool
     ensures { result ≡ is_pre (kind_of element.now.name.local) }
 {
-    matches!(Kind::of(&element.name().local()), Kind::Pre)
+    matches!(
+        ElementCategory::of(&element.name().local()),
+        ElementCategory::Pre
+    )
 }
 
 /// Writes a text, without the line feeds at its front where it stands in front of a `pre`.
