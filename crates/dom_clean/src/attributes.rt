@@ -124,7 +124,7 @@ fn push_attr(
 ) -> Result<(), OutOfMemory>
     ensures { OnOk result (string_bytes text.new ≡ string_bytes text.old
         ++ flat_map attribute_text
-        (cleaned_attr (policy_of lists.now) element.now place.0.now place.1.now)) }
+        (cleaned_attr (policy_of lists.now) element.now place.entry.0.now place.entry.1.now)) }
 {
     let (before, attr) = place;
     let local = attr.name.local();
@@ -166,8 +166,8 @@ fn push_allowed(
     text: &mut String,
 ) -> Result<(), OutOfMemory>
     ensures { OnOk result (string_bytes text.new ≡ string_bytes text.old
-        ++ flat_map attribute_text (allowed_attr (policy_of lists.now) names.0.now
-        names.1.now (string_bytes value))) }
+        ++ flat_map attribute_text (allowed_attr (policy_of lists.now) names.entry.0.now
+        names.entry.1.now (string_bytes value))) }
 {
     match cleaned_value(alloc, lists, names.1, value)? {
         Some(value) => push_kept(lists, names, value.as_str(), text),
@@ -183,7 +183,7 @@ fn push_kept(
     text: &mut String,
 ) -> Result<(), OutOfMemory>
     ensures { OnOk result (string_bytes text.new ≡ string_bytes text.old ++ flat_map attribute_text
-        (kept_attr (policy_of lists.now) names.0.now names.1.now (Some value.now))) }
+        (kept_attr (policy_of lists.now) names.entry.0.now names.entry.1.now (Some value.now))) }
 {
     let (element, name) = names;
     if !has_attribute(lists, element, name, value) {

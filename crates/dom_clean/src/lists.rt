@@ -84,7 +84,7 @@ pub(crate) fn push_own(
     value: Option<&str>,
 ) -> Result<(), OutOfMemory>
     ensures { OnOk result (map own_of own.new.items ≡ map own_of own.old.items
-        ++ own_attribute names.0.now names.1.now (option_copied value.entry) ∷ []) }
+        ++ own_attribute names.entry.0.now names.entry.1.now (option_copied value.entry) ∷ []) }
 {
     let mut made = OwnAttribute {
         element: String::from_str(alloc, names.0)?,
