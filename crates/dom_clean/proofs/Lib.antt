@@ -6,6 +6,7 @@ pub mod Left
 pub mod Lines
 pub mod Names
 pub mod Pages
+pub mod Results
 pub mod SafeText
 pub mod SafeValues
 pub mod Schemes

@@ -19,7 +19,7 @@ use Rattle.url.specs.Parts.{Parts}
 use Rattle.dom_clean.specs.Addresses.{scheme_of}
 use Rattle.dom_clean.specs.Fates.{allowed_address, allowed_attr, attrs_behind, cleaned_address, cleaned_attr, cleaned_attrs, cleaned_classes, cleaned_value, has_attribute, is_named, is_nowhere, joined_address, judged, kept_attr, link_rel, prefixed, relative_address, spellable, unless_empty, with_name, with_words}
 use Rattle.dom_clean.specs.Joined.{AreTidyAttributes, IsWritable}
-use Rattle.dom_clean.specs.Policy.{Policy, Relative, address_names, attribute_names, is_class, is_class_byte, is_rel, is_simple, is_simple_byte, is_sound, is_worded, link_names}
+use Rattle.dom_clean.specs.Policy.{Policy, Relative, address_names, attribute_names, is_class, is_class_byte, is_rel, is_simple, is_simple_byte, is_sound, is_word_byte, is_worded, link_names}
 use Rattle.dom_clean.specs.Policy.Relative.{kept, dropped, resolved}
 use Rattle.dom_clean.specs.Spelled.{AreSpelled}
 use Rattle.dom_clean.proofs.Names.{among_passes, simple_name_front, simple_plain}
@@ -77,7 +77,7 @@ written_simple b is = elim (or_cases (nat_lt 96 b && nat_lt b 123) _ is) [
   ]
 ]
 
-written_word : (b : ℕ) → (is_simple_byte b || b == 32) ≡ true → is_written_byte b ≡ true
+written_word : (b : ℕ) → is_word_byte b ≡ true → is_written_byte b ≡ true
 written_word b is = elim (or_cases (is_simple_byte b) (b == 32) is) [
   | inl simple ↦ written_simple b simple
   | inr space ↦ ap is_written_byte (eqb-true b 32 space)
@@ -248,7 +248,7 @@ rel-tidy policy element attrs None sound is = subst AreTidyAttributes (sym (appe
 rel-tidy policy element attrs (Some rel) sound is =
     let test : is_rel policy rel ≡ true = sym (ap (λ o. option_map_or (is_rel policy) o true) is) ∙ (passes policy sound).rel in
     let worded = (and_parts (is_worded rel) (not (is_among (codes "rel") (attribute_names policy))) test).0 in
-    tidy-more (attrs_behind policy element [] attrs) (codes "rel") rel refl (ascii_writable rel (all_stronger (λ b. is_simple_byte b || b == 32) is_written_byte written_word rel worded))
+    tidy-more (attrs_behind policy element [] attrs) (codes "rel") rel refl (ascii_writable rel (all_stronger is_word_byte is_written_byte written_word rel worded))
     (never-behind policy element (codes "rel") [] attrs (λ value has. no_rel policy rel element value sound is has)) (behind-tidy policy element [] attrs sound)
 
 pub attrs_tidy : (policy : Policy) (e : Element) → is_sound policy ≡ true → AreTidyAttributes (cleaned_attrs policy e)

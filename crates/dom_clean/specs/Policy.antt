@@ -105,9 +105,13 @@ may_have name = is_simple name && not (starts_with nat_eq name (codes "on")) && 
 abbrev pub may_lead : List ℕ → Bool
 may_lead scheme = not (is_among scheme refused_schemes)
 
+-- such a byte, or a space
+abbrev pub is_word_byte : ℕ → Bool
+is_word_byte b = is_simple_byte b || b == 32
+
 -- the bytes of a list of words
 abbrev pub is_worded : List ℕ → Bool
-is_worded text = list_all (λ b. is_simple_byte b || b == 32) text
+is_worded text = list_all is_word_byte text
 
 -- the bytes of a class: ASCII without controls and spaces
 abbrev pub is_class_byte : ℕ → Bool

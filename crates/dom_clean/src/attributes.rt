@@ -1,9 +1,10 @@
 //! Writes the start tag of an element that stays.
 
-ghost use Rattle.std.specs.Prelude.{◌≡◌, ◌++◌, IfOk, OnOk, Some, map, string_bytes};
+ghost use Rattle.std.specs.Prelude.{◌≡◌, ◌++◌, [], IfOk, OnOk, Some, map, string_bytes};
 ghost use Rattle.std.specs.List.{flat_map, list_any};
 ghost use Rattle.std.specs.Option.{option_map};
-ghost use Rattle.dom_clean.specs.Fates.{allowed_attr, allows_value, cleaned_attr, cleaned_attrs};
+ghost use Rattle.dom_clean.specs.Fates.{allowed_attr, allows_value, attrs_behind};
+ghost use Rattle.dom_clean.specs.Fates.{cleaned_attr, cleaned_attrs};
 ghost use Rattle.dom_clean.specs.Fates.{cleaned_value, has_attribute, kept_attr};
 ghost use Rattle.dom_clean.specs.Fates.{is_data_name, is_named, is_nowhere, is_own};
 ghost use Rattle.dom_clean.specs.Fates.{link_rel};
@@ -89,14 +90,29 @@ pub(crate) fn push_start(
         ++ start_of element.now.name.local (cleaned_attrs (policy_of lists.now) element.now)) }
 {
     let name = element.node_name();
-    let attrs = element.attrs().as_slice();
     text.push_str("<")?;
     text.push_str(name)?;
-    for at in 0..attrs.len() {
-        push_attr(alloc, lists, name, (&attrs[..at], &attrs[at]), text)?;
-    }
+    push_attrs(alloc, lists, name, element.attrs().as_slice(), text)?;
     push_rel(lists, name, text)?;
     text.push_str(">")?;
+    Ok(())
+}
+
+/// Writes what is left of the attributes of an element of that name.
+fn push_attrs(
+    alloc: Global,
+    lists: &Lists,
+    element: &str,
+    attrs: &[Attr],
+    text: &mut String,
+) -> Result<(), OutOfMemory>
+    ensures { OnOk result (string_bytes text.new ≡ string_bytes text.old
+        ++ flat_map attribute_text
+        (attrs_behind (policy_of lists.now) element.now [] attrs.now)) }
+{
+    for at in 0..attrs.len() {
+        push_attr(alloc, lists, element, (&attrs[..at], &attrs[at]), text)?;
+    }
     Ok(())
 }
 

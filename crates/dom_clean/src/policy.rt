@@ -8,7 +8,7 @@ ghost use Rattle.dom_nodes.specs.Words.{is_among};
 ghost use Rattle.dom_clean.specs.Policies.{policy_of, relative_of};
 ghost use Rattle.dom_clean.specs.Policy.{are_names_sound, attribute_names, is_class, is_class_byte};
 ghost use Rattle.dom_clean.specs.Policy.{is_rel, is_simple};
-ghost use Rattle.dom_clean.specs.Policy.{is_simple_byte, is_sound, is_worded, joins_well};
+ghost use Rattle.dom_clean.specs.Policy.{is_simple_byte, is_sound, is_word_byte, is_worded, joins_well};
 ghost use Rattle.dom_clean.specs.Policy.{keeps_tables, may_have, may_keep, may_lead};
 ghost use Rattle.dom_clean.specs.Policy.{refused_attributes};
 ghost use Rattle.dom_clean.specs.Policy.{refused_schemes, table_parts};
@@ -410,7 +410,13 @@ fn is_simple(name: &str) -> bool
 pub(crate) fn are_simple_bytes(text: &str) -> bool
     ensures { result ≡ list_all is_simple_byte text.now }
 {
-    text.as_bytes().iter().all(|byte| is_simple_byte(*byte))
+    are_simple(text.as_bytes())
+}
+
+fn are_simple(bytes: &[u8]) -> bool
+    ensures { result ≡ list_all is_simple_byte bytes.now }
+{
+    bytes.iter().all(|byte| is_simple_byte(*byte))
 }
 
 fn is_simple_byte(byte: u8) -> bool
@@ -482,11 +488,17 @@ fn has_own(name: &str, names: &[OwnAttribute]) -> bool
 fn is_worded(text: &str) -> bool
     ensures { result ≡ is_worded text.now }
 {
-    text.as_bytes().iter().all(|byte| is_word_byte(*byte))
+    are_word_bytes(text.as_bytes())
+}
+
+fn are_word_bytes(bytes: &[u8]) -> bool
+    ensures { result ≡ list_all is_word_byte bytes.now }
+{
+    bytes.iter().all(|byte| is_word_byte(*byte))
 }
 
 fn is_word_byte(byte: u8) -> bool
-    ensures { result ≡ (is_simple_byte byte || byte == 32) }
+    ensures { result ≡ is_word_byte byte }
 {
     is_simple_byte(byte) || byte == b' '
 }
@@ -517,7 +529,14 @@ fn refused_among_classes(classes: &[String]) -> Option<&String>
 fn is_class(name: &str) -> bool
     ensures { result ≡ is_class name.now }
 {
-    !name.as_bytes().is_empty() && name.as_bytes().iter().all(|byte| is_class_byte(*byte))
+    let bytes = name.as_bytes();
+    !bytes.is_empty() && are_class_bytes(bytes)
+}
+
+fn are_class_bytes(bytes: &[u8]) -> bool
+    ensures { result ≡ list_all is_class_byte bytes.now }
+{
+    bytes.iter().all(|byte| is_class_byte(*byte))
 }
 
 fn is_class_byte(byte: u8) -> bool

@@ -1,5 +1,5 @@
 use Rattle.std.proofs.Common.{◌∙◌, string_bytes}
-use Rattle.std.proofs.lemmas.Result.{on_ok_weaker}
+use Rattle.dom_clean.proofs.Results.{on_ok_both}
 use Rattle.dom_clean.specs.Policies.{policy_of}
 use Rattle.dom_clean.proofs.Writing.{node-written}
 use Rattle.dom_clean.proofs.writer.write_node.Goals as goal
