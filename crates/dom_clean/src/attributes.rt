@@ -170,7 +170,10 @@ fn has_named(attrs: &[Attr], name: &str) -> bool
 fn is_named(attr: &Attr, name: &str) -> bool
     ensures { result ≡ is_named name.now attr.now }
 {
-    is_nowhere(attr) && attr.name.local().as_str() == name
+    if !is_nowhere(attr) {
+        return false;
+    }
+    attr.name.local().as_str() == name
 }
 
 /// Writes what is left of an attribute of these names, of the element and its own.
@@ -212,15 +215,22 @@ fn push_kept(
 fn has_attribute(lists: &Lists, element: &str, name: &str, value: &str) -> bool
     ensures { result ≡ has_attribute (policy_of lists.now) element.now name.now value.now }
 {
-    is_among(name, &lists.attributes)
-        || (lists.data_attributes && is_data_name(name))
-        || has_own(&lists.own_attributes, element, name, value)
+    if is_among(name, &lists.attributes) {
+        return true;
+    }
+    if lists.data_attributes && is_data_name(name) {
+        return true;
+    }
+    has_own(&lists.own_attributes, element, name, value)
 }
 
 fn is_data_name(name: &str) -> bool
     ensures { result ≡ is_data_name name.now }
 {
-    name.as_bytes().starts_with(b"data-") && are_simple_bytes(name)
+    if !name.as_bytes().starts_with(b"data-") {
+        return false;
+    }
+    are_simple_bytes(name)
 }
 
 fn has_own(own: &[OwnAttribute], element: &str, name: &str, value: &str) -> bool
@@ -237,15 +247,22 @@ fn has_own(own: &[OwnAttribute], element: &str, name: &str, value: &str) -> bool
 fn is_own(own: &OwnAttribute, element: &str, name: &str, value: &str) -> bool
     ensures { result ≡ is_own element.now name.now value.now (own_of own.now) }
 {
-    own.element.as_str() == element
-        && own.attribute.as_str() == name
-        && allows_value(&own.values, value)
+    if own.element.as_str() != element {
+        return false;
+    }
+    if own.attribute.as_str() != name {
+        return false;
+    }
+    allows_value(&own.values, value)
 }
 
 fn allows_value(values: &[String], value: &str) -> bool
     ensures { result ≡ allows_value value.now (map string_bytes values.now) }
 {
-    values.is_empty() || is_among(value, values)
+    if values.is_empty() {
+        return true;
+    }
+    is_among(value, values)
 }
 
 /// What is left of the value of an attribute of that name.

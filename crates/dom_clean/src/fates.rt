@@ -6,6 +6,7 @@ ghost use Rattle.dom_clean.specs.Fates.{element_fate, fate_of, text_fate, is_dro
 ghost use Rattle.dom_clean.specs.Policies.{policy_of};
 ghost use Rattle.dom_clean.specs.declared.fates.Fate.TheVariants.{Stays};
 ghost use Rattle.dom_nodes.specs.declared.node_data.NodeData.TheVariants.{Element as AnElement};
+ghost use Rattle.html5_trees.specs.ElementKinds.{kind_of};
 
 use crate::lists::{Lists, is_among};
 use crate::values::spellable;
@@ -73,23 +74,38 @@ fn is_unseen(kind: ElementCategory) -> bool
     )
 }
 
+/// The category of an element, by its name.
+pub(crate) fn category(element: &Element) -> ElementCategory
+    ensures { result ≡ kind_of element.now.name.local }
+{
+    ElementCategory::of(&element.name().local())
+}
+
 fn is_dropped(lists: &Lists, element: &Element) -> bool
     ensures { result ≡ is_dropped (policy_of lists.now) element.now }
 {
-    element.template_contents().is_some()
-        || is_unseen(ElementCategory::of(&element.name().local()))
-        || is_among(element.node_name(), &lists.dropped)
+    if element.template_contents().is_some() {
+        return true;
+    }
+    if is_unseen(category(element)) {
+        return true;
+    }
+    is_among(element.node_name(), &lists.dropped)
 }
 
 fn may_stay(lists: &Lists, place: &Place, element: &Element) -> bool
     ensures { result ≡ may_stay (policy_of lists.now) place.now element.now }
 {
-    matches!(element.name().ns(), NamespaceRef::Html)
-        && is_among(element.node_name(), &lists.elements)
-        && place
-            .scope
-            .admits(ElementCategory::of(&element.name().local()))
-        && place.left > 0
+    if !matches!(element.name().ns(), NamespaceRef::Html) {
+        return false;
+    }
+    if !is_among(element.node_name(), &lists.elements) {
+        return false;
+    }
+    if !place.scope.admits(category(element)) {
+        return false;
+    }
+    place.left > 0
 }
 
 fn text_fate(alloc: Global, place: &Place, contents: &str) -> Result<Fate, OutOfMemory>
@@ -119,10 +135,7 @@ pub(crate) fn place_below(place: &Place, element: &Element) -> Place
     ensures { result ≡ place_below Stays place.now (AnElement element.now) }
 {
     Place {
-        scope: place
-            .scope
-            .inside(ElementCategory::of(&element.name().local()))
-            .behind(),
+        scope: place.scope.inside(category(element)).behind(),
         left: place.left.saturating_sub(1),
     }
 }

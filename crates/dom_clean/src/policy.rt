@@ -375,7 +375,13 @@ fn refused_own(names: &[OwnAttribute]) -> Option<&String>
 fn may_have(name: &str) -> bool
     ensures { result ≡ may_have name.now }
 {
-    is_simple(name) && !name.as_bytes().starts_with(b"on") && !is_refused_attribute(name)
+    if !is_simple(name) {
+        return false;
+    }
+    if name.as_bytes().starts_with(b"on") {
+        return false;
+    }
+    !is_refused_attribute(name)
 }
 
 #[tactic(auto, unfolding(crate::specs::Policy::refused_attributes))]
@@ -404,7 +410,10 @@ fn is_refused_attribute(name: &str) -> bool
 fn is_simple(name: &str) -> bool
     ensures { result ≡ is_simple name.now }
 {
-    !name.as_bytes().is_empty() && are_simple_bytes(name)
+    if name.is_empty() {
+        return false;
+    }
+    are_simple_bytes(name)
 }
 
 pub(crate) fn are_simple_bytes(text: &str) -> bool
@@ -461,16 +470,28 @@ fn is_rel(lists: &Lists) -> bool
         ≡ option_map_or (is_rel (policy_of lists.now)) (policy_of lists.now).rel true }
 {
     match &lists.rel {
-        Some(rel) => is_worded(rel.as_str()) && !has_rel(lists),
+        Some(rel) => is_sole_rel(lists, rel.as_str()),
         None => true,
     }
+}
+
+fn is_sole_rel(lists: &Lists, rel: &str) -> bool
+    ensures { result ≡ is_rel (policy_of lists.now) rel.now }
+{
+    if !is_worded(rel) {
+        return false;
+    }
+    !has_rel(lists)
 }
 
 /// Whether `rel` is an allowed attribute.
 fn has_rel(lists: &Lists) -> bool
     ensures { result ≡ is_among (codes "rel") (attribute_names (policy_of lists.now)) }
 {
-    is_among("rel", &lists.attributes) || has_own("rel", &lists.own_attributes)
+    if is_among("rel", &lists.attributes) {
+        return true;
+    }
+    has_own("rel", &lists.own_attributes)
 }
 
 fn has_own(name: &str, names: &[OwnAttribute]) -> bool
@@ -529,8 +550,10 @@ fn refused_among_classes(classes: &[String]) -> Option<&String>
 fn is_class(name: &str) -> bool
     ensures { result ≡ is_class name.now }
 {
-    let bytes = name.as_bytes();
-    !bytes.is_empty() && are_class_bytes(bytes)
+    if name.is_empty() {
+        return false;
+    }
+    are_class_bytes(name.as_bytes())
 }
 
 fn are_class_bytes(bytes: &[u8]) -> bool

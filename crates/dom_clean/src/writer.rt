@@ -22,7 +22,7 @@ ghost use Rattle.dom_nodes.specs.Words.{is_among};
 ghost use Rattle.html5_trees.specs.ElementKinds.{kind_of};
 
 use crate::attributes::{is_void_name, push_start};
-use crate::fates::{Fate, Place, fate_of, in_body, place_below};
+use crate::fates::{Fate, Place, category, fate_of, in_body, place_below};
 use crate::laws::what_is_left_is_safe;
 use crate::lists::Lists;
 use crate::policy::Policy;
@@ -324,10 +324,7 @@ fn push_tag(
 fn is_pre(element: &Element) -> bool
     ensures { result ≡ is_pre (kind_of element.now.name.local) }
 {
-    matches!(
-        ElementCategory::of(&element.name().local()),
-        ElementCategory::Pre
-    )
+    matches!(category(element), ElementCategory::Pre)
 }
 
 /// Writes a text, without the line feeds at its front where it stands in front of a `pre`.
