@@ -10,8 +10,10 @@ pub mod Results
 pub mod SafeText
 pub mod SafeValues
 pub mod Schemes
+pub mod Searches
 pub mod SoundNames
 pub mod Spellings
+pub mod Splitting
 pub mod Tidy
 pub mod TidyAttrs
 pub mod Trimming

@@ -3,7 +3,7 @@
 ghost use Rattle.std.specs.Prelude.{◌≡◌, ◌≤◌, IfOk, None, Some, if◌then◌else◌, length, map, string_bytes};
 ghost use Rattle.std.specs.Char.{to_ascii_lowercase};
 ghost use Rattle.dom_nodes.specs.Words.{is_among};
-ghost use Rattle.url.specs.Input.{split_once, strip_tabs_and_new_lines};
+ghost use Rattle.url.specs.Input.{is_tab_or_new_line, split_once, strip_tabs_and_new_lines};
 ghost use Rattle.url.specs.Input.{is_c0_control_or_space, trim_c0_control_and_space, trim_end};
 ghost use Rattle.std.specs.List.{prefix_len};
 ghost use Rattle.url.specs.Parser.{split_scheme};
@@ -19,6 +19,7 @@ ghost use Rattle.dom_clean.specs.Policy.Relative.{resolved};
 use crate::lists::{Lists, Relative};
 use crate::values::spellable;
 use dom_nodes::fault::OutOfMemory;
+use dom_nodes::words::is_same_word;
 use memchr::memchr;
 use std::alloc::Global;
 use url::{ParseError, Url};
@@ -54,7 +55,7 @@ fn has_scheme(schemes: &[String], scheme: &[u8]) -> bool
     ensures { result ≡ is_among scheme.now (map string_bytes schemes.now) }
 {
     for one in schemes {
-        if one.as_bytes() == scheme {
+        if is_same_word(one.as_bytes(), scheme) {
             return true;
         }
     }
@@ -170,11 +171,17 @@ fn stripped(alloc: Global, bytes: &[u8]) -> Result<Vec<u8>, OutOfMemory>
 {
     let mut made = Vec::new(alloc);
     for byte in bytes {
-        if !matches!(*byte, b'\t' | b'\n' | b'\r') {
+        if !is_tab_or_new_line(*byte) {
             made.push(*byte)?;
         }
     }
     Ok(made)
+}
+
+fn is_tab_or_new_line(byte: u8) -> bool
+    ensures { result ≡ is_tab_or_new_line byte }
+{
+    matches!(byte, b'\t' | b'\n' | b'\r')
 }
 
 /// The bytes before the first of these, or all.
@@ -192,14 +199,14 @@ fn scheme_in(bytes: &[u8]) -> Option<&[u8]>
     ensures { option_map (λ scheme. scheme.now) result
         ≡ option_map (λ split. split.0) (split_scheme bytes.now) }
 {
-    let length = scheme_len(bytes);
-    if length == 0 {
+    let count = scheme_len(bytes);
+    if count == 0 || count >= bytes.len() {
         return None;
     }
-    match bytes.get(length) {
-        Some(b':') => Some(&bytes[..length]),
-        _ => None,
+    if bytes[count] != b':' {
+        return None;
     }
+    Some(&bytes[..count])
 }
 
 /// How many bytes at the front make a scheme.
@@ -207,10 +214,13 @@ fn scheme_len(bytes: &[u8]) -> usize
     ensures value { result ≡ scheme_len bytes.now }
     ensures within { result ≤ length bytes.now }
 {
-    match bytes.first() {
-        Some(first) if first.is_ascii_alphabetic() => scheme_bytes(bytes),
-        _ => 0,
+    if bytes.is_empty() {
+        return 0;
     }
+    if !bytes[0].is_ascii_alphabetic() {
+        return 0;
+    }
+    scheme_bytes(bytes)
 }
 
 fn scheme_bytes(bytes: &[u8]) -> usize
@@ -228,7 +238,10 @@ fn scheme_bytes(bytes: &[u8]) -> usize
 fn is_scheme_byte(byte: u8) -> bool
     ensures { result ≡ is_scheme_byte byte }
 {
-    byte.is_ascii_alphanumeric() || byte == b'+' || byte == b'-' || byte == b'.'
+    if byte.is_ascii_alphanumeric() {
+        return true;
+    }
+    matches!(byte, b'+' | b'-' | b'.')
 }
 
 /// The bytes of a scheme in lower case.
