@@ -139,9 +139,10 @@ fn joined_words(alloc: Global, classes: &[String], value: &str) -> Result<String
 {
     let mut made = String::new(alloc);
     for word in value.split_ascii_whitespace() {
-        if is_among(word, classes) {
-            push_word(&mut made, word)?;
+        if !is_among(word, classes) {
+            continue;
         }
+        push_word(&mut made, word)?;
     }
     Ok(made)
 }
