@@ -1,9 +1,9 @@
 -- Attributes that are written one after another.
-use Rattle.std.proofs.Common.{ℕ, ◌≡◌, ◌+◌, ◌<◌, List, [], ◌∷◌, ◌++◌, refl, sym, ap, ◌∙◌, arith, append_assoc, append-nil, drop, get_or, length, take}
+use Rattle.std.proofs.Common.{ℕ, ◌≡◌, ◌+◌, ◌<◌, ◌≤◌, List, [], ◌∷◌, ◌++◌, refl, sym, ap, ◌∙◌, arith, append_assoc, append-nil, drop, get_or, length, take}
 use Rattle.std.specs.Prelude.{codes}
 use Rattle.std.specs.List.{flat_map}
 use Rattle.std.proofs.lemmas.Grind.{flat_map-append}
-use Rattle.std.proofs.lemmas.List.{drop_more, take_more}
+use Rattle.std.proofs.lemmas.List.{drop_all, drop_more, take_more}
 use Rattle.dom_nodes.specs.declared.name.Attr.{Attr}
 use Rattle.dom_nodes.specs.Elements.{Element}
 use Rattle.dom_markup.specs.ValueTrees.{Attribute}
@@ -30,3 +30,7 @@ step policy element attrs at d before attr text now whole h before_is attr_is no
     ∙ flat_map-append attribute_text (cleaned_attr policy element (take at attrs) (get_or attrs at d)) rest in
     ap (λ t. t ++ texts rest) (now_is ∙ ap (λ b. text ++ texts (cleaned_attr policy element b attr)) before_is ∙ ap (λ a. text ++ texts (cleaned_attr policy element (take at attrs) a)) attr_is)
     ∙ append_assoc text mine (texts rest) ∙ ap (λ t. text ++ t) (sym cut) ∙ is
+
+-- behind all of them nothing is
+pub left_none : (policy : Policy) (element : List ℕ) (attrs : List Attr) (at : ℕ) → length attrs ≤ at → left_at policy element attrs at ≡ []
+left_none policy element attrs at all = ap (λ l. texts (attrs_behind policy element (take at attrs) l)) (drop_all at attrs all)

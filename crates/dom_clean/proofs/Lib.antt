@@ -5,10 +5,12 @@ pub mod CalmText
 pub mod Left
 pub mod Lines
 pub mod Names
+pub mod Owns
 pub mod Pages
 pub mod Results
 pub mod SafeText
 pub mod SafeValues
+pub mod SchemeBytes
 pub mod Schemes
 pub mod Searches
 pub mod SoundNames

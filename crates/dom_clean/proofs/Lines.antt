@@ -9,6 +9,7 @@ use Rattle.std.proofs.lemmas.Str.{chars-encodes, encode_ascii, encode_same, enco
 use Rattle.dom_nodes.specs.Escaping.{spaced_char}
 use Rattle.dom_markup.specs.Escaping.{escaped_text, lacks, text_char}
 use Rattle.dom_markup.proofs.html.InertLemmas.{encode_lacks}
+use Rattle.dom_html5.specs.Calm.{begins_line}
 use Rattle.dom_clean.specs.Ahead.{is_nil, seen}
 use Rattle.dom_clean.specs.Cleaned.{after_lines}
 use Rattle.dom_clean.specs.Joined.{IsWritable}
@@ -139,3 +140,8 @@ after_lines_writable text is =
     let scalar_left = drop_scalars cs (scalars-chars text is.utf8) in
     let inner : chars (after_lines text) ≡ left = ap chars made ∙ chars-encodes left scalar_left in
     record { utf8 = (left, (scalar_left, sym made)); spelled = subst AreSpelled (sym inner) (spelled_lines cs is.spelled) }
+
+-- a text that begins with none stays as it is
+pub lines_stay : (text : List ℕ) → begins_line text ≡ false → after_lines text ≡ text
+lines_stay [] isnt = refl
+lines_stay (b ∷ text) isnt = ap (λ t. cond t (after_lines text) (b ∷ text)) isnt

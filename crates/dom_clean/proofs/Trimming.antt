@@ -41,3 +41,6 @@ end_stays bytes b isnt =
     let all = bytes ++ b ∷ [] in
     let count : suffix_len is_c0_control_or_space all ≡ 0 = behind bytes b ∙ ap (λ t. cond t (1 + suffix_len is_c0_control_or_space bytes) 0) isnt in
     take_all (length all - suffix_len is_c0_control_or_space all) all (omega (arith, count))
+
+pub end_none : trim_end is_c0_control_or_space [] ≡ []
+end_none = refl

@@ -171,9 +171,10 @@ fn stripped(alloc: Global, bytes: &[u8]) -> Result<Vec<u8>, OutOfMemory>
 {
     let mut made = Vec::new(alloc);
     for byte in bytes {
-        if !is_tab_or_new_line(*byte) {
-            made.push(*byte)?;
+        if is_tab_or_new_line(*byte) {
+            continue;
         }
+        made.push(*byte)?;
     }
     Ok(made)
 }
@@ -200,7 +201,10 @@ fn scheme_in(bytes: &[u8]) -> Option<&[u8]>
         ≡ option_map (λ split. split.0) (split_scheme bytes.now) }
 {
     let count = scheme_len(bytes);
-    if count == 0 || count >= bytes.len() {
+    if count == 0 {
+        return None;
+    }
+    if count >= bytes.len() {
         return None;
     }
     if bytes[count] != b':' {

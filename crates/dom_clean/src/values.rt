@@ -1,9 +1,12 @@
 //! Texts and values as a page can have them.
 
-ghost use Rattle.std.specs.Prelude.{◌≡◌, ◌++◌, [], IfOk, OnOk, Some, filter, map, string_bytes};
+ghost use Rattle.std.specs.Prelude.{◌≡◌, ◌++◌, ◌∷◌, [], IfOk, MatchOption, OnOk, Some, false};
+ghost use Rattle.std.specs.Prelude.{filter, map, string_bytes};
 ghost use Rattle.std.specs.Option.{option_map};
 ghost use Rattle.dom_clean.specs.Fates.{cleaned_classes, prefixed, spellable, spelled_char};
 ghost use Rattle.dom_clean.specs.Fates.{unless_empty, with_words};
+ghost use Rattle.dom_html5.specs.Calm.{begins_line};
+ghost use Rattle.dom_nodes.specs.Ascii.{line_feed};
 ghost use Rattle.dom_nodes.specs.Classes.{with_word};
 ghost use Rattle.dom_nodes.specs.Words.{is_among, words_of};
 ghost use Rattle.dom_clean.specs.Cleaned.{after_lines};
@@ -85,10 +88,24 @@ pub(crate) fn after_lines(text: &str) -> &str
     ensures { result.now ≡ after_lines text.now }
 {
     let mut rest = text;
-    while rest.as_bytes().first() == Some(&b'\n') {
-        rest = &rest[1..];
+    while let Some(later) = strip_line(rest) {
+        rest = later;
     }
     rest
+}
+
+/// The text behind a line feed, if it begins with one.
+fn strip_line(text: &str) -> Option<&str>
+    ensures { MatchOption result (begins_line text.now ≡ false)
+        (λ rest. text.now ≡ line_feed ∷ rest.now) }
+{
+    let Some((first, _)) = text.as_bytes().split_first() else {
+        return None;
+    };
+    if *first != b'\n' {
+        return None;
+    }
+    Some(&text[1..])
 }
 
 /// The classes of a value that are allowed.
