@@ -15,7 +15,7 @@ use Rattle.html5_trees.specs.Framed.{IsFramed}
 use Rattle.dom_html5.specs.Calm.{IsCalmDocument, IsCalmPage, are_calm, is_calm_text, top}
 use Rattle.dom_clean.specs.Cleaned.{cleaned, cleaned_below, in_body}
 use Rattle.dom_clean.specs.Joined.{AreTidy, joined, with_text}
-use Rattle.dom_clean.specs.Laws.{AreAllowed, CleansSafely, IsSafe, page_around, page_of}
+use Rattle.dom_clean.specs.Laws.{AreAllowed, CleansSafely, IsSafe, left_below, page_around, page_of}
 use Rattle.dom_clean.specs.Policy.{Policy, is_sound}
 use Rattle.dom_clean.specs.SafeText.{text_by}
 use Rattle.dom_clean.specs.Spelled.{Front, IsSpellable}
@@ -139,3 +139,7 @@ safe policy sound forest n =
         document = page_document policy body (calm_joined (in_body policy).scope ts tidy refl is.calm);
       };
     }
+
+-- the text of what is left is safe
+pub safe_text : (policy : Policy) → is_sound policy ≡ true → (forest : Forest) (n : ℕ) (text : List ℕ) → text ≡ text_of (cleaned_below policy forest n) → IsSafe policy text (left_below policy forest n)
+safe_text policy sound forest n text is = subst (λ (t : List ℕ). IsSafe policy t (left_below policy forest n)) (sym is) (safe policy sound forest n)

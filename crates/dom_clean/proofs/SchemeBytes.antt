@@ -29,10 +29,10 @@ never false = refl
 
 -- the scheme that was split off
 abbrev pub front_scheme : List ℕ → Option (List ℕ)
-front_scheme bytes = option_map (λ split. split.0) (split_scheme bytes)
+front_scheme bytes = option_map (λ (split : List ℕ × List ℕ). split.0) (split_scheme bytes)
 
 abbrev fronted : List ℕ → Bool → Option (List ℕ)
-fronted bytes is = option_map (λ split. split.0) (cond is (Some (take (scheme_len bytes) bytes, drop (scheme_len bytes + 1) bytes)) None)
+fronted bytes is = option_map (λ (split : List ℕ × List ℕ). split.0) (cond is (Some (take (scheme_len bytes) bytes, drop (scheme_len bytes + 1) bytes)) None)
 
 pub without_length : (bytes : List ℕ) → scheme_len bytes ≡ 0 → front_scheme bytes ≡ None
 unfolding split_scheme

@@ -10,7 +10,6 @@ ghost use Rattle.dom_html5.specs.Calm.{IsCalmPage};
 ghost use Rattle.dom_markup.specs.Numbered.{document_of};
 ghost use Rattle.dom_markup.specs.ValueTrees.{ValueTrees};
 
-use crate::laws::what_is_left_is_safe;
 use crate::policy::Policy;
 use crate::writer::clean_below;
 use dom_html5::{Context, Options, PageFault, parse_page, parse_page_fragment, read_calm};
@@ -69,7 +68,6 @@ fn clean_node(tree: &Tree, id: NodeId, policy: &Policy) -> Result<String, PageFa
         ≡ text_of (cleaned_below policy.now tree.now id)) }
     ensures safe { IfOk result (λ text. IsSafeText policy.now (string_bytes text)) }
 {
-    what_is_left_is_safe();
     Ok(clean_below(tree, &id, policy.lists())?)
 }
 

@@ -23,7 +23,6 @@ ghost use Rattle.html5_trees.specs.ElementKinds.{kind_of};
 
 use crate::attributes::{is_void_name, push_start};
 use crate::fates::{Fate, Place, category, fate_of, in_body, place_below};
-use crate::laws::what_is_left_is_safe;
 use crate::lists::Lists;
 use crate::policy::Policy;
 use crate::values::{after_lines, push_text, spellable};
@@ -103,7 +102,6 @@ pub fn clean_tree(tree: &Tree, policy: &Policy) -> Result<String, OutOfMemory>
     ensures safe { IfOk result (λ text. IsSafe policy.now (string_bytes text)
         (left_below policy.now tree.now 0)) }
 {
-    what_is_left_is_safe();
     clean_below(tree, &tree.root_id(), policy.lists())
 }
 

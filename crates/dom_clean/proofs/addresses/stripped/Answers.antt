@@ -22,7 +22,7 @@ loop-byte-preserved c =
     let before = filter stays (take at bytes) in
     let more : filter stays (take (at + 1) bytes) ≡ before ++ b ∷ [] =
     filter_more stays bytes at 0 (omega arith) ∙ ap (λ t. before ++ cond (not t) (b ∷ []) []) (sym c.is_tab_or_new_line.ensures ∙ c.if-is_tab_or_new_line.false) in
-    ?
+    c.in_ok-push.ensures.items ∙ ap (λ kept. kept ++ b ∷ []) c.loop-byte.invariant ∙ sym more
 
 pub returns : goal.returns
 unfolding strip_tabs_and_new_lines

@@ -8,16 +8,16 @@ use Rattle.dom_clean.proofs.addresses.trimmed.Goals as goal
 pub loop-first-preserved : goal.loop-first-preserved
 loop-first-preserved c =
     let goes : is_c0_control_or_space c.in-Some.first.now ≡ true = grind (arith, nat_tests) in
-    sym (front_goes c.in-Some.first.now c.in-Some.later.now goes) ∙ ap trim_c0_control_and_space (sym c.in-Some.ensures.cases) ∙ c.loop-first.invariant
+    sym (front_goes c.in-Some.first.now c.in-Some.later.now goes) ∙ ap trim_c0_control_and_space (sym c.in-Some.ensures.cases.0) ∙ c.loop-first.invariant
 
 pub loop-first-smaller : goal.loop-first-smaller
-loop-first-smaller c = omega (arith, ap length c.in-Some.ensures.cases)
+loop-first-smaller c = omega (arith, c.in-Some.ensures.cases.1)
 
 pub returns-then-first-gt32 : goal.returns-then-first-gt32
 returns-then-first-gt32 c =
     let stays : is_c0_control_or_space c.in-Some.first.now ≡ false = grind (arith, nat_tests) in
-    c.trimmed_end.ensures ∙ ap (trim_end is_c0_control_or_space) c.in-Some.ensures.cases ∙ sym (front_stays c.in-Some.first.now c.in-Some.later.now stays)
-    ∙ ap trim_c0_control_and_space (sym c.in-Some.ensures.cases) ∙ c.loop-first.invariant
+    c.trimmed_end.ensures ∙ ap (trim_end is_c0_control_or_space) c.in-Some.ensures.cases.0 ∙ sym (front_stays c.in-Some.first.now c.in-Some.later.now stays)
+    ∙ ap trim_c0_control_and_space (sym c.in-Some.ensures.cases.0) ∙ c.loop-first.invariant
 
 pub returns : goal.returns
 returns c =

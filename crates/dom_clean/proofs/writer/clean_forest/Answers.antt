@@ -10,4 +10,4 @@ loop-entry-init c =
     let P = policy_of c.args.lists.now in
     let start = starts P forest (c.trees_of_a_forest.ensures forest c.requires) (c.lines_of_a_forest.ensures forest c.requires) c.first_below-first.result c.args.id.now c.in_body.result c.new-ahead.result c.push_row.new.ahead
     c.first_below-first.ensures c.in_body.ensures c.new-ahead.ensures c.in_ok-push_row.ensures in
-    record { known = start.0; whole = ap (λ t. t ++ ahead_text P forest c.push_row.new.ahead) c.new-text.ensures.bytes ∙ start.1 }
+    record { known = start.0; whole = ap (λ t. t ++ ahead_text P forest c.push_row.new.ahead) c.new.ensures.bytes ∙ start.1 }
