@@ -1,9 +1,9 @@
 -- What is left of attributes is allowed, and their addresses lead well.
 use Rattle.std.proofs.Common.{◌≡◌, ℕ, true, false, ◌&&◌, not, List, [], ◌∷◌, ◌++◌, Some, None, Ok, Err, refl, sym, ap, ◌∙◌, subst, inl, inr}
-use Rattle.std.specs.Prelude.{Option, IfOk, IfSome, MatchOption, bytes_eq, codes}
+use Rattle.std.specs.Prelude.{Option, IfOk, IfSome, MatchOption, codes}
 use Rattle.std.specs.List.{list_any}
 use Rattle.std.specs.Option.{option_and_then, option_map}
-use Rattle.std.proofs.lemmas.Bool.{cond_both, and_parts, true≢false}
+use Rattle.std.proofs.lemmas.Bool.{cond_both, true≢false}
 use Rattle.dom_nodes.specs.Elements.{Element}
 use Rattle.dom_nodes.specs.Words.{is_among}
 use Rattle.dom_nodes.specs.declared.name.Attr.{Attr}

@@ -1,15 +1,13 @@
 -- Attributes that are written one after another.
-use Rattle.std.proofs.Common.{ℕ, ◌≡◌, ◌+◌, ◌<◌, ◌≤◌, List, [], ◌∷◌, ◌++◌, refl, sym, ap, ◌∙◌, arith, append_assoc, append-nil, drop, get_or, length, take}
-use Rattle.std.specs.Prelude.{codes}
+use Rattle.std.proofs.Common.{ℕ, ◌≡◌, ◌+◌, ◌<◌, ◌≤◌, List, [], ◌++◌, sym, ap, ◌∙◌, append_assoc, drop, get_or, length, take}
 use Rattle.std.specs.List.{flat_map}
 use Rattle.std.proofs.lemmas.Grind.{flat_map-append}
 use Rattle.std.proofs.lemmas.List.{drop_all, drop_more, take_more}
 use Rattle.dom_nodes.specs.declared.name.Attr.{Attr}
-use Rattle.dom_nodes.specs.Elements.{Element}
 use Rattle.dom_markup.specs.ValueTrees.{Attribute}
-use Rattle.dom_clean.specs.Fates.{attrs_behind, cleaned_attr, cleaned_attrs, link_rel}
+use Rattle.dom_clean.specs.Fates.{attrs_behind, cleaned_attr}
 use Rattle.dom_clean.specs.Policy.{Policy}
-use Rattle.dom_clean.specs.Written.{attribute_text, start_of}
+use Rattle.dom_clean.specs.Written.{attribute_text}
 
 abbrev pub texts : List Attribute → List ℕ
 texts attributes = flat_map attribute_text attributes

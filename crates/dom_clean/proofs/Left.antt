@@ -7,7 +7,6 @@ use Rattle.dom_nodes.specs.Elements.{Element}
 use Rattle.dom_nodes.specs.Words.{is_among}
 use Rattle.dom_nodes.specs.declared.node_data.NodeData.{NodeData}
 use Rattle.dom_nodes.specs.declared.node_data.NodeData.TheVariants.{Document, Fragment, Doctype, Text, Comment, ProcessingInstruction, Element as AnElement}
-use Rattle.dom_links.specs.Forest.{Forest}
 use Rattle.dom_links.specs.Trees.{NoTrees, Tree}
 use Rattle.dom_markup.specs.Names.{void_names}
 use Rattle.dom_markup.specs.Html.{is_html}

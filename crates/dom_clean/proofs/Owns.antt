@@ -1,5 +1,5 @@
 -- The attributes of single elements, as rules list them and as a policy does.
-use Rattle.std.proofs.Common.{◌≡◌, List, ℕ, [], ◌∷◌, map, string_bytes, refl, ap}
+use Rattle.std.proofs.Common.{◌≡◌, List, [], ◌∷◌, map, string_bytes, refl, ap}
 use Rattle.dom_clean.specs.Policies.{own_of}
 use Rattle.dom_clean.specs.Policy.{OwnAttribute}
 use Rattle.dom_clean.specs.declared.lists.OwnAttribute.{OwnAttribute as OwnLists}

@@ -1,5 +1,5 @@
 -- The page around a text that was cleaned.
-use Rattle.std.proofs.Common.{◌≡◌, ◌≤◌, ◌+◌, ◌-◌, ◌&&◌, ℕ, Bool, true, false, List, [], ◌∷◌, ◌++◌, length, map, drop, take, refl, sym, ap, ◌∙◌, subst, arith, append-nil, append_assoc, length-append}
+use Rattle.std.proofs.Common.{◌≡◌, ◌+◌, ◌-◌, ◌&&◌, ℕ, Bool, true, false, List, [], ◌++◌, length, map, drop, refl, sym, ap, ◌∙◌, subst, arith, append-nil, append_assoc, length-append}
 use Rattle.std.specs.Prelude.{codes}
 use Rattle.std.specs.Char.{to_ascii_lowercase}
 use Rattle.std.proofs.Math.Seq.{drop-append_seam}
@@ -12,8 +12,8 @@ use Rattle.dom_markup.specs.ValueTrees.{ValueTrees}
 use Rattle.dom_markup.specs.ValueTrees.ValueTrees.{no_trees, text_node, comment_node, doctype_node, element_node}
 use Rattle.html5_trees.specs.ElementKinds.{kind_of, names_of}
 use Rattle.html5_trees.specs.Framed.{IsFramed}
-use Rattle.dom_html5.specs.Calm.{IsCalmDocument, IsCalmPage, are_calm, is_calm_text, top}
-use Rattle.dom_clean.specs.Cleaned.{cleaned, cleaned_below, in_body}
+use Rattle.dom_html5.specs.Calm.{IsCalmDocument, are_calm, is_calm_text}
+use Rattle.dom_clean.specs.Cleaned.{cleaned_below, in_body}
 use Rattle.dom_clean.specs.Joined.{AreTidy, joined, with_text}
 use Rattle.dom_clean.specs.Laws.{AreAllowed, CleansSafely, IsSafe, left_below, page_around, page_of}
 use Rattle.dom_clean.specs.Policy.{Policy, is_sound}

@@ -1,5 +1,5 @@
 -- What is left of trees can be written, and so can it where texts side by side are one.
-use Rattle.std.proofs.Common.{◌≡◌, ◌≢◌, ℕ, Bool, true, false, ◌&&◌, cond, List, [], ◌∷◌, ◌++◌, Some, None, refl, sym, ap, subst, ◌∙◌, append_assoc, slice_get}
+use Rattle.std.proofs.Common.{◌≡◌, ◌≢◌, ℕ, Bool, true, false, ◌&&◌, cond, List, [], ◌∷◌, ◌++◌, Some, None, refl, ap, ◌∙◌, append_assoc, slice_get}
 use Rattle.std.specs.Prelude.{Option, nat_lt}
 use Rattle.std.specs.List.{flat_map}
 use Rattle.std.specs.Option.{option_map_or}
@@ -15,7 +15,7 @@ use Rattle.dom_links.specs.Forest.{Forest}
 use Rattle.dom_links.specs.Trees.{Trees, NoTrees, Tree}
 use Rattle.dom_markup.specs.Escaping.{escaped_text, text_char}
 use Rattle.dom_markup.specs.Html.{end_tag, is_html}
-use Rattle.dom_markup.specs.Names.{mode_in, raw_names, void_names}
+use Rattle.dom_markup.specs.Names.{mode_in, void_names}
 use Rattle.dom_markup.specs.Plain.{ArePlain, IsPlainIn, IsPlainTrees}
 use Rattle.dom_markup.specs.ValueTrees.{Attribute, ValueTrees}
 use Rattle.dom_markup.specs.ValueTrees.ValueTrees.{no_trees, text_node, comment_node, doctype_node, element_node}
@@ -27,11 +27,11 @@ use Rattle.dom_clean.specs.Cleaned.{after_lines, cleaned, followed_by, held_by, 
 use Rattle.dom_clean.specs.declared.fates.Fate.{Fate}
 use Rattle.dom_clean.specs.declared.fates.Place.{Place}
 use Rattle.dom_clean.specs.declared.fates.Fate.TheVariants.{Stays, Unwrapped, Vanishes}
-use Rattle.dom_clean.specs.Fates.{cleaned_attrs, fate_of, is_dropped, may_stay, place_below, spellable}
+use Rattle.dom_clean.specs.Fates.{fate_of, is_dropped, may_stay, place_below, spellable}
 use Rattle.dom_clean.specs.Joined.{AreTidy, AreTidyAttributes, IsMarkupName, IsWritable, joined, with_text}
 use Rattle.dom_clean.specs.Policy.{Policy, is_sound}
 use Rattle.dom_clean.specs.SafeText.{text_by}
-use Rattle.dom_clean.specs.Spelled.{AreQuiet, AreSpelled, IsQuietName, IsSpellable}
+use Rattle.dom_clean.specs.Spelled.{AreQuiet, IsSpellable}
 use Rattle.dom_clean.specs.Written.{start_of, text_of}
 use Rattle.dom_clean.proofs.Lines.{after_lines_writable}
 use Rattle.dom_clean.proofs.TidyAttrs.{attrs_tidy, spellable_writable}

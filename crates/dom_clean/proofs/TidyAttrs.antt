@@ -1,9 +1,9 @@
 -- What is left of attributes can be written.
-use Rattle.std.proofs.Common.{◌≡◌, ◌==◌, ◌<◌, ℕ, zero, suc, Bool, true, false, ◌&&◌, ◌||◌, not, cond, List, [], ◌∷◌, ◌++◌, filter, slice_index, Option, Some, None, Ok, Err, refl, sym, ap, ◌∙◌, subst, arith, inl, inr, append-nil}
+use Rattle.std.proofs.Common.{◌≡◌, ◌==◌, ◌<◌, ℕ, zero, suc, Bool, true, false, ◌&&◌, ◌||◌, not, List, [], ◌∷◌, ◌++◌, filter, slice_index, Option, Some, None, refl, sym, ap, ◌∙◌, subst, arith, inl, inr, append-nil}
 use Rattle.std.specs.Prelude.{codes, IfSome, nat_eq, nat_lt}
-use Rattle.std.specs.List.{flat_map, list_all, list_any, starts_with}
+use Rattle.std.specs.List.{list_all, list_any, starts_with}
 use Rattle.std.specs.Option.{option_and_then, option_map, option_map_or}
-use Rattle.std.specs.Str.{bytes_eq, chars}
+use Rattle.std.specs.Str.{bytes_eq}
 use Rattle.std.proofs.lemmas.Bool.{and_from, and_parts, cases_Bool, cond_both, eqb-true, lt-ltb, ltb-true, ne_eqb, not-true, or_cases, or_from, or_left, or_parts, or_right, true≢false}
 use Rattle.std.proofs.lemmas.List.Folds.{list_all-append, list_any-append}
 use Rattle.std.proofs.lemmas.Slice.Eq.{bytes_eq-Decides}
@@ -14,10 +14,9 @@ use Rattle.dom_nodes.specs.Words.{is_among, words_of}
 use Rattle.dom_nodes.specs.declared.name.Attr.{Attr}
 use Rattle.dom_markup.specs.Markup.{has_name}
 use Rattle.dom_markup.specs.ValueTrees.{Attribute}
-use Rattle.url.specs.Parser.{Parsed, parse_url}
-use Rattle.url.specs.Parts.{Parts}
+use Rattle.url.specs.Parser.{parse_url}
 use Rattle.dom_clean.specs.Addresses.{scheme_of}
-use Rattle.dom_clean.specs.Fates.{allowed_address, allowed_attr, attrs_behind, cleaned_address, cleaned_attr, cleaned_attrs, cleaned_classes, cleaned_value, has_attribute, is_named, is_nowhere, joined_address, judged, kept_attr, link_rel, prefixed, relative_address, spellable, unless_empty, with_name, with_words}
+use Rattle.dom_clean.specs.Fates.{allowed_address, allowed_attr, attrs_behind, cleaned_address, cleaned_attr, cleaned_attrs, cleaned_classes, cleaned_value, has_attribute, is_named, is_nowhere, joined_address, judged, kept_attr, prefixed, relative_address, spellable, unless_empty, with_name, with_words}
 use Rattle.dom_clean.specs.Joined.{AreTidyAttributes, IsWritable}
 use Rattle.dom_clean.specs.Policy.{Policy, Relative, address_names, attribute_names, is_class, is_class_byte, is_rel, is_simple, is_simple_byte, is_sound, is_word_byte, is_worded, link_names}
 use Rattle.dom_clean.specs.Policy.Relative.{kept, dropped, resolved}

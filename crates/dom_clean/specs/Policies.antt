@@ -1,5 +1,5 @@
 -- The policy that rules say.
-use Rattle.std.specs.Prelude.{ℕ, List, map, string_bytes}
+use Rattle.std.specs.Prelude.{map, string_bytes}
 use Rattle.std.specs.Option.{option_map}
 use Rattle.dom_clean.specs.Policy.{OwnAttribute, Policy, Relative}
 use Rattle.dom_clean.specs.Policy.Relative.{kept, dropped, resolved}

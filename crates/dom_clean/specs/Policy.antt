@@ -1,6 +1,6 @@
 -- What a policy allows, and which policies can be kept safely.
-use Rattle.std.specs.Prelude.{◌&&◌, ◌||◌, ◌==◌, ℕ, Bool, true, false, not, nat_eq, nat_le, nat_lt, List, [], ◌∷◌, ◌++◌, map, Option, None, codes, if◌then◌else◌}
-use Rattle.std.specs.List.{list_all, list_any, starts_with}
+use Rattle.std.specs.Prelude.{◌&&◌, ◌||◌, ◌==◌, ℕ, Bool, true, false, not, nat_eq, nat_le, nat_lt, List, [], ◌∷◌, ◌++◌, map, Option, None, codes}
+use Rattle.std.specs.List.{list_all, starts_with}
 use Rattle.std.specs.Option.{option_map_or}
 use Rattle.dom_nodes.specs.Words.{is_among}
 use Rattle.url.specs.Parts.{Parts}

@@ -1,6 +1,7 @@
-//! The scheme in front of an address, as the URL Standard finds it, and what becomes of addresses.
+//! What becomes of addresses, judged by the scheme that the URL Standard finds in front of them.
 
-ghost use Rattle.std.specs.Prelude.{◌≡◌, ◌≤◌, IfOk, None, Some, if◌then◌else◌, length, map, string_bytes};
+ghost use Rattle.std.specs.Prelude.{◌≡◌, ◌≤◌, IfOk, None, Some, if◌then◌else◌};
+ghost use Rattle.std.specs.Prelude.{length, map, string_bytes};
 ghost use Rattle.std.specs.Char.{to_ascii_lowercase};
 ghost use Rattle.dom_nodes.specs.Words.{is_among};
 ghost use Rattle.url.specs.Input.{is_tab_or_new_line, split_once, strip_tabs_and_new_lines};
@@ -24,7 +25,7 @@ use memchr::memchr;
 use std::alloc::Global;
 use url::{ParseError, Url};
 
-/// What is left of an address.
+/// Returns what is left of an address, or `None` if it is removed.
 pub(crate) fn cleaned_address(
     alloc: Global,
     lists: &Lists,
@@ -39,7 +40,7 @@ pub(crate) fn cleaned_address(
     }
 }
 
-/// The address, where its scheme is allowed.
+/// Returns the address, if its scheme is allowed.
 fn of_scheme(lists: &Lists, scheme: &[u8], address: String) -> Option<String>
     ensures { option_map string_bytes result ≡ (if is_among scheme.now
         (policy_of lists.now).schemes then Some (string_bytes address) else None) }
@@ -50,7 +51,7 @@ fn of_scheme(lists: &Lists, scheme: &[u8], address: String) -> Option<String>
     None
 }
 
-/// Whether the scheme is one of these.
+/// Returns whether the scheme is one of these.
 fn has_scheme(schemes: &[String], scheme: &[u8]) -> bool
     ensures { result ≡ is_among scheme.now (map string_bytes schemes.now) }
 {
@@ -62,7 +63,7 @@ fn has_scheme(schemes: &[String], scheme: &[u8]) -> bool
     false
 }
 
-/// What is left of an address without a scheme.
+/// Returns what is left of an address without a scheme.
 fn relative_address(
     alloc: Global,
     lists: &Lists,
@@ -79,7 +80,7 @@ fn relative_address(
     }
 }
 
-/// An address that is joined to a base, where that makes a URL of an allowed scheme.
+/// Returns an address resolved against a base, if that gives a URL with an allowed scheme.
 fn resolved_address(
     alloc: Global,
     lists: &Lists,
@@ -95,7 +96,7 @@ fn resolved_address(
     }
 }
 
-/// The address, where it has an allowed scheme.
+/// Returns the address, if it has an allowed scheme.
 fn allowed_address(
     alloc: Global,
     lists: &Lists,
@@ -110,7 +111,7 @@ fn allowed_address(
     }
 }
 
-/// The URL that an address joined to a base is, if it is one.
+/// Returns the URL of an address that is resolved against a base, or `None` if it isn't one.
 fn joined(alloc: Global, base: &Url, address: &str) -> Result<Option<String>, OutOfMemory>
     ensures { IfOk result (λ made. option_map string_bytes made
         ≡ option_map spellable (joined_address (parse_url (Some base.now) address.now))) }
@@ -123,7 +124,7 @@ fn joined(alloc: Global, base: &Url, address: &str) -> Result<Option<String>, Ou
     }
 }
 
-/// The scheme in front of an address, in lower case.
+/// Returns the scheme in front of an address, in lower case, or `None` if it has none.
 fn scheme_of(alloc: Global, address: &str) -> Result<Option<Vec<u8>>, OutOfMemory>
     ensures { IfOk result (λ found. option_map (λ made. made.items) found
         ≡ scheme_of address.now) }
@@ -137,7 +138,7 @@ fn scheme_of(alloc: Global, address: &str) -> Result<Option<Vec<u8>>, OutOfMemor
     }
 }
 
-/// The bytes without controls and spaces at either end.
+/// Returns the bytes without C0 controls and spaces at either end.
 fn trimmed(bytes: &[u8]) -> &[u8]
     ensures { result.now ≡ trim_c0_control_and_space bytes.now }
 {
@@ -151,7 +152,7 @@ fn trimmed(bytes: &[u8]) -> &[u8]
     rest
 }
 
-/// The bytes without controls and spaces at the end.
+/// Returns the bytes without C0 controls and spaces at the end.
 fn trimmed_end(bytes: &[u8]) -> &[u8]
     ensures { result.now ≡ trim_end is_c0_control_or_space bytes.now }
 {
@@ -165,7 +166,7 @@ fn trimmed_end(bytes: &[u8]) -> &[u8]
     rest
 }
 
-/// The bytes without tabs and new lines.
+/// Returns the bytes without tabs, line feeds and carriage returns.
 fn stripped(alloc: Global, bytes: &[u8]) -> Result<Vec<u8>, OutOfMemory>
     ensures { IfOk result (λ made. made.items ≡ strip_tabs_and_new_lines bytes.now) }
 {
@@ -185,7 +186,7 @@ fn is_tab_or_new_line(byte: u8) -> bool
     matches!(byte, b'\t' | b'\n' | b'\r')
 }
 
-/// The bytes before the first of these, or all.
+/// Returns the bytes before the first byte of that value, or all of them.
 fn before(bytes: &[u8], byte: u8) -> &[u8]
     ensures { result.now ≡ (split_once byte bytes.now).0 }
 {
@@ -195,7 +196,7 @@ fn before(bytes: &[u8], byte: u8) -> &[u8]
     }
 }
 
-/// The scheme in front of the bytes.
+/// Returns the scheme in front of a colon at the front of the bytes.
 fn scheme_in(bytes: &[u8]) -> Option<&[u8]>
     ensures { option_map (λ scheme. scheme.now) result
         ≡ option_map (λ split. split.0) (split_scheme bytes.now) }
@@ -213,7 +214,7 @@ fn scheme_in(bytes: &[u8]) -> Option<&[u8]>
     Some(&bytes[..count])
 }
 
-/// How many bytes at the front make a scheme.
+/// Returns how many bytes at the front can be a scheme.
 fn scheme_len(bytes: &[u8]) -> usize
     ensures value { result ≡ scheme_len bytes.now }
     ensures within { result ≤ length bytes.now }
@@ -248,7 +249,7 @@ fn is_scheme_byte(byte: u8) -> bool
     matches!(byte, b'+' | b'-' | b'.')
 }
 
-/// The bytes of a scheme in lower case.
+/// Returns the bytes of a scheme in lower case.
 fn lowered(alloc: Global, bytes: &[u8]) -> Result<Vec<u8>, OutOfMemory>
     ensures { IfOk result (λ made. made.items ≡ map to_ascii_lowercase bytes.now) }
 {

@@ -49,7 +49,7 @@ const ADDRESS_NAMES: [&str; 17] = [
     "usemap",
 ];
 
-/// Whether an element of that name is a start tag alone.
+/// Returns whether elements of that name are void: they have a start tag alone.
 #[tactic(auto, unfolding(dom_markup::specs::Names::void_names))]
 pub(crate) fn is_void_name(name: &str) -> bool
     ensures { result ≡ is_among name.now void_names }
@@ -57,7 +57,7 @@ pub(crate) fn is_void_name(name: &str) -> bool
     is_one_of(name, &VOID_NAMES)
 }
 
-/// Whether the value of such an attribute is an address.
+/// Returns whether the value of an attribute of that name is an address.
 #[tactic(auto, unfolding(crate::specs::Policy::address_names))]
 fn is_address_name(name: &str) -> bool
     ensures { result ≡ is_among name.now address_names }
@@ -65,7 +65,7 @@ fn is_address_name(name: &str) -> bool
     is_one_of(name, &ADDRESS_NAMES)
 }
 
-/// Whether an element of that name leads elsewhere.
+/// Returns whether elements of that name are links.
 #[tactic(auto, unfolding(crate::specs::Policy::link_names))]
 fn is_link_name(name: &str) -> bool
     ensures { result ≡ is_among name.now link_names }
@@ -79,7 +79,7 @@ fn is_nowhere(attr: &Attr) -> bool
     matches!(attr.name.ns(), NamespaceRef::None)
 }
 
-/// Writes the start tag.
+/// Writes the start tag of an element.
 pub(crate) fn push_start(
     alloc: Global,
     lists: &Lists,
@@ -130,7 +130,7 @@ fn push_rel(lists: &Lists, element: &str, text: &mut String) -> Result<(), OutOf
     }
 }
 
-/// Writes what is left of an attribute behind others.
+/// Writes what is left of an attribute; `place` is the attributes before it, and it.
 fn push_attr(
     alloc: Global,
     lists: &Lists,
@@ -155,7 +155,7 @@ fn push_attr(
     push_allowed(alloc, lists, (element, name), value, text)
 }
 
-/// Whether one of the attributes has that name, in no namespace.
+/// Returns whether one of the attributes has that name and no namespace.
 fn has_named(attrs: &[Attr], name: &str) -> bool
     ensures { result ≡ list_any (is_named name.now) attrs.now }
 {
@@ -176,7 +176,7 @@ fn is_named(attr: &Attr, name: &str) -> bool
     attr.name.local().as_str() == name
 }
 
-/// Writes what is left of an attribute of these names, of the element and its own.
+/// Writes what is left of an attribute; `names` is the name of its element, and its own.
 fn push_allowed(
     alloc: Global,
     lists: &Lists,
@@ -194,7 +194,7 @@ fn push_allowed(
     }
 }
 
-/// Writes an attribute of these names, where the policy has it.
+/// Writes an attribute, if the policy allows it; `names` is the name of its element, and its own.
 fn push_kept(
     lists: &Lists,
     names: (&str, &str),
@@ -211,7 +211,7 @@ fn push_kept(
     push_valued(text, name, value)
 }
 
-/// Whether such an element may have such an attribute.
+/// Returns whether the policy allows an attribute with that value on an element of that name.
 fn has_attribute(lists: &Lists, element: &str, name: &str, value: &str) -> bool
     ensures { result ≡ has_attribute (policy_of lists.now) element.now name.now value.now }
 {
@@ -265,7 +265,8 @@ fn allows_value(values: &[String], value: &str) -> bool
     is_among(value, values)
 }
 
-/// What is left of the value of an attribute of that name.
+/// Returns what is left of the value of an attribute of that name, or `None` if the attribute is
+/// removed.
 fn cleaned_value(
     alloc: Global,
     lists: &Lists,

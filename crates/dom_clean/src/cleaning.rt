@@ -1,4 +1,4 @@
-//! Cleans the text of a fragment.
+//! Cleans the text of a fragment or of a page.
 
 ghost use Rattle.std.specs.Prelude.{◌≡◌, IfOk, MatchOption, string_bytes};
 ghost use Rattle.dom_clean.specs.Cleaned.{cleaned_below};
@@ -20,10 +20,12 @@ use dom_nodes::node_id::NodeId;
 use dom_trees::tree::Tree;
 use std::alloc::Global;
 
-/// The number of the body of a page that is explicit, behind its doctype, `html` and `head`.
+/// The id of the body of a calm page whose head is empty: the root, the doctype, `html` and `head`
+/// come before it.
 const BODY: usize = 4;
 
-/// The text of what the policy leaves of a fragment, read as the contents of a `div`.
+/// Returns the text of what the policy leaves of a fragment, which is read as the contents of a
+/// `div`. Fails only if memory is refused or the node ids run out.
 pub fn clean(alloc: Global, source: &str, policy: &Policy) -> Result<String, PageFault>
     ensures safe { IfOk result (λ text. IsSafeText policy.now (string_bytes text)) }
     ensures calm { (body : ValueTrees) → IsCalmPage (page_around source.now) (page_of body)
@@ -37,9 +39,9 @@ pub fn clean(alloc: Global, source: &str, policy: &Policy) -> Result<String, Pag
     }
 }
 
-/// The page of what the policy leaves of the body of a page, or of all that stands below its root
-/// where it has no body: behind `<!DOCTYPE html>` an `html`, an empty `head` and a `body` without
-/// attributes.
+/// Returns a page with what the policy leaves of the body of a page, or of the whole document if it
+/// has no body: `<!DOCTYPE html>`, then `html` with an empty `head` and a `body`, all without
+/// attributes. Fails only if memory is refused or the node ids run out.
 pub fn clean_page(alloc: Global, source: &str, policy: &Policy) -> Result<String, PageFault>
     ensures { IfOk result (λ page. IsSafePage policy.now (string_bytes page)) }
 {
@@ -52,7 +54,7 @@ pub fn clean_page(alloc: Global, source: &str, policy: &Policy) -> Result<String
     Ok(page_around(alloc, text.as_str())?)
 }
 
-/// The page with that text in its body.
+/// Returns the page with the text in its body.
 fn page_around(alloc: Global, text: &str) -> Result<String, OutOfMemory>
     ensures { IfOk result (λ page. string_bytes page ≡ page_around text.now) }
 {
@@ -62,7 +64,7 @@ fn page_around(alloc: Global, text: &str) -> Result<String, OutOfMemory>
     Ok(page)
 }
 
-/// The text of what is left below a node.
+/// Returns the text of what the policy leaves of the children of a node.
 fn clean_node(tree: &Tree, id: NodeId, policy: &Policy) -> Result<String, PageFault>
     ensures text { IfOk result (λ text. string_bytes text
         ≡ text_of (cleaned_below policy.now tree.now id)) }
@@ -71,7 +73,7 @@ fn clean_node(tree: &Tree, id: NodeId, policy: &Policy) -> Result<String, PageFa
     Ok(clean_below(tree, &id, policy.lists())?)
 }
 
-/// Cleans a fragment that may have any faults.
+/// Returns the text of what the policy leaves of a fragment with parse errors or without.
 fn clean_fragment(alloc: Global, source: &str, policy: &Policy) -> Result<String, PageFault>
     ensures { IfOk result (λ text. IsSafeText policy.now (string_bytes text)) }
 {
@@ -81,8 +83,8 @@ fn clean_fragment(alloc: Global, source: &str, policy: &Policy) -> Result<String
     clean_node(tree, top.unwrap_or(NodeId::root()), policy)
 }
 
-/// The document of the page around a fragment, where that is calm: then tree construction would
-/// read it so.
+/// Returns the document of the page with the fragment in its body, if that is a calm page; its body
+/// then has the same children as a `div` into which the fragment is read.
 fn calm_page(alloc: Global, source: &str) -> Result<Option<Document>, PageFault>
     ensures { (body : ValueTrees) → IsCalmPage (page_around source.now) (page_of body)
         → IfOk result (λ found. MatchOption found ⊥

@@ -1,8 +1,9 @@
-//! What becomes of a node where it stands.
+//! What becomes of a node at its place.
 
 ghost use Rattle.std.specs.Prelude.{◌≡◌, IfOk};
 ghost use Rattle.dom_clean.specs.Cleaned.{in_body};
-ghost use Rattle.dom_clean.specs.Fates.{element_fate, fate_of, text_fate, is_dropped, is_unseen, may_stay, place_below};
+ghost use Rattle.dom_clean.specs.Fates.{element_fate, fate_of, is_dropped, is_unseen};
+ghost use Rattle.dom_clean.specs.Fates.{may_stay, place_below, text_fate};
 ghost use Rattle.dom_clean.specs.Policies.{policy_of};
 ghost use Rattle.dom_clean.specs.declared.fates.Fate.TheVariants.{Stays};
 ghost use Rattle.dom_nodes.specs.declared.node_data.NodeData.TheVariants.{Element as AnElement};
@@ -20,23 +21,23 @@ use std::alloc::Global;
 /// What becomes of a node.
 #[derive(Clone, Copy, Drop)]
 pub(crate) enum Fate {
-    /// It stays, over what is left of its children.
+    /// It stays, with what is left of its children.
     Stays,
-    /// What is left of its children stands in its place.
+    /// It is replaced by what is left of its children.
     Unwrapped,
-    /// It vanishes with all that is below it.
+    /// It is removed with everything below it.
     Vanishes,
 }
 
-/// What a node stands in, and how many kept elements may lie in one another
-/// there.
+/// Where a node is: the scope by which calm pages are judged, and how many more elements may be
+/// nested there.
 #[derive(Clone, Copy, Drop)]
 pub(crate) struct Place {
     pub(crate) scope: Scope,
     pub(crate) left: usize,
 }
 
-/// The contents of a body.
+/// Returns the place of the children of a body.
 pub(crate) fn in_body(lists: &Lists) -> Place
     ensures { result ≡ in_body (policy_of lists.now) }
 {
@@ -49,7 +50,7 @@ pub(crate) fn in_body(lists: &Lists) -> Place
     }
 }
 
-/// What becomes of a node.
+/// Returns what becomes of a node.
 pub(crate) fn fate_of(
     alloc: Global,
     lists: &Lists,
@@ -74,7 +75,7 @@ fn is_unseen(kind: ElementCategory) -> bool
     )
 }
 
-/// The category of an element, by its name.
+/// Returns the category of an element, which its name determines.
 pub(crate) fn category(element: &Element) -> ElementCategory
     ensures { result ≡ kind_of element.now.name.local }
 {
@@ -130,7 +131,7 @@ fn element_fate(lists: &Lists, place: &Place, element: &Element) -> Fate
     Fate::Unwrapped
 }
 
-/// What the children of an element that stays stand in.
+/// Returns the place of the children of an element that stays.
 pub(crate) fn place_below(place: &Place, element: &Element) -> Place
     ensures { result ≡ place_below Stays place.now (AnElement element.now) }
 {

@@ -1,7 +1,8 @@
-//! Cleaning of HTML from strangers: what a policy leaves of a page or a fragment, and its text.
+//! A cleaner of HTML from strangers. `clean` returns the text of what a `Policy` leaves of a
+//! fragment, and `clean_page` that of a page.
 //!
-//! The text that is written is read by every browser as exactly the tree that was left: see the
-//! module `laws` for what is proved of it.
+//! The page with that text in its body is a calm page, so `parse_page` reads it as exactly the tree
+//! that was left. The module `laws` has the theorems about the definitions.
 #![tactic(auto)]
 
 mod addresses;

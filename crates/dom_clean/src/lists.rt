@@ -42,7 +42,7 @@ pub(crate) struct Lists {
     pub(crate) depth: usize,
 }
 
-/// Whether the text is one of these.
+/// Returns whether the text is one of the names.
 pub(crate) fn is_among(text: &str, names: &[String]) -> bool
     ensures { result ≡ is_among text.now (map string_bytes names.now) }
 {
@@ -54,7 +54,7 @@ pub(crate) fn is_among(text: &str, names: &[String]) -> bool
     false
 }
 
-/// Adds a text.
+/// Appends a name. Fails if memory is refused.
 pub(crate) fn push_name(
     alloc: Global,
     names: &mut Vec<String>,
@@ -76,7 +76,7 @@ fn push_string(names: &mut Vec<String>, name: String) -> Result<(), OutOfMemory>
     }
 }
 
-/// Adds an attribute of an element, with no value or one more that it may have.
+/// Appends an attribute of an element, with the value that it may have, or for any value.
 pub(crate) fn push_own(
     alloc: Global,
     own: &mut Vec<OwnAttribute>,

@@ -1,4 +1,4 @@
-//! Which rules can be kept safely.
+//! Policies, and which rules are accepted as one.
 
 ghost use Rattle.std.specs.Prelude.{◌≡◌, ◌&&◌, ◌||◌, ◌==◌, MatchResult, codes, is_none, map};
 ghost use Rattle.std.specs.Prelude.{nat_le, string_bytes, true, false};
@@ -8,7 +8,8 @@ ghost use Rattle.dom_nodes.specs.Words.{is_among};
 ghost use Rattle.dom_clean.specs.Policies.{policy_of, relative_of};
 ghost use Rattle.dom_clean.specs.Policy.{are_names_sound, attribute_names, is_class, is_class_byte};
 ghost use Rattle.dom_clean.specs.Policy.{is_rel, is_simple};
-ghost use Rattle.dom_clean.specs.Policy.{is_simple_byte, is_sound, is_word_byte, is_worded, joins_well};
+ghost use Rattle.dom_clean.specs.Policy.{is_simple_byte, is_sound, is_word_byte, is_worded};
+ghost use Rattle.dom_clean.specs.Policy.{joins_well};
 ghost use Rattle.dom_clean.specs.Policy.{keeps_tables, may_have, may_keep, may_lead};
 ghost use Rattle.dom_clean.specs.Policy.{refused_attributes};
 ghost use Rattle.dom_clean.specs.Policy.{refused_schemes, table_parts};
@@ -20,8 +21,8 @@ use std::error::Error;
 use std::fmt;
 use std::marker::Model;
 
-/// The rules by which a page is cleaned; `Policy::new` refuses rules that can't be kept safely. A
-/// contract sees a policy as the lists that it was made of.
+/// The rules by which a page is cleaned. `Policy::new` accepts only rules whose result is safe. A
+/// contract sees a policy as the lists of its rules.
 #[derive(Drop)]
 pub struct Policy {
     lists: Lists,
@@ -39,29 +40,32 @@ impl Model for Policy {
     ghost invariant = { λ policy. is_sound (policy_of policy.lists) ≡ true };
 }
 
-/// Why rules aren't kept.
+/// The first reason why rules can't be a policy.
 #[derive(Debug, Drop)]
 pub enum PolicyFault {
-    /// No page that browsers read as it is written has such an element: `svg`, `script`.
+    /// An element that can't be allowed, such as `svg` or `script`: its content is not read as
+    /// markup, it runs scripts or brings in another document, or it can't be in a calm page.
     Element(String),
-    /// A table is allowed without this part of it.
+    /// `table` is allowed without this part of tables: the texts of cells would be lost.
     Table(&'static str),
-    /// Such an attribute holds a script, a style, markup, or several addresses: `onclick`,
-    /// `srcdoc`.
+    /// An attribute that can't be allowed, such as `onclick` or `srcdoc`: it holds a script, a
+    /// style, markup or several addresses, or its name has other characters than `a` to `z`,
+    /// digits, `-` and `_`.
     Attribute(String),
-    /// Addresses of that scheme run scripts: `javascript`.
+    /// A scheme that can't be allowed: `javascript`, `vbscript` or `data`.
     Scheme(String),
-    /// Addresses are joined to a base whose scheme isn't allowed.
+    /// Addresses are resolved against a base whose scheme isn't allowed.
     Base,
-    /// The `rel` of links isn't made of plain words, or `rel` is an allowed attribute too.
+    /// The `rel` of links has other characters than `a` to `z`, digits, `-`, `_` and spaces, or the
+    /// attribute `rel` is allowed, too.
     Rel,
-    /// A class is empty, or has a byte that is a control, a space, or no ASCII.
+    /// A class that is empty, or has a control character, a space or a character that isn't ASCII.
     Class(String),
-    /// The prefix of ids has a byte that is no lower-case letter, digit, `-` or `_`.
+    /// The prefix of ids has other characters than `a` to `z`, digits, `-` and `_`.
     Prefix,
-    /// More than 256 elements may lie in one another.
+    /// More than 256 elements may be nested.
     Depth,
-    /// Memory was refused.
+    /// Memory for the name of one of the other faults was refused.
     Memory,
 }
 
@@ -85,7 +89,8 @@ impl fmt::Display for PolicyFault {
 impl Error for PolicyFault {}
 
 impl Policy {
-    /// The policy of these rules, exactly where they can be kept safely.
+    /// Returns the policy of these rules, or the first fault that was found in them. It succeeds
+    /// exactly if the rules are sound.
     pub fn new(rules: Rules) -> Result<Policy, PolicyFault>
         ensures { MatchResult result (λ policy. (policy ≡ rules) × (is_sound rules ≡ true))
             (λ _. is_sound rules ≡ false) }
@@ -97,7 +102,7 @@ impl Policy {
         }
     }
 
-    /// The lists.
+    /// Returns the lists of the rules.
     pub(crate) fn lists(&self) -> &Lists
         ensures value { policy_of result.now ≡ self.now }
         ensures sound { is_sound self.now ≡ true }
@@ -106,7 +111,7 @@ impl Policy {
     }
 }
 
-/// The first fault of rules.
+/// Returns the first fault of rules.
 fn fault_of(lists: &Lists) -> Option<PolicyFault>
     ensures { is_none result ≡ is_sound (policy_of lists.now) }
 {
@@ -128,7 +133,7 @@ fn fault_of(lists: &Lists) -> Option<PolicyFault>
     fault_of_limits(lists)
 }
 
-/// The first fault of the names of elements and attributes.
+/// Returns the first fault of the names of elements and attributes.
 fn fault_of_names(lists: &Lists) -> Option<PolicyFault>
     ensures { is_none result ≡ are_names_sound (policy_of lists.now) }
 {
@@ -142,7 +147,7 @@ fn fault_of_names(lists: &Lists) -> Option<PolicyFault>
     Some(attribute_fault(name))
 }
 
-/// The fault of the prefix of ids, or of the depth.
+/// Returns the fault of the prefix of ids, or of the depth.
 fn fault_of_limits(lists: &Lists) -> Option<PolicyFault>
     ensures { is_none result ≡ (list_all is_simple_byte (string_bytes lists.now.id_prefix)
         && nat_le lists.now.depth 256) }
@@ -188,7 +193,7 @@ fn class_fault(name: &String) -> PolicyFault {
     }
 }
 
-/// The first element that can't be kept.
+/// Returns the first element that can't be allowed.
 fn refused_element(names: &[String]) -> Option<&String>
     ensures { is_none result ≡ list_all may_keep (map string_bytes names.now) }
 {
@@ -200,7 +205,7 @@ fn refused_element(names: &[String]) -> Option<&String>
     None
 }
 
-/// The elements that can be kept.
+/// The elements that can be allowed.
 const KEEPABLE: [&str; 98] = [
     "a",
     "abbr",
@@ -302,8 +307,8 @@ const KEEPABLE: [&str; 98] = [
     "wbr",
 ];
 
-/// Whether elements of that name stand in a body, are read as markup, and bring in no other
-/// document.
+/// Returns whether elements of that name can be allowed: they may be in a body, their content is
+/// read as markup, and they bring in no other document.
 #[tactic(auto, unfolding(crate::specs::Policy::keepable_names))]
 fn may_keep(name: &str) -> bool
     ensures { result ≡ may_keep name.now }
@@ -311,7 +316,7 @@ fn may_keep(name: &str) -> bool
     is_one_of(name, &KEEPABLE)
 }
 
-/// The first part of a table that is missing where tables are allowed.
+/// Returns the first part of tables that isn't allowed although `table` is.
 fn missing_part(elements: &[String]) -> Option<&'static str>
     ensures { is_none result ≡ keeps_tables (map string_bytes elements.now) }
 {
@@ -338,7 +343,7 @@ fn missing_of_parts(elements: &[String]) -> Option<&'static str>
     None
 }
 
-/// The first attribute that can't be kept.
+/// Returns the first attribute that can't be allowed.
 fn refused_attribute(lists: &Lists) -> Option<&String>
     ensures { is_none result ≡ list_all may_have (attribute_names (policy_of lists.now)) }
 {
@@ -371,7 +376,7 @@ fn refused_own(names: &[OwnAttribute]) -> Option<&String>
     None
 }
 
-/// Whether an attribute of that name can be kept.
+/// Returns whether an attribute of that name can be allowed.
 fn may_have(name: &str) -> bool
     ensures { result ≡ may_have name.now }
 {
@@ -406,7 +411,7 @@ fn is_refused_attribute(name: &str) -> bool
     )
 }
 
-/// Whether the name is of lower-case letters, digits, `-` and `_`, at least one.
+/// Returns whether the name has at least one character, and only `a` to `z`, digits, `-` and `_`.
 fn is_simple(name: &str) -> bool
     ensures { result ≡ is_simple name.now }
 {
@@ -434,7 +439,7 @@ fn is_simple_byte(byte: u8) -> bool
     matches!(byte, b'a'..=b'z' | b'0'..=b'9' | b'-' | b'_')
 }
 
-/// The first scheme that can't be kept.
+/// Returns the first scheme that can't be allowed.
 fn refused_scheme(schemes: &[String]) -> Option<&String>
     ensures { is_none result ≡ list_all may_lead (map string_bytes schemes.now) }
 {
@@ -453,7 +458,7 @@ fn may_lead(scheme: &str) -> bool
     !is_one_of(scheme, &["data", "javascript", "vbscript"])
 }
 
-/// Whether addresses are joined to no base, or to one of an allowed scheme.
+/// Returns whether addresses are resolved against no base, or against one with an allowed scheme.
 fn joins_well(lists: &Lists) -> bool
     ensures { result
         ≡ joins_well (policy_of lists.now).schemes (relative_of lists.now.relative) }
@@ -464,7 +469,7 @@ fn joins_well(lists: &Lists) -> bool
     }
 }
 
-/// Whether the `rel` of links can be written.
+/// Returns whether there is no `rel` of links, or one that can be allowed.
 fn is_rel(lists: &Lists) -> bool
     ensures { result
         ≡ option_map_or (is_rel (policy_of lists.now)) (policy_of lists.now).rel true }
@@ -484,7 +489,7 @@ fn is_sole_rel(lists: &Lists, rel: &str) -> bool
     !has_rel(lists)
 }
 
-/// Whether `rel` is an allowed attribute.
+/// Returns whether `rel` is an allowed attribute.
 fn has_rel(lists: &Lists) -> bool
     ensures { result ≡ is_among (codes "rel") (attribute_names (policy_of lists.now)) }
 {
@@ -505,7 +510,7 @@ fn has_own(name: &str, names: &[OwnAttribute]) -> bool
     false
 }
 
-/// Whether the text is of words alone.
+/// Returns whether the text has only the characters of plain names, and spaces.
 fn is_worded(text: &str) -> bool
     ensures { result ≡ is_worded text.now }
 {
@@ -524,7 +529,7 @@ fn is_word_byte(byte: u8) -> bool
     is_simple_byte(byte) || byte == b' '
 }
 
-/// The first class that can't be written.
+/// Returns the first class that can't be allowed.
 fn refused_class(lists: &Lists) -> Option<&String>
     ensures { is_none result
         ≡ option_map_or (list_all is_class) (policy_of lists.now).classes true }
@@ -546,7 +551,7 @@ fn refused_among_classes(classes: &[String]) -> Option<&String>
     None
 }
 
-/// Whether the text is a class as a policy may have it.
+/// Returns whether the class can be allowed.
 fn is_class(name: &str) -> bool
     ensures { result ≡ is_class name.now }
 {

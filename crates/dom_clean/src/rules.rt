@@ -1,4 +1,4 @@
-//! Rules that a policy is made of.
+//! The rules of a policy.
 
 ghost use Rattle.std.specs.Prelude.{◌≡◌, ◌++◌, ◌∷◌, [], OnOk, Some, None, true};
 ghost use Rattle.dom_clean.specs.Policies.{policy_of};
@@ -12,8 +12,8 @@ use std::alloc::Global;
 use std::marker::Model;
 use url::Url;
 
-/// Rules that a policy is made of: what is allowed, and what becomes of the rest. A contract sees
-/// them as the lists that they are.
+/// The rules of a policy: what is allowed, and what becomes of the rest. A contract sees them as
+/// lists. The calls that return a `Result` fail only if memory is refused.
 #[derive(Drop)]
 pub struct Rules {
     lists: Lists,
@@ -29,8 +29,8 @@ impl Model for Rules {
 }
 
 impl Rules {
-    /// Rules by which texts alone stay: no element is allowed, none is dropped, and elements may
-    /// lie 128 deep.
+    /// Returns rules by which only texts stay: no element is allowed, none is dropped, and up to
+    /// 128 elements may be nested.
     pub fn new(alloc: Global) -> Rules
         ensures { result ≡ no_rules }
     {
@@ -51,7 +51,7 @@ impl Rules {
         }
     }
 
-    /// The lists.
+    /// Returns the lists.
     pub(crate) fn into_lists(self) -> Lists
         ensures { policy_of result ≡ self }
     {
@@ -63,7 +63,7 @@ impl Rules {
         *self.lists.elements.allocator()
     }
 
-    /// Elements of that name stay, where they may stand.
+    /// Lets elements of that name stay where they may be.
     pub fn allow_element(&mut self, name: &str) -> Result<(), OutOfMemory>
         ensures { OnOk result (self.new
             ≡ record self.old { elements = self.old.elements ++ name.now ∷ [] }) }
@@ -71,7 +71,7 @@ impl Rules {
         push_name(self.alloc(), &mut self.lists.elements, name)
     }
 
-    /// Elements of that name vanish with all that is below them.
+    /// Has elements of that name removed with everything in them, even if they are allowed, too.
     pub fn drop_element(&mut self, name: &str) -> Result<(), OutOfMemory>
         ensures { OnOk result (self.new
             ≡ record self.old { dropped = self.old.dropped ++ name.now ∷ [] }) }
@@ -79,7 +79,7 @@ impl Rules {
         push_name(self.alloc(), &mut self.lists.dropped, name)
     }
 
-    /// Each element may have that attribute.
+    /// Lets every element have that attribute.
     pub fn allow_attribute(&mut self, name: &str) -> Result<(), OutOfMemory>
         ensures { OnOk result (self.new
             ≡ record self.old { attributes = self.old.attributes ++ name.now ∷ [] }) }
@@ -87,7 +87,7 @@ impl Rules {
         push_name(self.alloc(), &mut self.lists.attributes, name)
     }
 
-    /// Elements of that name may have that attribute.
+    /// Lets elements of that name have that attribute.
     pub fn allow_attribute_of(&mut self, element: &str, name: &str) -> Result<(), OutOfMemory>
         ensures { OnOk result (self.new ≡ record self.old {
           own_attributes
@@ -98,8 +98,8 @@ impl Rules {
         push_own(alloc, &mut self.lists.own_attributes, (element, name), None)
     }
 
-    /// Elements of that name may have that attribute with that value. Where the attribute itself is
-    /// allowed too, it may have any value.
+    /// Lets elements of that name have that attribute with that value. If the attribute itself is
+    /// allowed, too, it may have any value.
     pub fn allow_value(&mut self, element: &str, name: &str, value: &str) -> Result<(), OutOfMemory>
         ensures { OnOk result (self.new ≡ record self.old {
           own_attributes
@@ -116,7 +116,7 @@ impl Rules {
         )
     }
 
-    /// Addresses may have that scheme, which is written in lower case.
+    /// Lets addresses have that scheme, which is given in lower case.
     pub fn allow_scheme(&mut self, scheme: &str) -> Result<(), OutOfMemory>
         ensures { OnOk result (self.new
             ≡ record self.old { schemes = self.old.schemes ++ scheme.now ∷ [] }) }
@@ -124,35 +124,35 @@ impl Rules {
         push_name(self.alloc(), &mut self.lists.schemes, scheme)
     }
 
-    /// Whether each element may have attributes whose names begin with `data-`.
+    /// Sets whether every element may have attributes whose names begin with `data-`.
     pub fn set_data_attributes(&mut self, are_allowed: bool)
         ensures { self.new ≡ record self.old { data_attributes = are_allowed } }
     {
         self.lists.data_attributes = are_allowed;
     }
 
-    /// Addresses without a scheme stay as they are.
+    /// Lets addresses without a scheme stay as they are.
     pub fn keep_relative(&mut self)
         ensures { self.new ≡ record self.old { relative = kept } }
     {
         self.lists.relative = Relative::Kept;
     }
 
-    /// Addresses without a scheme go.
+    /// Has addresses without a scheme removed.
     pub fn drop_relative(&mut self)
         ensures { self.new ≡ record self.old { relative = dropped } }
     {
         self.lists.relative = Relative::Dropped;
     }
 
-    /// Addresses without a scheme are joined to that base.
+    /// Has addresses without a scheme resolved against that base.
     pub fn resolve_relative(&mut self, base: Url)
         ensures { self.new ≡ record self.old { relative = resolved base } }
     {
         self.lists.relative = Relative::Resolved(base);
     }
 
-    /// Each `a` and `area` has that `rel`, as `noopener noreferrer`.
+    /// Sets the `rel` that each `a` and `area` gets, such as `noopener noreferrer`.
     pub fn set_rel(&mut self, rel: &str) -> Result<(), OutOfMemory>
         ensures { OnOk result (self.new ≡ record self.old { rel = Some rel.now }) }
     {
@@ -160,14 +160,14 @@ impl Rules {
         Ok(())
     }
 
-    /// Links have no `rel` of the policy's.
+    /// Has links get no `rel`.
     pub fn clear_rel(&mut self)
         ensures { self.new ≡ record self.old { rel = None } }
     {
         self.lists.rel = None;
     }
 
-    /// Each `id` that doesn't begin so gets this in front.
+    /// Sets the text that each `id` gets in front, unless it begins with it.
     pub fn set_id_prefix(&mut self, prefix: &str) -> Result<(), OutOfMemory>
         ensures { OnOk result (self.new ≡ record self.old { id_prefix = prefix.now }) }
     {
@@ -175,7 +175,7 @@ impl Rules {
         Ok(())
     }
 
-    /// The class stays. Once a class is allowed, all others go.
+    /// Lets the class stay. As soon as one class is allowed, all others are removed.
     pub fn allow_class(&mut self, class: &str) -> Result<(), OutOfMemory>
         ensures { OnOk result (self.new ≡ record self.old {
           classes = Some (option_map_or (λ classes. classes) self.old.classes [] ++ class.now ∷ []);
@@ -191,7 +191,8 @@ impl Rules {
         }
     }
 
-    /// So many kept elements may lie in one another: 256 at most.
+    /// Sets how many of the elements that stay may be nested; a policy allows at most 256. Deeper
+    /// elements are unwrapped.
     pub fn set_depth(&mut self, depth: usize)
         ensures { self.new ≡ record self.old { depth = depth } }
     {

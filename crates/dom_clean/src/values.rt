@@ -1,4 +1,4 @@
-//! Texts and values as a page can have them.
+//! Texts and values of attributes, as they are written.
 
 ghost use Rattle.std.specs.Prelude.{◌≡◌, ◌++◌, ◌∷◌, [], IfOk, MatchOption, OnOk, Some, false};
 ghost use Rattle.std.specs.Prelude.{filter, map, string_bytes};
@@ -18,7 +18,7 @@ use crate::lists::{Lists, is_among};
 use dom_nodes::fault::OutOfMemory;
 use std::alloc::{AllocError, Global};
 
-/// The text without the characters that no page can have.
+/// Returns the text without U+0000 and carriage returns, which no calm page has.
 pub(crate) fn spellable(alloc: Global, text: &str) -> Result<String, OutOfMemory>
     ensures { IfOk result (λ made. string_bytes made ≡ spellable text.now) }
 {
@@ -38,9 +38,10 @@ fn push_spelled(text: &mut String, c: char) -> Result<(), AllocError>
     text.push(c)
 }
 
-/// Adds a text, escaped as a text node's.
+/// Appends a text, escaped like the text of a text node.
 pub(crate) fn push_text(text: &mut String, contents: &str) -> Result<(), OutOfMemory>
-    ensures { OnOk result (string_bytes text.new ≡ string_bytes text.old ++ escaped_text contents.now) }
+    ensures { OnOk result (string_bytes text.new
+        ≡ string_bytes text.old ++ escaped_text contents.now) }
 {
     for c in contents.chars() {
         push_text_char(text, c)?;
@@ -64,7 +65,7 @@ fn push_text_char(text: &mut String, c: char) -> Result<(), AllocError>
     }
 }
 
-/// Adds a value, escaped in quotes.
+/// Appends the value of an attribute, escaped for double quotes; `<` and `>` are escaped, too.
 pub(crate) fn push_value(text: &mut String, value: &str) -> Result<(), OutOfMemory>
     ensures { OnOk result (string_bytes text.new ≡ string_bytes text.old ++ safe_value value.now) }
 {
@@ -83,7 +84,7 @@ fn push_value_char(text: &mut String, c: char) -> Result<(), AllocError>
     push_text_char(text, c)
 }
 
-/// The text without the line feeds at its front.
+/// Returns the text without the line feeds at its front.
 pub(crate) fn after_lines(text: &str) -> &str
     ensures { result.now ≡ after_lines text.now }
 {
@@ -94,7 +95,7 @@ pub(crate) fn after_lines(text: &str) -> &str
     rest
 }
 
-/// The text behind a line feed, if it begins with one.
+/// Returns the text after a line feed, if it begins with one.
 fn strip_line(text: &str) -> Option<&str>
     ensures { MatchOption result (begins_line text.now ≡ false)
         (λ rest. text.now ≡ line_feed ∷ rest.now) }
@@ -108,7 +109,7 @@ fn strip_line(text: &str) -> Option<&str>
     Some(&text[1..])
 }
 
-/// The classes of a value that are allowed.
+/// Returns the allowed classes of a value, or `None` if there are none.
 pub(crate) fn cleaned_classes(
     alloc: Global,
     lists: &Lists,
@@ -123,7 +124,7 @@ pub(crate) fn cleaned_classes(
     }
 }
 
-/// The identifier with the prefix in front, unless it has it.
+/// Returns the id with the prefix in front, unless it begins with it.
 pub(crate) fn prefixed(prefix: &str, value: String) -> Result<Option<String>, OutOfMemory>
     ensures { IfOk result (λ made. option_map string_bytes made
         ≡ Some (prefixed prefix.now (string_bytes value))) }
@@ -136,7 +137,7 @@ pub(crate) fn prefixed(prefix: &str, value: String) -> Result<Option<String>, Ou
     Ok(Some(made))
 }
 
-/// The words of a value that are among these, if any.
+/// Returns the words of a value that are among the classes, or `None` if there are none.
 fn kept_words(alloc: Global, classes: &[String], value: &str) -> Result<Option<String>, OutOfMemory>
     ensures { IfOk result (λ left. option_map string_bytes left ≡ unless_empty
         (with_words [] (filter (λ word. is_among word (map string_bytes classes.now))
@@ -149,7 +150,7 @@ fn kept_words(alloc: Global, classes: &[String], value: &str) -> Result<Option<S
     Ok(Some(made))
 }
 
-/// The words of a value that are among these, with a space between.
+/// Returns the words of a value that are among the classes, with a space between each two.
 fn joined_words(alloc: Global, classes: &[String], value: &str) -> Result<String, OutOfMemory>
     ensures { IfOk result (λ made. string_bytes made ≡ with_words []
         (filter (λ word. is_among word (map string_bytes classes.now)) (words_of value.now))) }
@@ -164,7 +165,7 @@ fn joined_words(alloc: Global, classes: &[String], value: &str) -> Result<String
     Ok(made)
 }
 
-/// Adds a word, with a space before it where others are.
+/// Appends a word, after a space if the text isn't empty.
 fn push_word(text: &mut String, word: &str) -> Result<(), OutOfMemory>
     ensures { OnOk result (string_bytes text.new ≡ with_word (string_bytes text.old) word.now) }
 {

@@ -1,4 +1,4 @@
-//! Writes what a policy leaves of a tree.
+//! Writes the text of what a policy leaves of a tree, in one pass, without a copy of the tree.
 
 ghost use Rattle.std.specs.Prelude.{◌≡◌, ◌<◌, ◌&&◌, ◌++◌, ◌∷◌, [], length, not, string_bytes};
 ghost use Rattle.std.specs.Prelude.{IfOk, MatchOption, OnOk, Some, slice_get};
@@ -36,16 +36,16 @@ use html5_trees::ElementCategory;
 use std::alloc::Global;
 use std::marker::Model;
 
-/// What is still to be written.
+/// Something that is still to be written.
 #[derive(Clone, Copy, Drop)]
 enum Entry {
-    /// A node and its later siblings, which stand there.
+    /// A node and its later siblings, at that place.
     Row { first: NodeId, place: Place },
     /// The end tag of an element.
     End { id: NodeId },
 }
 
-/// The entries, the next one first.
+/// A stack of entries; the next one to be written is on top.
 #[derive(Drop)]
 struct Ahead {
     items: Vec<Entry>,
@@ -69,7 +69,7 @@ impl Ahead {
         }
     }
 
-    /// Puts an entry before all others.
+    /// Pushes an entry. Fails if memory is refused.
     fn push(&mut self, entry: Entry) -> Result<(), OutOfMemory>
         ensures { OnOk result (self.new ≡ entry ∷ self.old) }
     {
@@ -79,7 +79,7 @@ impl Ahead {
         }
     }
 
-    /// Takes the next entry off.
+    /// Pops the next entry.
     fn pop(&mut self) -> Option<Entry>
         ensures { MatchOption result (self.old ≡ []) (λ entry. self.old ≡ entry ∷ self.new) }
     {
@@ -87,15 +87,16 @@ impl Ahead {
     }
 }
 
-/// The text of what is left.
+/// The text that was written so far.
 #[derive(Drop)]
 struct Output {
     text: String,
-    /// Whether the text ends right behind the start tag of a `pre`.
+    /// Whether the text ends directly after the start tag of a `pre`.
     in_front: bool,
 }
 
-/// The text of what the policy leaves of what stands below the root.
+/// Returns the text of what the policy leaves of the children of the root. Fails with `OutOfMemory`
+/// if memory is refused.
 pub fn clean_tree(tree: &Tree, policy: &Policy) -> Result<String, OutOfMemory>
     ensures text { IfOk result (λ text. string_bytes text
         ≡ text_of (cleaned_below policy.now tree.now 0)) }
@@ -105,7 +106,7 @@ pub fn clean_tree(tree: &Tree, policy: &Policy) -> Result<String, OutOfMemory>
     clean_below(tree, &tree.root_id(), policy.lists())
 }
 
-/// The text of what is left of the children of a node.
+/// Returns the text of what is left of the children of a node.
 pub(crate) fn clean_below(tree: &Tree, id: &NodeId, lists: &Lists) -> Result<String, OutOfMemory>
     ensures { IfOk result (λ text. string_bytes text
         ≡ text_of (cleaned_below (policy_of lists.now) tree.now id.now)) }
@@ -114,7 +115,7 @@ pub(crate) fn clean_below(tree: &Tree, id: &NodeId, lists: &Lists) -> Result<Str
     clean_forest(tree, id, lists)
 }
 
-/// The same of a tree that is known to be a forest.
+/// The same for a tree that is known to be a forest.
 fn clean_forest(tree: &Tree, id: &NodeId, lists: &Lists) -> Result<String, OutOfMemory>
     requires { IsForest tree.now }
     ensures { IfOk result (λ text. string_bytes text
@@ -136,14 +137,14 @@ fn clean_forest(tree: &Tree, id: &NodeId, lists: &Lists) -> Result<String, OutOf
     Ok(output.text)
 }
 
-/// The first child of a node.
+/// Returns the first child of a node.
 fn first_below(tree: &Tree, id: &NodeId) -> Option<NodeId>
     ensures { result ≡ first (children_of tree.now id.now) }
 {
     first_child_id(tree.nodes(), id)
 }
 
-/// Writes an entry, and adds those that are to be written then.
+/// Writes the first part of an entry, and pushes entries for the rest of it.
 fn write_entry(
     tree: &Tree,
     lists: &Lists,
@@ -197,7 +198,8 @@ fn push_end_tag(text: &mut String, name: &str) -> Result<(), OutOfMemory>
     Ok(())
 }
 
-/// Writes the first node of a row, and adds what is to be written then.
+/// Writes the opening of the first node of a row, and pushes entries for its later siblings and for
+/// what is below it.
 fn write_node(
     tree: &Tree,
     lists: &Lists,
@@ -231,7 +233,7 @@ fn write_node(
     push_opening(tree.allocator(), lists, fate, &node.content, output)
 }
 
-/// Adds what is to be written below a node of that fate.
+/// Pushes entries for what is below a node of that fate.
 fn push_below(
     ahead: &mut Ahead,
     fate: Fate,
@@ -249,7 +251,7 @@ fn push_below(
     }
 }
 
-/// Adds the end tag of an element that stays, and before it its children.
+/// Pushes an entry for the end tag of an element that stays, and one for its children.
 fn push_inside(
     ahead: &mut Ahead,
     content: &NodeData,
@@ -269,7 +271,7 @@ fn push_inside(
     push_row(ahead, below, place_below(&place, element))
 }
 
-/// Adds a row, if there is a node in it.
+/// Pushes an entry for a row, if there is a node in it.
 fn push_row(ahead: &mut Ahead, first: Option<NodeId>, place: Place) -> Result<(), OutOfMemory>
     ensures { OnOk result (ahead.new ≡ with_row first place ahead.old) }
 {
@@ -279,7 +281,7 @@ fn push_row(ahead: &mut Ahead, first: Option<NodeId>, place: Place) -> Result<()
     Ok(())
 }
 
-/// Writes what stands before what is below a node of that fate.
+/// Writes a node of that fate, up to its children.
 fn push_opening(
     alloc: Global,
     lists: &Lists,
@@ -325,7 +327,7 @@ fn is_pre(element: &Element) -> bool
     matches!(category(element), ElementCategory::Pre)
 }
 
-/// Writes a text, without the line feeds at its front where it stands in front of a `pre`.
+/// Writes a text; directly after the start tag of a `pre` without the line feeds at its front.
 fn push_spelled_text(alloc: Global, contents: &str, output: &mut Output) -> Result<(), OutOfMemory>
     ensures text { OnOk result (string_bytes output.new.text ≡ string_bytes output.old.text
         ++ escaped_text (seen output.old.in_front (spellable contents.now))) }

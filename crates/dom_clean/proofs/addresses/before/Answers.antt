@@ -1,6 +1,5 @@
-use Rattle.std.proofs.Common.{◌≡◌, ◌∙◌, arith, sym, take}
+use Rattle.std.proofs.Common.{sym}
 use Rattle.std.proofs.lemmas.Bool.{eqb-true}
-use Rattle.url.specs.Input.{split_once}
 use Rattle.dom_clean.proofs.Splitting.{found_before, found_nowhere}
 use Rattle.dom_clean.proofs.addresses.before.Goals as goal
 

@@ -1,4 +1,4 @@
-use Rattle.std.proofs.Common.{◌≡◌, ◌≢◌, ◌∙◌, ◌<◌, ◌≤◌, Some, ap, arith, get_or, length, subst, sym, take, ℕ}
+use Rattle.std.proofs.Common.{◌≡◌, ◌≢◌, ◌∙◌, ◌<◌, Some, ap, arith, get_or, sym, take, ℕ}
 use Rattle.url.specs.Scheme.{scheme_len}
 use Rattle.dom_clean.proofs.SchemeBytes.{with_colon, without_colon, without_end, without_length}
 use Rattle.dom_clean.proofs.addresses.scheme_in.Goals as goal

@@ -1,4 +1,4 @@
-use Rattle.std.proofs.Common.{◌≡◌, ◌∙◌, [], ap, arith, false, length, sym, true}
+use Rattle.std.proofs.Common.{◌≡◌, ◌∙◌, [], ap, arith, false, sym, true}
 use Rattle.std.proofs.lemmas.Bool.Decides.{nat_tests}
 use Rattle.std.proofs.lemmas.List.{nil_from_length}
 use Rattle.url.specs.Input.{is_c0_control_or_space, trim_c0_control_and_space, trim_end}

@@ -1,4 +1,4 @@
-use Rattle.std.proofs.Common.{◌≡◌, true, false, arith, sym, ◌∙◌}
+use Rattle.std.proofs.Common.{◌≡◌, true, false, arith, sym}
 use Rattle.dom_clean.specs.Fates.{is_named}
 use Rattle.dom_clean.proofs.Searches.{none_more, none_passes, one_passes}
 use Rattle.dom_clean.proofs.attributes.has_named.Goals as goal

@@ -1,4 +1,4 @@
-use Rattle.std.proofs.Common.{◌≡◌, ◌∙◌, ap, string_bytes}
+use Rattle.std.proofs.Common.{◌∙◌, ap}
 use Rattle.dom_clean.specs.Cleaned.{cleaned_below}
 use Rattle.dom_clean.specs.Laws.{left_below}
 use Rattle.dom_clean.specs.Policy.{Policy}

@@ -1,7 +1,6 @@
 use Rattle.std.proofs.Common.{◌≡◌, ◌||◌, ◌∙◌, List, ap, false, map, string_bytes, sym, ℕ}
 use Rattle.std.specs.Prelude.{codes}
 use Rattle.std.specs.Str.{bytes_eq}
-use Rattle.std.specs.List.{list_any}
 use Rattle.std.proofs.lemmas.List.Folds.{list_any-append}
 use Rattle.dom_nodes.specs.Words.{is_among}
 use Rattle.dom_clean.specs.Policies.{own_of}

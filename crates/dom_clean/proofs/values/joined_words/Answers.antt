@@ -1,4 +1,4 @@
-use Rattle.std.proofs.Common.{◌≡◌, ◌∙◌, [], ◌∷◌, List, Bool, ℕ, ap, cond, filter, map, string_bytes, sym}
+use Rattle.std.proofs.Common.{◌∙◌, ◌∷◌, List, Bool, ℕ, ap, cond, filter, map, string_bytes, sym}
 use Rattle.std.specs.Str.Iter.{split_ascii_whitespace_text}
 use Rattle.dom_nodes.specs.Words.{is_among, words_of}
 use Rattle.dom_nodes.proofs.ClassLemmas.{first_word}
