@@ -83,8 +83,8 @@ fn clean_fragment(alloc: Global, source: &str, policy: &Policy) -> Result<String
     clean_node(tree, top.unwrap_or(NodeId::root()), policy)
 }
 
-/// Returns the document of the page with the fragment in its body, if that is a calm page; its body
-/// then has the same children as a `div` into which the fragment is read.
+/// Returns the document of the page with the fragment in its body, if that is a calm page. It is
+/// read as explicit markup, without tree construction.
 fn calm_page(alloc: Global, source: &str) -> Result<Option<Document>, PageFault>
     ensures { (body : ValueTrees) → IsCalmPage (page_around source.now) (page_of body)
         → IfOk result (λ found. MatchOption found ⊥

@@ -174,9 +174,9 @@ static SCHEMES: [&str; 25] = [
 ];
 
 impl Rules {
-    /// Returns rules for comments, mails and articles: phrases, headings, lists, tables, images and
-    /// links stay, and links get `rel="noopener noreferrer"`. Relative addresses stay, and up to 256
-    /// elements may be nested. Fails with `OutOfMemory` if memory is refused.
+    /// Returns rules for comments, mails and articles: phrases, headings, lists, tables, images
+    /// and links stay, and links get `rel="noopener noreferrer"`. Relative addresses stay, and up
+    /// to 256 elements may be nested. Fails with `OutOfMemory` if memory is refused.
     pub fn common(alloc: Global) -> Result<Rules, OutOfMemory> {
         let mut rules = Rules::new(alloc);
         for name in &ELEMENTS {
