@@ -11,7 +11,7 @@ ghost use Rattle.dom_markup.specs.FaultKinds.{IsLimitFault};
 ghost use Rattle.dom_markup.specs.Numbered.{document_of};
 ghost use Rattle.dom_markup.specs.ValueTrees.{ValueTrees};
 
-mod nesting;
+pub mod nesting;
 mod texts;
 
 use crate::calm::nesting::{TOP, next_scope};

@@ -8,5 +8,7 @@ mod calm;
 pub mod laws;
 mod reading;
 
+pub use calm::nesting::{Scope, TOP, holds_text};
+pub use calm::read_calm;
 pub use html5_trees::{Context, Options, PageFault, make_page};
 pub use reading::{PageParser, parse_page, parse_page_bytes, parse_page_fragment};
