@@ -1,0 +1,2 @@
+//! Parsing by the HTML Standard: the tokenizer and tree construction together.
+#![tactic(auto)]
