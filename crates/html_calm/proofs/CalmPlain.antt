@@ -11,7 +11,7 @@ use Rattle.dom_markup.specs.Names.{Mode, mode_in, raw_names, raw_text_of, text_o
 use Rattle.dom_markup.specs.Plain.{IsPlainIn, IsPlainTrees, begins_with_text}
 use Rattle.dom_markup.specs.ValueTrees.{Attribute, ValueTrees}
 use Rattle.dom_markup.specs.ValueTrees.ValueTrees.{no_trees, text_node, comment_node, doctype_node, element_node}
-use Rattle.dom_html5.specs.Calm.{admits, are_calm, bars, begins_line, inside, may_hold_comment, may_hold_text}
+use Rattle.dom_html5.specs.Calm.{admits, are_calm, bars, begins_line, behind, behind_first, inside, may_hold_comment, may_hold_text}
 use Rattle.dom_html5.specs.declared.calm.nesting.Scope.{Scope}
 use Rattle.html5_trees.specs.ElementKinds.{holds_doctype, kind_among, kind_of, may_hold, named_kinds, names_of}
 use Rattle.html5_trees.specs.declared.element_kinds.ElementCategory.{ElementCategory}
@@ -165,7 +165,7 @@ as_form name is scope children i h v m p c =
 feedless : (children : ValueTrees) (scope : Scope) → IsPlainTrees false children → are_calm (inside scope Pre) children ≡ true → not (begins_feed (nodes_of children)) ≡ true
 feedless no_trees scope p c = refl
 feedless (text_node contents later) scope p c =
-    let h : (not (begins_line contents) ≡ true) × (are_calm (inside scope Pre) later ≡ true) = and_parts (not (begins_line contents)) (are_calm (inside scope Pre) later) c in
+    let h : (not (begins_line contents) ≡ true) × (are_calm (behind (inside scope Pre)) later ≡ true) = and_parts (not (begins_line contents)) (are_calm (behind (inside scope Pre)) later) c in
     by_chars (chars contents) refl (not_so (begins_line contents) h.0)
   where
     by_chars : (cs : List ℕ) → chars contents ≡ cs → begins_line contents ≡ false → not (begins_feed (nodes_of (text_node contents later))) ≡ true
@@ -365,24 +365,84 @@ same_begin (comment_node contents later) = refl
 same_begin (doctype_node name public system later) = refl
 same_begin (element_node name attributes children later) = refl
 
+-- what a node may stand in behind another is the same to the rules
+place_behind : (p : ElementCategory) → place_in (behind_first p) ≡ place_in p
+place_behind Document = refl
+place_behind Html = refl
+place_behind Head = refl
+place_behind Body = refl
+place_behind Metadata = refl
+place_behind Verbatim = refl
+place_behind Phrase = refl
+place_behind Anchor = refl
+place_behind Button = refl
+place_behind Paragraph = refl
+place_behind Block = refl
+place_behind Heading = refl
+place_behind Form = refl
+place_behind Pre = refl
+place_behind ItemList = refl
+place_behind Item = refl
+place_behind DescriptionList = refl
+place_behind Description = refl
+place_behind Table = refl
+place_behind Caption = refl
+place_behind ColumnGroup = refl
+place_behind Column = refl
+place_behind RowGroup = refl
+place_behind TableRow = refl
+place_behind Cell = refl
+place_behind Other = refl
+
+inner_behind : (p : ElementCategory) → is_inner p ≡ true → is_inner (behind_first p) ≡ true
+inner_behind Document i = i
+inner_behind Html i = i
+inner_behind Head i = i
+inner_behind Body i = i
+inner_behind Metadata i = i
+inner_behind Verbatim i = i
+inner_behind Phrase i = i
+inner_behind Anchor i = i
+inner_behind Button i = i
+inner_behind Paragraph i = i
+inner_behind Block i = i
+inner_behind Heading i = i
+inner_behind Form i = i
+inner_behind Pre i = i
+inner_behind ItemList i = i
+inner_behind Item i = i
+inner_behind DescriptionList i = i
+inner_behind Description i = i
+inner_behind Table i = i
+inner_behind Caption i = i
+inner_behind ColumnGroup i = i
+inner_behind Column i = i
+inner_behind RowGroup i = i
+inner_behind TableRow i = i
+inner_behind Cell i = i
+inner_behind Other i = i
+
+plain_behind : (scope : Scope) (t : ValueTrees) → are_plain (within (behind scope)) (nodes_of t) ≡ true → are_plain (within scope) (nodes_of t) ≡ true
+plain_behind scope t h = ap (λ place. are_plain (record (within scope) { place = place }) (nodes_of t)) (sym (place_behind scope.parent)) ∙ h
+
 -- calm trees inside a head or a body are plain
 pub calm_is_plain : (scope : Scope) (t : ValueTrees) → is_inner scope.parent ≡ true → IsPlainTrees false t → have_no_null t ≡ true → are_calm scope t ≡ true → are_plain (within scope) (nodes_of t) ≡ true
 calm_is_plain scope no_trees i p z c = refl
 calm_is_plain scope (text_node contents later) i p z c =
-    let h : (may_hold_text scope.parent contents ≡ true) × (are_calm scope later ≡ true) = and_parts (may_hold_text scope.parent contents) (are_calm scope later) c in
+    let h : (may_hold_text scope.parent contents ≡ true) × (are_calm (behind scope) later ≡ true) = and_parts (may_hold_text scope.parent contents) (are_calm (behind scope) later) c in
     let n : (list_all (λ b. not (b == 0)) contents ≡ true) × (have_no_null later ≡ true) = and_parts (list_all (λ b. not (b == 0)) contents) (have_no_null later) z in
-    both_true (both_true (text_in scope.parent contents p.1 p.0 n.0 h.0) (ap not (same_begin later ∙ p.2))) (calm_is_plain scope later i p.3 n.1 h.1)
+    both_true (both_true (text_in scope.parent contents p.1 p.0 n.0 h.0) (ap not (same_begin later ∙ p.2))) (plain_behind scope later (calm_is_plain (behind scope) later (inner_behind scope.parent i) p.3 n.1 h.1))
 calm_is_plain scope (comment_node contents later) i p z c =
-    let h : (may_hold_comment scope.parent contents ≡ true) × (are_calm scope later ≡ true) = and_parts (may_hold_comment scope.parent contents) (are_calm scope later) c in
-    calm_is_plain scope later i p.1 z h.1
+    let h : (may_hold_comment scope.parent contents ≡ true) × (are_calm (behind scope) later ≡ true) = and_parts (may_hold_comment scope.parent contents) (are_calm (behind scope) later) c in
+    plain_behind scope later (calm_is_plain (behind scope) later (inner_behind scope.parent i) p.1 z h.1)
 calm_is_plain scope (doctype_node name public system later) i p z c = absurd (true≢false (sym p.0))
 calm_is_plain scope (element_node name attributes children later) i p z c =
-    let h : ((admits scope (kind_of name) && are_calm (inside scope (kind_of name)) children) ≡ true) × (are_calm scope later ≡ true) =
-    and_parts (admits scope (kind_of name) && are_calm (inside scope (kind_of name)) children) (are_calm scope later) c in
+    let h : ((admits scope (kind_of name) && are_calm (inside scope (kind_of name)) children) ≡ true) × (are_calm (behind scope) later ≡ true) =
+    and_parts (admits scope (kind_of name) && are_calm (inside scope (kind_of name)) children) (are_calm (behind scope) later) c in
     let k : (admits scope (kind_of name) ≡ true) × (are_calm (inside scope (kind_of name)) children ≡ true) = and_parts (admits scope (kind_of name)) (are_calm (inside scope (kind_of name)) children) h.0 in
     let n : (have_no_null children ≡ true) × (have_no_null later ≡ true) = and_parts (have_no_null children) (have_no_null later) z in
     let m : (admits_class (within scope) (class_of name) (nodes_of children) ≡ true) × (inside_class (within scope) (class_of name) ≡ within (inside scope (kind_of name))) × (is_inner (inside scope (kind_of name)).parent ≡ true) =
     of_kind name scope children i k.0 p.3 p.4 p.5 k.1 in
     both_true
     (both_true m.0 (ap (λ (w : Within). are_plain w (nodes_of children)) m.1 ∙ calm_is_plain (inside scope (kind_of name)) children m.2 p.5 n.0 k.1))
-    (calm_is_plain scope later i p.6 n.1 h.1)
+    (plain_behind scope later (calm_is_plain (behind scope) later (inner_behind scope.parent i) p.6 n.1 h.1))

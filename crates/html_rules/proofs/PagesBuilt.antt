@@ -149,8 +149,12 @@ page_tokens page =
     ∙ ap (λ t. ADoctype (doctype_named (codes "html")) ∷ AStart (codes "html") page.html false ∷ AStart (codes "head") page.head false ∷ t)
     (regrouped (tokens page.metadata) (map AChar page.space) (tokens page.contents) (AnEnd (codes "head")) (AStart (codes "body") page.body false) (AnEnd (codes "body")) (AnEnd (codes "html")) AnEof)
 
--- a plain page is built as it is written, and the tokenizer is switched as it needs it
-pub page_heard : (page : Page) → IsPlainPage page → tree_of (heard_steps start (tokens (page_trees page) ++ AnEof ∷ [])) ≡ Some (page_trees page)
+-- the document of a page of these tokens, where each start tag switches the tokenizer that has the name for it
+abbrev pub heard_page : List Token → Option Trees
+heard_page page = tree_of (heard_steps start (page ++ AnEof ∷ []))
+
+-- a plain page is built as it is written
+pub page_heard : (page : Page) → IsPlainPage page → heard_page (tokens (page_trees page)) ≡ Some (page_trees page)
 unfolding root before body_open
 page_heard page h =
     let m : (d : Building) × Steps (with_stack at_head (head_open page no_trees ∷ root page no_trees ∷ [])) (tokens page.metadata ++ AnEnd (codes "head") ∷ [])
@@ -192,7 +196,7 @@ eof_built : (b : Building) (os : List Open) → Steps (with_stack (record b { mo
 unfolding tree_step run taken act rules
 eof_built b os = refl
 
--- the nodes of a fragment of these tokens, where each start tag switches the tokenizer that has the name for it
+-- the same of a fragment
 abbrev pub heard_fragment : List ℕ → List Token → Option Trees
 heard_fragment context fragment = children_of (option_and_then (λ b. heard_steps b (fragment ++ AnEof ∷ [])) (fragment_start context))
 
