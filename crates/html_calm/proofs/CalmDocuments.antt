@@ -26,20 +26,20 @@ use Rattle.html_calm.proofs.CalmPlain.{calm_is_plain}
 use Rattle.html_calm.proofs.CategoryPlaces.{is_inner}
 use Rattle.html_calm.proofs.CharTexts.{space_chars}
 
-html_kind : kind_of (codes "html") ≡ Html
+pub html_kind : kind_of (codes "html") ≡ Html
 unfolding kind_of names_of
 html_kind = refl
 
-head_kind : kind_of (codes "head") ≡ Head
+pub head_kind : kind_of (codes "head") ≡ Head
 unfolding kind_of names_of
 head_kind = refl
 
-body_kind : kind_of (codes "body") ≡ Body
+pub body_kind : kind_of (codes "body") ≡ Body
 unfolding kind_of names_of
 body_kind = refl
 
 -- an element of that name and category: its children are calm, and so is what follows
-calm_parts : (scope : Scope) (name : List ℕ) (kind : ElementCategory) (attributes : List Attribute) (children later : ValueTrees) → kind_of name ≡ kind →
+pub calm_parts : (scope : Scope) (name : List ℕ) (kind : ElementCategory) (attributes : List Attribute) (children later : ValueTrees) → kind_of name ≡ kind →
     are_calm scope (element_node name attributes children later) ≡ true → (are_calm (inside scope kind) children ≡ true) × (are_calm (behind scope) later ≡ true)
 calm_parts scope name kind attributes children later is c =
     let h : ((admits scope (kind_of name) && are_calm (inside scope (kind_of name)) children) ≡ true) × (are_calm (behind scope) later ≡ true) =
@@ -70,7 +70,7 @@ rest_plain [] attributes body c p z =
 rest_plain (b ∷ space) attributes body c p z =
     let e : ValueTrees = element_node (codes "body") attributes body no_trees in
     let h : (may_hold_text Html (b ∷ space) ≡ true) × (are_calm (inside top Html) e ≡ true) = and_parts (list_all is_whitespace (b ∷ space)) (are_calm (inside top Html) e) c in
-    let n : (list_all (λ d. not (d == 0)) (b ∷ space) ≡ true) × (have_no_null e ≡ true) = and_parts (list_all (λ d. not (d == 0)) (b ∷ space)) (have_no_null e) z in
+    let n : (list_all (λ c. not (c == 0)) (chars (b ∷ space)) ≡ true) × (have_no_null e ≡ true) = and_parts (list_all (λ c. not (c == 0)) (chars (b ∷ space))) (have_no_null e) z in
     record {
       white = space_chars (b ∷ space) p.1 h.0;
       contents = body_plain attributes body h.1 p.3.5 (and_parts (have_no_null body) true n.1).0;
@@ -124,6 +124,10 @@ FlowContext context = (is_inner (kind_of context) ≡ true) × (place_in (kind_o
 contexts : (context : List ℕ) → is_among context flow_contexts ≡ true → FlowContext context
 unfolding kind_of names_of FlowContext
 contexts = of_each (λ context. (is_inner (kind_of context) ≡ true) × (place_in (kind_of context) ≡ FlowPlace)) flow_contexts ((refl, refl), ((refl, refl), ((refl, refl), ((refl, refl), ((refl, refl), tt)))))
+
+pub inner_context : (context : List ℕ) → is_among context flow_contexts ≡ true → is_inner (kind_of context) ≡ true
+unfolding FlowContext
+inner_context context is = (contexts context is).0
 
 -- the same as a fragment in such a context
 pub calm_fragment_heard : (context : List ℕ) (t : ValueTrees) → is_among context flow_contexts ≡ true → are_calm (record top { parent = kind_of context }) t ≡ true → IsPlainTrees false t → have_no_null t ≡ true →

@@ -221,7 +221,7 @@ as_raw name is raw scope children i h v m p c =
 -- ---- each name of a category
 
 -- by the first of the names that is the same
-of_names : (P : List ℕ → Type 0) (names : List (List ℕ)) → Each P names → (n : List ℕ) → is_among n names ≡ true → P n
+pub of_names : (P : List ℕ → Type 0) (names : List (List ℕ)) → Each P names → (n : List ℕ) → is_among n names ≡ true → P n
 of_names P [] each n h = absurd (true≢false (sym h))
 of_names P (m ∷ names) each n h = by_test (of_names P names each.1 n) (bytes_eq m n) refl h
   where
@@ -394,7 +394,7 @@ place_behind TableRow = refl
 place_behind Cell = refl
 place_behind Other = refl
 
-inner_behind : (p : ElementCategory) → is_inner p ≡ true → is_inner (behind_first p) ≡ true
+pub inner_behind : (p : ElementCategory) → is_inner p ≡ true → is_inner (behind_first p) ≡ true
 inner_behind Document i = i
 inner_behind Html i = i
 inner_behind Head i = i
@@ -430,7 +430,7 @@ pub calm_is_plain : (scope : Scope) (t : ValueTrees) → is_inner scope.parent �
 calm_is_plain scope no_trees i p z c = refl
 calm_is_plain scope (text_node contents later) i p z c =
     let h : (may_hold_text scope.parent contents ≡ true) × (are_calm (behind scope) later ≡ true) = and_parts (may_hold_text scope.parent contents) (are_calm (behind scope) later) c in
-    let n : (list_all (λ b. not (b == 0)) contents ≡ true) × (have_no_null later ≡ true) = and_parts (list_all (λ b. not (b == 0)) contents) (have_no_null later) z in
+    let n : (list_all (λ c. not (c == 0)) (chars contents) ≡ true) × (have_no_null later ≡ true) = and_parts (list_all (λ c. not (c == 0)) (chars contents)) (have_no_null later) z in
     both_true (both_true (text_in scope.parent contents p.1 p.0 n.0 h.0) (ap not (same_begin later ∙ p.2))) (plain_behind scope later (calm_is_plain (behind scope) later (inner_behind scope.parent i) p.3 n.1 h.1))
 calm_is_plain scope (comment_node contents later) i p z c =
     let h : (may_hold_comment scope.parent contents ≡ true) × (are_calm (behind scope) later ≡ true) = and_parts (may_hold_comment scope.parent contents) (are_calm (behind scope) later) c in

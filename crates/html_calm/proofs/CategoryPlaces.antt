@@ -750,7 +750,7 @@ holds_no_Document Cell i h = absurd (true≢false (sym h))
 holds_no_Document Other i h = absurd (true≢false (sym h))
 
 -- the text of a calm tree may be in its place
-pub text_in : (p : ElementCategory) (bs : List ℕ) → IsUtf8 bs → bs ≢ [] → list_all (λ b. not (b == 0)) bs ≡ true → may_hold_text p bs ≡ true → may_be_text (place_in p) (chars bs) ≡ true
+pub text_in : (p : ElementCategory) (bs : List ℕ) → IsUtf8 bs → bs ≢ [] → list_all (λ c. not (c == 0)) (chars bs) ≡ true → may_hold_text p bs ≡ true → may_be_text (place_in p) (chars bs) ≡ true
 text_in Document bs u some z h = both_true (text_chars bs u some z) refl
 text_in Html bs u some z h = both_true (text_chars bs u some z) refl
 text_in Head bs u some z h = both_true (text_chars bs u some z) (space_chars bs u h)

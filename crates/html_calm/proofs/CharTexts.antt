@@ -14,34 +14,13 @@ use Rattle.html_rules.specs.Building.{is_space}
 use Rattle.html_rules.specs.PlainTrees.{is_text}
 use Rattle.html_rules.proofs.TreeLists.{each_space}
 
-is_some : ℕ → Bool
-is_some d = not (d == 0)
-
--- a character that is encoded without a byte 0 is not U+0000
-no_null_char : (c : ℕ) → list_all is_some (encode c) ≡ true → is_some c ≡ true
-unfolding is_some encode
-no_null_char c h = by_test (c == 0) refl
-  where
-    by_test : (x : Bool) → (c == 0) ≡ x → not x ≡ true
-    by_test true e = absurd (true≢false (sym (subst (λ d. list_all is_some (encode d) ≡ true) (eqb-true c 0 e) h)))
-    by_test false e = refl
-
-no_null_chars : (cs : List ℕ) → list_all is_some (encodes cs) ≡ true → list_all is_some cs ≡ true
-unfolding is_some
-no_null_chars [] h = refl
-no_null_chars (c ∷ cs) h =
-    let parts : (list_all is_some (encode c) ≡ true) × (list_all is_some (encodes cs) ≡ true) =
-    and_parts (list_all is_some (encode c)) (list_all is_some (encodes cs)) (sym (list_all-append is_some (encode c) (encodes cs)) ∙ h) in
-    both_true (no_null_char c parts.0) (no_null_chars cs parts.1)
-
 -- the characters of a text that is not empty are a text
-pub text_chars : (bs : List ℕ) → IsUtf8 bs → bs ≢ [] → list_all (λ b. not (b == 0)) bs ≡ true → is_text (chars bs) ≡ true
-unfolding is_some
-text_chars bs u some h = by_chars (chars bs) (encodes-chars bs u)
+pub text_chars : (bs : List ℕ) → IsUtf8 bs → bs ≢ [] → list_all (λ c. not (c == 0)) (chars bs) ≡ true → is_text (chars bs) ≡ true
+text_chars bs u some h = by_chars (chars bs) (encodes-chars bs u) h
   where
-    by_chars : (cs : List ℕ) → encodes cs ≡ bs → is_text cs ≡ true
-    by_chars [] e = absurd (some (sym e))
-    by_chars (c ∷ cs) e = no_null_chars (c ∷ cs) (ap (list_all is_some) e ∙ h)
+    by_chars : (cs : List ℕ) → encodes cs ≡ bs → list_all (λ c. not (c == 0)) cs ≡ true → is_text cs ≡ true
+    by_chars [] e k = absurd (some (sym e))
+    by_chars (c ∷ cs) e k = k
 
 -- a text that begins with no line feed has another first character
 pub feed_chars : (bs : List ℕ) → IsUtf8 bs → begins_line bs ≡ false → (c : ℕ) (cs : List ℕ) → chars bs ≡ c ∷ cs → (c == 10) ≡ false

@@ -27,7 +27,7 @@ nodes_of (element_node name attributes children later) = element name (attrs_of 
 -- no text holds U+0000
 abbrev pub have_no_null : ValueTrees → Bool
 have_no_null no_trees = true
-have_no_null (text_node contents later) = list_all (λ b. not (b == 0)) contents && have_no_null later
+have_no_null (text_node contents later) = list_all (λ c. not (c == 0)) (chars contents) && have_no_null later
 have_no_null (comment_node contents later) = have_no_null later
 have_no_null (doctype_node name public system later) = have_no_null later
 have_no_null (element_node name attributes children later) = have_no_null children && have_no_null later

@@ -49,7 +49,7 @@ none_after None seen h = refl
 none_after (Some b) seen h = none_in b.mode seen h
 
 -- the last token decides
-behind_last : (seen : List Token) (t : Token) (more : List Token) → switch_behind (seen ++ t ∷ more) ≡ switch_behind (t ∷ more)
+pub behind_last : (seen : List Token) (t : Token) (more : List Token) → switch_behind (seen ++ t ∷ more) ≡ switch_behind (t ∷ more)
 behind_last [] t more = refl
 behind_last (x ∷ []) t more = refl
 behind_last (x ∷ y ∷ seen) t more = behind_last (y ∷ seen) t more

@@ -1,2 +1,43 @@
-//! Parsing by the HTML Standard: the tokenizer and tree construction together.
+//! Parsing by the HTML Standard, the tokenizer and tree construction together, and what it makes of
+//! calm documents. The crate has no code that runs: its functions are laws.
 #![tactic(auto)]
+
+ghost use Rattle.std.specs.Prelude.{[], ◌∷◌, codes};
+ghost use Rattle.dom_nodes.specs.Escaping.{value_char};
+ghost use Rattle.html_laws.specs.Values.{safe_char};
+ghost use Rattle.html_reading.specs.Examples.{ImpliedTagsAreParsed, TextStatesAreParsed};
+ghost use Rattle.html_reading.specs.Laws.{CalmDocumentsAreParsed, CalmFragmentsAreParsed};
+ghost use Rattle.html_reading.specs.Laws.{CalmHtmlIsParsed, FragmentsAreParsedOneWay};
+ghost use Rattle.html_reading.specs.Laws.{PagesAreParsedOneWay};
+
+use dom_markup::laws::plain::html_of_trees;
+
+/// The HTML of a calm document is parsed as that document, and the HTML of calm trees is parsed as
+/// these trees where the context element is a `body`, `div`, `li`, `td` or `blockquote`.
+pub fn calm_html_is_parsed()
+    ensures html { CalmHtmlIsParsed }
+    ensures document { CalmDocumentsAreParsed value_char }
+    ensures fragment { CalmFragmentsAreParsed value_char }
+{
+    // The law is called for its contract alone.
+    html_of_trees();
+}
+
+/// The same where `<` and `>` are escaped in values too.
+pub fn safe_html_is_parsed()
+    ensures document { CalmDocumentsAreParsed safe_char }
+    ensures fragment { CalmFragmentsAreParsed safe_char }
+{}
+
+/// A text is parsed as one document at most, and in one context as one fragment at most.
+pub fn one_parse()
+    ensures page { PagesAreParsedOneWay }
+    ensures fragment { FragmentsAreParsedOneWay }
+{}
+
+/// Two pages that are parsed as the trees that are given with them: one without most of its tags,
+/// and one with elements whose text has states of its own.
+pub fn examples()
+    ensures implied { ImpliedTagsAreParsed }
+    ensures texts { TextStatesAreParsed }
+{}
