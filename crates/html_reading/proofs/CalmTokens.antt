@@ -25,9 +25,9 @@ use Rattle.html_laws.specs.TreeTokens.{doctype_of, start_of, tokens_in}
 
 -- ---- names
 
-record Known (name : List ℕ) : Type 0 where
-  ascii : chars name ≡ name
-  ends : end_of name ≡ (if is_among name void_names then [] else AnEnd name ∷ [])
+pub record Known (name : List ℕ) : Type 0 where
+  pub ascii : chars name ≡ name
+  pub ends : end_of name ≡ (if is_among name void_names then [] else AnEnd name ∷ [])
 
 html_known : Each Known (names_of Html)
 unfolding names_of chars void_names
