@@ -1,7 +1,7 @@
 -- Calm documents are plain pages.
-use Rattle.std.specs.Prelude.{◌≡◌, ℕ, Bool, true, false, not, ◌==◌, ◌&&◌, List, [], ◌∷◌, ◌++◌, Some, codes, refl}
+use Rattle.std.specs.Prelude.{◌≡◌, ℕ, true, false, not, ◌==◌, ◌&&◌, List, [], ◌∷◌, ◌++◌, Some, codes, refl}
 use Rattle.std.specs.List.{list_all}
-use Rattle.std.specs.Str.{IsUtf8, chars}
+use Rattle.std.specs.Str.{chars}
 use Rattle.std.proofs.Math.Utf8.{encodes}
 use Rattle.std.proofs.lemmas.Bool.{and_parts}
 use Rattle.std.proofs.lemmas.Str.{chars-nil, encodes-chars}
@@ -9,7 +9,7 @@ use mathlib.Core.Path.{◌∙◌, sym, ap, subst}
 use Rattle.dom_markup.specs.Bytes.{is_whitespace}
 use Rattle.dom_markup.specs.Plain.{IsPlainTrees}
 use Rattle.dom_markup.specs.ValueTrees.{Attribute, ValueTrees}
-use Rattle.dom_markup.specs.ValueTrees.ValueTrees.{no_trees, text_node, comment_node, doctype_node, element_node}
+use Rattle.dom_markup.specs.ValueTrees.ValueTrees.{no_trees, doctype_node, element_node}
 use Rattle.dom_html5.specs.Calm.{IsCalmDocument, admits, are_calm, behind, behind_text, inside, may_hold_text, top}
 use Rattle.dom_html5.specs.declared.calm.nesting.Scope.{Scope}
 use Rattle.html5_trees.specs.ElementKinds.{kind_of, names_of}
@@ -17,11 +17,11 @@ use Rattle.html5_trees.specs.declared.element_kinds.ElementCategory.{ElementCate
 use Rattle.html5_trees.specs.declared.element_kinds.ElementCategory.TheVariants.{Html, Head, Body}
 use Rattle.html_rules.specs.Building.{built, built_fragment, fragment_start, is_space, start}
 use Rattle.html_standard.specs.Tokens.{AnEof}
-use Rattle.html_rules.specs.PlainTrees.{FlowPlace, HeadPlace, IsPlainPage, Page, Place, are_plain, flow_contexts, outermost, page_trees, space_node}
-use Rattle.html_rules.specs.TreeTokens.{Trees, is_among, tokens, no_trees as no_nodes, text_node as text, doctype_node as doctype, element_node as element}
+use Rattle.html_rules.specs.PlainTrees.{FlowPlace, IsPlainPage, Page, are_plain, flow_contexts, outermost, page_trees, space_node}
+use Rattle.html_rules.specs.TreeTokens.{is_among, tokens, no_trees as no_nodes, text_node as text, doctype_node as doctype, element_node as element}
 use Rattle.html_rules.proofs.PagesBuilt.{fragment_heard, heard_fragment, heard_page, page_heard}
 use Rattle.html_rules.proofs.TreeLists.{heard_children, heard_tree, of_each}
-use Rattle.html_calm.specs.CalmTrees.{attrs_of, have_no_null, nodes_of, place_in, within}
+use Rattle.html_calm.specs.CalmTrees.{attrs_of, have_no_null, nodes_of, place_in}
 use Rattle.html_calm.proofs.CalmPlain.{calm_is_plain}
 use Rattle.html_calm.proofs.CategoryPlaces.{is_inner}
 use Rattle.html_calm.proofs.CharTexts.{space_chars}

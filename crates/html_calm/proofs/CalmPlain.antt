@@ -1,27 +1,27 @@
 -- Calm trees are plain: the elements of each category meet the conditions of their class.
 use Rattle.std.specs.Prelude.{◌≡◌, ℕ, Bool, true, false, not, ◌==◌, ◌||◌, ◌&&◌, List, [], ◌∷◌, codes, refl, if◌then◌else◌}
 use Rattle.std.specs.List.{list_all}
-use Rattle.std.specs.Str.{IsUtf8, bytes_eq, chars}
+use Rattle.std.specs.Str.{bytes_eq, chars}
 use Rattle.std.proofs.lemmas.Slice.Eq.{bytes_eq-Decides}
 use Rattle.std.proofs.lemmas.Bool.{and_parts, true≢false}
 use Rattle.std.specs.Cmp.Derive.{both_true}
 use mathlib.Core.Path.{◌∙◌, sym, ap, subst}
 use Rattle.dom_nodes.specs.Words.{is_among}
-use Rattle.dom_markup.specs.Names.{Mode, mode_in, raw_names, raw_text_of, text_of, text_names, void_names}
+use Rattle.dom_markup.specs.Names.{mode_in, raw_names, raw_text_of, text_of, text_names, void_names}
 use Rattle.dom_markup.specs.Plain.{IsPlainIn, IsPlainTrees, begins_with_text}
-use Rattle.dom_markup.specs.ValueTrees.{Attribute, ValueTrees}
+use Rattle.dom_markup.specs.ValueTrees.{ValueTrees}
 use Rattle.dom_markup.specs.ValueTrees.ValueTrees.{no_trees, text_node, comment_node, doctype_node, element_node}
 use Rattle.dom_html5.specs.Calm.{admits, are_calm, bars, begins_line, behind, behind_first, inside, may_hold_comment, may_hold_text}
 use Rattle.dom_html5.specs.declared.calm.nesting.Scope.{Scope}
-use Rattle.html5_trees.specs.ElementKinds.{holds_doctype, kind_among, kind_of, may_hold, named_kinds, names_of}
+use Rattle.html5_trees.specs.ElementKinds.{kind_among, kind_of, may_hold, named_kinds, names_of}
 use Rattle.html5_trees.specs.declared.element_kinds.ElementCategory.{ElementCategory}
 use Rattle.html5_trees.specs.declared.element_kinds.ElementCategory.TheVariants.{Document, Html, Head, Body, Metadata, Verbatim, Phrase, Anchor, Button, Paragraph, Block, Heading, Form, Pre, ItemList, Item, DescriptionList, Description, Table, Caption, ColumnGroup, Column, RowGroup, TableRow, Cell, Other}
-use Rattle.html_rules.specs.PlainTrees.{Class, ABlock, AList, ADescriptionList, AHeading, AParagraph, APhrase, AFormatting, AnAnchor, AVoid, AnItem, ADescription, AButton, ABreak, ASource, AnInput, AForm, APre, ARawText, AMetadata, ATable, ACaption, AColumnGroup, AColumn, ARowGroup, ARow, ACell, Within, are_plain, begins_feed, begins_text, class_of, is_flow, is_head, is_heading, is_none, is_raw, admits as admits_class, inside as inside_class}
-use Rattle.html_rules.specs.TreeTokens.{Trees, text_node as text}
+use Rattle.html_rules.specs.PlainTrees.{Class, ABlock, AList, ADescriptionList, AHeading, AParagraph, APhrase, AFormatting, AnAnchor, AVoid, AnItem, ADescription, AButton, ABreak, ASource, AnInput, AForm, APre, ARawText, AMetadata, ATable, ACaption, AColumnGroup, AColumn, ARowGroup, ARow, ACell, Within, are_plain, begins_feed, begins_text, class_of, is_flow, is_heading, is_none, is_raw, admits as admits_class, inside as inside_class}
+use Rattle.html_rules.specs.TreeTokens.{text_node as text}
 use Rattle.html_rules.proofs.PlainElements.{not_so}
 use Rattle.html_rules.proofs.TreeLists.{Each}
 use Rattle.html_calm.specs.CalmTrees.{have_no_null, nodes_of, place_in, within}
-use Rattle.html_calm.proofs.CategoryPlaces.{is_inner, holds_Phrase, holds_Anchor, holds_Button, holds_Paragraph, holds_Block, holds_Form, holds_Pre, holds_ItemList, holds_DescriptionList, holds_Table, holds_Heading, holds_Verbatim, holds_Item, holds_Description, holds_Caption, holds_ColumnGroup, holds_RowGroup, holds_Column, holds_TableRow, holds_Cell, holds_Metadata, holds_no_Html, holds_no_Head, holds_no_Body, holds_no_Other, holds_no_Document, text_in}
+use Rattle.html_calm.proofs.CategoryPlaces.{is_inner, holds_Phrase, holds_Anchor, holds_Button, holds_Paragraph, holds_Block, holds_Form, holds_Pre, holds_ItemList, holds_DescriptionList, holds_Table, holds_Heading, holds_Verbatim, holds_Item, holds_Description, holds_Caption, holds_ColumnGroup, holds_RowGroup, holds_Column, holds_TableRow, holds_Cell, holds_Metadata, holds_no_Html, holds_no_Head, holds_no_Body, holds_no_Other, text_in}
 use Rattle.html_calm.proofs.CharTexts.{feed_chars}
 
 -- an element of that name and category that is admitted is admitted by its class, and its children are in the same place by both

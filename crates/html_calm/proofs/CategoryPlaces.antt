@@ -4,14 +4,12 @@ use Rattle.std.specs.List.{list_all}
 use Rattle.std.specs.Str.{IsUtf8, chars}
 use Rattle.std.proofs.lemmas.Bool.{true≢false}
 use Rattle.std.specs.Cmp.Derive.{both_true}
-use mathlib.Core.Path.{◌∙◌, sym, ap}
-use Rattle.dom_markup.specs.Bytes.{is_whitespace}
+use mathlib.Core.Path.{sym}
 use Rattle.dom_html5.specs.Calm.{may_hold_text}
 use Rattle.html5_trees.specs.ElementKinds.{may_hold}
 use Rattle.html5_trees.specs.declared.element_kinds.ElementCategory.{ElementCategory}
 use Rattle.html5_trees.specs.declared.element_kinds.ElementCategory.TheVariants.{Document, Html, Head, Body, Metadata, Verbatim, Phrase, Anchor, Button, Paragraph, Block, Heading, Form, Pre, ItemList, Item, DescriptionList, Description, Table, Caption, ColumnGroup, Column, RowGroup, TableRow, Cell, Other}
-use Rattle.html_rules.specs.Building.{is_space}
-use Rattle.html_rules.specs.PlainTrees.{is_column_group, is_description_list, is_flow, is_head, is_heading, is_list, is_row, is_row_group, is_table, is_text, may_be_text}
+use Rattle.html_rules.specs.PlainTrees.{is_column_group, is_description_list, is_flow, is_head, is_heading, is_list, is_row, is_row_group, is_table, may_be_text}
 use Rattle.html_calm.specs.CalmTrees.{place_in}
 use Rattle.html_calm.proofs.CharTexts.{space_chars, text_chars}
 

@@ -1,5 +1,5 @@
 -- Calm trees as tree construction sees them: with texts as characters, in place of the bytes of their UTF-8.
-use Rattle.std.specs.Prelude.{ℕ, Bool, true, false, not, ◌==◌, ◌&&◌, List, map}
+use Rattle.std.specs.Prelude.{ℕ, Bool, true, not, ◌==◌, ◌&&◌, List, map}
 use Rattle.std.specs.List.{list_all}
 use Rattle.std.specs.Str.{chars}
 use Rattle.dom_markup.specs.ValueTrees.{Attribute, ValueTrees}

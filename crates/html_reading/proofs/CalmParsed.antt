@@ -1,5 +1,5 @@
 -- What is written of calm trees is parsed as these trees.
-use Rattle.std.specs.Prelude.{◌≡◌, ℕ, Bool, true, false, not, ◌==◌, ◌&&◌, ◌||◌, List, [], ◌∷◌, ◌++◌, flat_map, Option, None, Some, refl}
+use Rattle.std.specs.Prelude.{◌≡◌, ℕ, Bool, true, false, not, ◌==◌, List, [], ◌∷◌, ◌++◌, flat_map, Option, None, Some, refl}
 use Rattle.std.specs.List.{list_all}
 use Rattle.std.specs.Option.{option_and_then}
 use Rattle.std.specs.Str.{chars}
@@ -13,19 +13,18 @@ use Rattle.dom_markup.specs.Plain.{IsPlainTrees}
 use Rattle.dom_markup.specs.ReadingBack.{DocumentIsWrittenAsTrees}
 use Rattle.dom_markup.specs.ValueTrees.{ValueTrees}
 use Rattle.dom_markup.specs.ValueTrees.ValueTrees.{no_trees, text_node, comment_node, doctype_node, element_node}
-use Rattle.dom_html5.specs.Calm.{IsCalmDocument, are_calm}
 use Rattle.html_rules.specs.Building.{Building, children_of, fragment_start, start, tree_of}
 use Rattle.html_rules.specs.PlainTrees.{flow_contexts}
-use Rattle.html_rules.specs.TreeTokens.{Trees, is_among, tokens}
+use Rattle.html_rules.specs.TreeTokens.{is_among, tokens}
 use Rattle.html_rules.proofs.TreeLists.{heard_steps, of_each}
 use Rattle.html_standard.specs.Machine.{normalized, start_in}
 use Rattle.html_standard.specs.PlainMarkup.{AreAnswered, Item, Piece, is_raw_char, tokens as item_tokens, written}
 use Rattle.html_standard.specs.Reading.{IsFeedback, plain_feedback}
-use Rattle.html_standard.specs.States.{State, Data}
-use Rattle.html_standard.specs.Tokens.{Token, AnEof}
+use Rattle.html_standard.specs.States.{Data}
+use Rattle.html_standard.specs.Tokens.{AnEof}
 use Rattle.html_standard.proofs.PlainPages.{plain_page}
 use Rattle.html_laws.specs.Laws.{FollowsHtml}
-use Rattle.html_laws.specs.ReadableTrees.{AreReadable, IsKept}
+use Rattle.html_laws.specs.ReadableTrees.{AreReadable}
 use Rattle.html_laws.specs.TreeItems.{items_of}
 use Rattle.html_laws.specs.TreeTokens.{tokens_in}
 use Rattle.html_laws.specs.Values.{WritesValues, value_piece}
@@ -108,8 +107,9 @@ fragments_parsed by piece writes context t is calm plain readable = by_start (fr
         markup_parsed by piece writes false t plain readable (calm_tokens (scope_in context) t (inner_context context is) plain calm) b e ends in (
           m.0,
           ap (λ s. children_of (option_and_then (λ c. parsed m.0 (parser (start_in s) (normalized (chars (text_by by false t))) c)) (fragment_start context))) (begins_in_data context is)
-          ∙ ap (λ o. children_of (option_and_then (λ c. parsed m.0 (parser (start_in Data) (normalized (chars (text_by by false t))) c)) o)) begins ∙ ap children_of m.1 ∙ k,
+              ∙ ap (λ o. children_of (option_and_then (λ c. parsed m.0 (parser (start_in Data) (normalized (chars (text_by by false t))) c)) o)) begins ∙ ap children_of m.1 ∙ k,
         )
+
     by_start : (o : Option Building) → fragment_start context ≡ o → children_of (option_and_then (λ b. heard_steps b (tokens (nodes_of t) ++ AnEof ∷ [])) o) ≡ Some (nodes_of t) →
         IsFragmentOf context (chars (text_by by false t)) (nodes_of t)
     by_start None begins k = cc

@@ -1,5 +1,5 @@
 -- The parser goes on as the tokenizer does with the answers of tree construction between its steps.
-use Rattle.std.specs.Prelude.{◌≡◌, ℕ, zero, suc, Bool, true, false, cond, List, [], ◌∷◌, ◌++◌, flat_map, Option, None, Some, refl}
+use Rattle.std.specs.Prelude.{◌≡◌, ℕ, suc, Bool, true, false, cond, List, [], ◌∷◌, ◌++◌, flat_map, Option, None, Some, refl}
 use Rattle.std.specs.List.{list_all}
 use Rattle.std.specs.Option.{option_and_then}
 use Rattle.std.proofs.lemmas.Bool.{true≢false}
@@ -8,11 +8,11 @@ use Rattle.std.proofs.lemmas.Option.{same_Some}
 use mathlib.Core.Path.{◌∙◌, sym, ap, subst}
 use Rattle.html_rules.specs.Building.{Building, tree_step, tree_steps}
 use Rattle.html_rules.specs.RuleWords.{Mode, Initial, BeforeHtml, BeforeHead, InHead, AfterHead, InBody, Text, InTable, InCaption, InColumnGroup, InTableBody, InRow, InCell, AfterBody, AfterAfterBody}
-use Rattle.html_rules.proofs.TreeLists.{Steps, heard_are_steps, heard_steps, if_heard, is_heard, says, steps_append}
+use Rattle.html_rules.proofs.TreeLists.{Steps, heard_are_steps, heard_steps, if_heard, is_heard, says}
 use Rattle.html_standard.specs.Laws.{PlainPagesAreRead}
 use Rattle.html_standard.specs.Machine.{Machine, Step, normalized, start_in, step}
 use Rattle.html_standard.specs.PlainMarkup.{Item, AreAnswered, IsAnswered, CharItem, StartTag, EndTag, CommentItem, DoctypeItem, TextElement, RawElement, is_plain_item, start_token, state_of, tokens, written}
-use Rattle.html_standard.specs.Reading.{Feedback, IsFeedback, Reader, Reads, ReadsPage, here, next, after, answered, may_switch, plain_feedback, reader, step_at, switch_behind, switched}
+use Rattle.html_standard.specs.Reading.{Feedback, IsFeedback, Reader, Reads, ReadsPage, here, next, answered, plain_feedback, step_at, switch_behind, switched}
 use Rattle.html_standard.specs.States.{State, Data, RCDATA}
 use Rattle.html_standard.specs.Tokens.{Token, AnEof}
 use Rattle.html_reading.specs.Parsing.{Parser, behind, parsed, parser, switch_in}
@@ -108,6 +108,7 @@ heard_at b e [] t more h = by_step (tree_step b t) refl h
     by_heard : (c : Building) (x : Bool) → is_heard t c ≡ x → tree_step b t ≡ Some c → option_and_then (λ d. heard_steps d more) (cond x (Some c) None) ≡ Some e → Heard b [] t
     by_heard c true k is later = record { now = c; steps = ap (option_and_then (λ d. tree_steps d [])) is; heard = k }
     by_heard c false k is later = cc
+
     by_step : (o : Option Building) → tree_step b t ≡ o → option_and_then (λ d. heard_steps d more) (option_and_then (if_heard t) o) ≡ Some e → Heard b [] t
     by_step None is k = cc
     by_step (Some c) is k = by_heard c (is_heard t c) refl is k
@@ -118,6 +119,7 @@ heard_at b e (x ∷ seen) t more h = by_step (λ c k. heard_at c e seen t more k
         let s : Heard c seen t = each c k in
         record { now = s.now; steps = ap (option_and_then (λ d. tree_steps d (seen ++ t ∷ []))) is ∙ s.steps; heard = s.heard }
     by_heard each c false is k = cc
+
     by_step : ((c : Building) → Steps c (seen ++ t ∷ more) e → Heard c seen t) → (o : Option Building) → tree_step b x ≡ o → option_and_then (λ d. heard_steps d (seen ++ t ∷ more)) (option_and_then (if_heard x) o) ≡ Some e → Heard b (x ∷ seen) t
     by_step each None is k = cc
     by_step each (Some c) is k = by_heard each c (is_heard x c) is k

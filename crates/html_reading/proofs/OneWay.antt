@@ -21,6 +21,7 @@ one_end (suc n) (suc m) p b c h k = by_tokens (λ q. one_end n m q b c) (tree_st
     by_stop : ((q : Parser) → parsed n q ≡ Some b → parsed m q ≡ Some c → b ≡ c) → (d : Building) (q : Parser) (x : Bool) → elim x [ true ↦ Some d | false ↦ parsed n q ] ≡ Some b → elim x [ true ↦ Some d | false ↦ parsed m q ] ≡ Some c → b ≡ c
     by_stop each d q true h k = sym (same_Some d b h) ∙ same_Some d c k
     by_stop each d q false h k = each q h k
+
     by_tokens : ((q : Parser) → parsed n q ≡ Some b → parsed m q ≡ Some c → b ≡ c) → (o : Option Building) →
         option_and_then (behind (parsed n) (step false p.machine p.text)) o ≡ Some b → option_and_then (behind (parsed m) (step false p.machine p.text)) o ≡ Some c → b ≡ c
     by_tokens each None h k = cc

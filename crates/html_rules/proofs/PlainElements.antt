@@ -4,7 +4,7 @@ use Rattle.std.proofs.lemmas.Bool.{and_parts, true≢false}
 use mathlib.Core.Path.{sym, ap, subst}
 use Rattle.html_rules.specs.Building.{Building, Open, closed_item, closed_p, tree_step, with_stack}
 use Rattle.html_rules.specs.ElementNames.{scope_of}
-use Rattle.html_rules.specs.PlainTrees.{Class, ABlock, AList, ADescriptionList, AHeading, AParagraph, APhrase, AFormatting, AnAnchor, AVoid, AnItem, ADescription, AButton, ABreak, ASource, AnInput, ARuby, ARubyText, FlowPlace, HeadingPlace, ListPlace, DescriptionListPlace, RubyPlace, Within, admits, are_plain, holds_blocks, inside, is_flow, is_heading, is_list, is_description_list, is_none, names_of}
+use Rattle.html_rules.specs.PlainTrees.{Class, ABlock, AList, ADescriptionList, AHeading, AParagraph, APhrase, AFormatting, AnAnchor, AVoid, AnItem, ADescription, AButton, ABreak, ASource, AnInput, ARuby, ARubyText, FlowPlace, HeadingPlace, ListPlace, DescriptionListPlace, RubyPlace, Within, admits, are_plain, holds_blocks, inside, is_flow, is_heading, is_none, names_of}
 use Rattle.html_rules.specs.RuleWords.{Scope}
 use Rattle.html_rules.specs.TreeRules.{headings}
 use Rattle.html_standard.specs.Reading.{switch_at}

@@ -142,6 +142,7 @@ heard_are_steps b e (t ∷ more) h = by_step (λ c. heard_are_steps c e more) (t
     by_heard : (x : Bool) (c : Building) → (Steps c more e → tree_steps c more ≡ Some e) → option_and_then (λ after. heard_steps after more) (cond x (Some c) None) ≡ Some e → tree_steps c more ≡ Some e
     by_heard true c each k = each k
     by_heard false c each k = cc
+
     by_step : ((c : Building) → Steps c more e → tree_steps c more ≡ Some e) → (o : Option Building) → option_and_then (λ after. heard_steps after more) (option_and_then (if_heard t) o) ≡ Some e →
         option_and_then (λ after. tree_steps after more) o ≡ Some e
     by_step each None k = cc
