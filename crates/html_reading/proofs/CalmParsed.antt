@@ -9,10 +9,12 @@ use mathlib.Core.Path.{◌∙◌, sym, ap, subst}
 use Rattle.dom_nodes.specs.Escaping.{value_char}
 use Rattle.dom_links.specs.Forest.{Forest}
 use Rattle.dom_links.specs.Sound.{IsForest}
+use Rattle.dom_markup.specs.Html.{html_of}
 use Rattle.dom_markup.specs.Plain.{IsPlainTrees}
 use Rattle.dom_markup.specs.ReadingBack.{DocumentIsWrittenAsTrees}
 use Rattle.dom_markup.specs.ValueTrees.{ValueTrees}
 use Rattle.dom_markup.specs.ValueTrees.ValueTrees.{no_trees, text_node, comment_node, doctype_node, element_node}
+use Rattle.dom_html5.specs.Calm.{is_calm_text}
 use Rattle.html_rules.specs.Building.{Building, children_of, fragment_start, start, tree_of}
 use Rattle.html_rules.specs.PlainTrees.{flow_contexts}
 use Rattle.html_rules.specs.TreeTokens.{is_among, tokens}
@@ -38,8 +40,10 @@ use Rattle.html_laws.proofs.TreesTokens.{trees_tokens}
 use Rattle.html_laws.proofs.TreesWritten.{trees_written}
 use Rattle.html_calm.specs.CalmTrees.{have_no_null, nodes_of, scope_in}
 use Rattle.html_calm.proofs.CalmDocuments.{calm_document_heard, calm_fragment_heard, inner_context}
-use Rattle.html_reading.specs.Laws.{CalmDocumentsAreParsed, CalmFragmentsAreParsed, CalmHtmlIsParsed}
+use Rattle.html_reading.specs.Laws.{CalmDocumentsAreParsed, CalmFragmentsAreParsed, CalmHtmlIsParsed, CalmPagesAreParsed}
 use Rattle.html_reading.specs.Parsing.{IsFragmentOf, IsPageOf, first_state, parsed, parser}
+use Rattle.html_reading.proofs.CalmReadable.{document_readable}
+use Rattle.html_reading.proofs.Kept.{ShowsBoth, calm_kept, value_shows}
 use Rattle.html_reading.proofs.CalmTokens.{calm_tokens, document_tokens}
 use Rattle.html_reading.proofs.Joined.{behind_last, page_parsed}
 
@@ -115,8 +119,13 @@ fragments_parsed by piece writes context t is calm plain readable = by_start (fr
     by_start None begins k = cc
     by_start (Some b) begins k = by_end b begins (heard_steps b (tokens (nodes_of t) ++ AnEof ∷ [])) refl k
 
+-- as a page, if the text is calm
+pub pages_parsed : (by : ValueChar) (piece : ℕ → Piece) → WritesValues by piece → ShowsBoth by → CalmPagesAreParsed by
+pages_parsed by piece writes shows t d plain utf8 calm = documents_parsed by piece writes t d plain (document_readable by shows t d plain utf8 (calm_kept (text_by by false t) calm))
+
 -- the HTML of a document
 pub html_parsed : ((forest : Forest) → IsForest forest → DocumentIsWrittenAsTrees forest) → CalmHtmlIsParsed
-html_parsed law forest sound plain calm readable =
-    subst (λ text. IsPageOf (chars text) (nodes_of plain.trees)) (sym (law forest sound plain.root plain.trees plain.below ∙ text_same false plain.trees))
-    (documents_parsed value_char value_piece html_writes_values plain.trees calm plain.plain readable)
+html_parsed law forest sound plain document utf8 calm =
+    let same : html_of forest 0 ≡ text_by value_char false plain.trees = law forest sound plain.root plain.trees plain.below ∙ text_same false plain.trees in
+    subst (λ text. IsPageOf (chars text) (nodes_of plain.trees)) (sym same)
+    (pages_parsed value_char value_piece html_writes_values value_shows plain.trees document plain.plain utf8 (ap is_calm_text (sym same) ∙ calm))

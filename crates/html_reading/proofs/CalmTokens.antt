@@ -1,11 +1,13 @@
 -- The names of calm elements: they are ASCII, and the two lists of void elements agree on them. So the tokens of calm trees are those of their nodes.
-use Rattle.std.specs.Prelude.{◌≡◌, ◌≢◌, ℕ, Bool, true, false, not, ◌&&◌, List, [], ◌∷◌, ◌++◌, map, codes, refl, if◌then◌else◌}
-use Rattle.std.specs.Str.{chars}
+use Rattle.std.specs.Prelude.{◌≡◌, ◌≢◌, ℕ, Bool, true, false, not, ◌&&◌, ◌⊎◌, List, [], ◌∷◌, ◌++◌, map, codes, refl, if◌then◌else◌}
+use Rattle.std.specs.Str.{IsUtf8, bytes_eq, chars}
+use Rattle.std.proofs.Common.{inl, inr}
+use Rattle.std.proofs.Math.Utf8.{encode}
 use Rattle.std.proofs.lemmas.Bool.{and_parts, true≢false}
 use Rattle.std.proofs.lemmas.List.{append_assoc}
 use mathlib.Core.Path.{◌∙◌, sym, ap, subst}
 use Rattle.dom_nodes.specs.Words.{is_among}
-use Rattle.dom_markup.specs.Names.{void_names}
+use Rattle.dom_markup.specs.Names.{raw_names, void_names}
 use Rattle.dom_markup.specs.Plain.{IsPlainTrees}
 use Rattle.dom_markup.specs.ValueTrees.{Attribute, ValueTrees}
 use Rattle.dom_markup.specs.ValueTrees.ValueTrees.{no_trees, text_node, comment_node, doctype_node, element_node}
@@ -28,102 +30,104 @@ use Rattle.html_laws.specs.TreeTokens.{doctype_of, start_of, tokens_in}
 pub record Known (name : List ℕ) : Type 0 where
   pub ascii : chars name ≡ name
   pub ends : end_of name ≡ (if is_among name void_names then [] else AnEnd name ∷ [])
+  pub utf8 : IsUtf8 name
+  pub read : (is_among name raw_names ≡ false) ⊎ ((kind_of name ≡ Verbatim) × (bytes_eq name (codes "plaintext") ≡ false))
 
 html_known : Each Known (names_of Html)
-unfolding names_of chars void_names
-html_known = (record { ascii = refl; ends = refl }, tt)
+unfolding names_of kind_of chars void_names raw_names encode
+html_known = (record { ascii = refl; ends = refl; utf8 = (codes "html", (refl, refl)); read = inl refl }, tt)
 
 head_known : Each Known (names_of Head)
-unfolding names_of chars void_names
-head_known = (record { ascii = refl; ends = refl }, tt)
+unfolding names_of kind_of chars void_names raw_names encode
+head_known = (record { ascii = refl; ends = refl; utf8 = (codes "head", (refl, refl)); read = inl refl }, tt)
 
 body_known : Each Known (names_of Body)
-unfolding names_of chars void_names
-body_known = (record { ascii = refl; ends = refl }, tt)
+unfolding names_of kind_of chars void_names raw_names encode
+body_known = (record { ascii = refl; ends = refl; utf8 = (codes "body", (refl, refl)); read = inl refl }, tt)
 
 metadata_known : Each Known (names_of Metadata)
-unfolding names_of chars void_names
-metadata_known = (record { ascii = refl; ends = refl }, (record { ascii = refl; ends = refl }, (record { ascii = refl; ends = refl }, tt)))
+unfolding names_of kind_of chars void_names raw_names encode
+metadata_known = (record { ascii = refl; ends = refl; utf8 = (codes "base", (refl, refl)); read = inl refl }, (record { ascii = refl; ends = refl; utf8 = (codes "link", (refl, refl)); read = inl refl }, (record { ascii = refl; ends = refl; utf8 = (codes "meta", (refl, refl)); read = inl refl }, tt)))
 
 verbatim_known : Each Known (names_of Verbatim)
-unfolding names_of chars void_names
-verbatim_known = (record { ascii = refl; ends = refl }, (record { ascii = refl; ends = refl }, (record { ascii = refl; ends = refl }, tt)))
+unfolding names_of kind_of chars void_names raw_names encode
+verbatim_known = (record { ascii = refl; ends = refl; utf8 = (codes "script", (refl, refl)); read = inr (refl, refl) }, (record { ascii = refl; ends = refl; utf8 = (codes "style", (refl, refl)); read = inr (refl, refl) }, (record { ascii = refl; ends = refl; utf8 = (codes "title", (refl, refl)); read = inl refl }, tt)))
 
 phrase_known : Each Known (names_of Phrase)
-unfolding names_of chars void_names
-phrase_known = (record { ascii = refl; ends = refl }, (record { ascii = refl; ends = refl }, (record { ascii = refl; ends = refl }, (record { ascii = refl; ends = refl }, (record { ascii = refl; ends = refl }, (record { ascii = refl; ends = refl }, (record { ascii = refl; ends = refl }, (record { ascii = refl; ends = refl }, (record { ascii = refl; ends = refl }, (record { ascii = refl; ends = refl }, (record { ascii = refl; ends = refl }, (record { ascii = refl; ends = refl }, (record { ascii = refl; ends = refl }, (record { ascii = refl; ends = refl }, (record { ascii = refl; ends = refl }, (record { ascii = refl; ends = refl }, (record { ascii = refl; ends = refl }, (record { ascii = refl; ends = refl }, (record { ascii = refl; ends = refl }, (record { ascii = refl; ends = refl }, (record { ascii = refl; ends = refl }, (record { ascii = refl; ends = refl }, (record { ascii = refl; ends = refl }, (record { ascii = refl; ends = refl }, (record { ascii = refl; ends = refl }, (record { ascii = refl; ends = refl }, (record { ascii = refl; ends = refl }, (record { ascii = refl; ends = refl }, (record { ascii = refl; ends = refl }, (record { ascii = refl; ends = refl }, (record { ascii = refl; ends = refl }, (record { ascii = refl; ends = refl }, (record { ascii = refl; ends = refl }, (record { ascii = refl; ends = refl }, (record { ascii = refl; ends = refl }, (record { ascii = refl; ends = refl }, (record { ascii = refl; ends = refl }, (record { ascii = refl; ends = refl }, (record { ascii = refl; ends = refl }, (record { ascii = refl; ends = refl }, (record { ascii = refl; ends = refl }, (record { ascii = refl; ends = refl }, (record { ascii = refl; ends = refl }, (record { ascii = refl; ends = refl }, (record { ascii = refl; ends = refl }, (record { ascii = refl; ends = refl }, (record { ascii = refl; ends = refl }, (record { ascii = refl; ends = refl }, (record { ascii = refl; ends = refl }, (record { ascii = refl; ends = refl }, tt))))))))))))))))))))))))))))))))))))))))))))))))))
+unfolding names_of kind_of chars void_names raw_names encode
+phrase_known = (record { ascii = refl; ends = refl; utf8 = (codes "abbr", (refl, refl)); read = inl refl }, (record { ascii = refl; ends = refl; utf8 = (codes "acronym", (refl, refl)); read = inl refl }, (record { ascii = refl; ends = refl; utf8 = (codes "area", (refl, refl)); read = inl refl }, (record { ascii = refl; ends = refl; utf8 = (codes "audio", (refl, refl)); read = inl refl }, (record { ascii = refl; ends = refl; utf8 = (codes "b", (refl, refl)); read = inl refl }, (record { ascii = refl; ends = refl; utf8 = (codes "bdi", (refl, refl)); read = inl refl }, (record { ascii = refl; ends = refl; utf8 = (codes "bdo", (refl, refl)); read = inl refl }, (record { ascii = refl; ends = refl; utf8 = (codes "big", (refl, refl)); read = inl refl }, (record { ascii = refl; ends = refl; utf8 = (codes "br", (refl, refl)); read = inl refl }, (record { ascii = refl; ends = refl; utf8 = (codes "canvas", (refl, refl)); read = inl refl }, (record { ascii = refl; ends = refl; utf8 = (codes "cite", (refl, refl)); read = inl refl }, (record { ascii = refl; ends = refl; utf8 = (codes "code", (refl, refl)); read = inl refl }, (record { ascii = refl; ends = refl; utf8 = (codes "data", (refl, refl)); read = inl refl }, (record { ascii = refl; ends = refl; utf8 = (codes "datalist", (refl, refl)); read = inl refl }, (record { ascii = refl; ends = refl; utf8 = (codes "del", (refl, refl)); read = inl refl }, (record { ascii = refl; ends = refl; utf8 = (codes "dfn", (refl, refl)); read = inl refl }, (record { ascii = refl; ends = refl; utf8 = (codes "em", (refl, refl)); read = inl refl }, (record { ascii = refl; ends = refl; utf8 = (codes "embed", (refl, refl)); read = inl refl }, (record { ascii = refl; ends = refl; utf8 = (codes "font", (refl, refl)); read = inl refl }, (record { ascii = refl; ends = refl; utf8 = (codes "i", (refl, refl)); read = inl refl }, (record { ascii = refl; ends = refl; utf8 = (codes "img", (refl, refl)); read = inl refl }, (record { ascii = refl; ends = refl; utf8 = (codes "input", (refl, refl)); read = inl refl }, (record { ascii = refl; ends = refl; utf8 = (codes "ins", (refl, refl)); read = inl refl }, (record { ascii = refl; ends = refl; utf8 = (codes "kbd", (refl, refl)); read = inl refl }, (record { ascii = refl; ends = refl; utf8 = (codes "label", (refl, refl)); read = inl refl }, (record { ascii = refl; ends = refl; utf8 = (codes "legend", (refl, refl)); read = inl refl }, (record { ascii = refl; ends = refl; utf8 = (codes "map", (refl, refl)); read = inl refl }, (record { ascii = refl; ends = refl; utf8 = (codes "mark", (refl, refl)); read = inl refl }, (record { ascii = refl; ends = refl; utf8 = (codes "meter", (refl, refl)); read = inl refl }, (record { ascii = refl; ends = refl; utf8 = (codes "output", (refl, refl)); read = inl refl }, (record { ascii = refl; ends = refl; utf8 = (codes "picture", (refl, refl)); read = inl refl }, (record { ascii = refl; ends = refl; utf8 = (codes "progress", (refl, refl)); read = inl refl }, (record { ascii = refl; ends = refl; utf8 = (codes "q", (refl, refl)); read = inl refl }, (record { ascii = refl; ends = refl; utf8 = (codes "s", (refl, refl)); read = inl refl }, (record { ascii = refl; ends = refl; utf8 = (codes "samp", (refl, refl)); read = inl refl }, (record { ascii = refl; ends = refl; utf8 = (codes "slot", (refl, refl)); read = inl refl }, (record { ascii = refl; ends = refl; utf8 = (codes "small", (refl, refl)); read = inl refl }, (record { ascii = refl; ends = refl; utf8 = (codes "source", (refl, refl)); read = inl refl }, (record { ascii = refl; ends = refl; utf8 = (codes "span", (refl, refl)); read = inl refl }, (record { ascii = refl; ends = refl; utf8 = (codes "strike", (refl, refl)); read = inl refl }, (record { ascii = refl; ends = refl; utf8 = (codes "strong", (refl, refl)); read = inl refl }, (record { ascii = refl; ends = refl; utf8 = (codes "sub", (refl, refl)); read = inl refl }, (record { ascii = refl; ends = refl; utf8 = (codes "sup", (refl, refl)); read = inl refl }, (record { ascii = refl; ends = refl; utf8 = (codes "time", (refl, refl)); read = inl refl }, (record { ascii = refl; ends = refl; utf8 = (codes "track", (refl, refl)); read = inl refl }, (record { ascii = refl; ends = refl; utf8 = (codes "tt", (refl, refl)); read = inl refl }, (record { ascii = refl; ends = refl; utf8 = (codes "u", (refl, refl)); read = inl refl }, (record { ascii = refl; ends = refl; utf8 = (codes "var", (refl, refl)); read = inl refl }, (record { ascii = refl; ends = refl; utf8 = (codes "video", (refl, refl)); read = inl refl }, (record { ascii = refl; ends = refl; utf8 = (codes "wbr", (refl, refl)); read = inl refl }, tt))))))))))))))))))))))))))))))))))))))))))))))))))
 
 anchor_known : Each Known (names_of Anchor)
-unfolding names_of chars void_names
-anchor_known = (record { ascii = refl; ends = refl }, tt)
+unfolding names_of kind_of chars void_names raw_names encode
+anchor_known = (record { ascii = refl; ends = refl; utf8 = (codes "a", (refl, refl)); read = inl refl }, tt)
 
 button_known : Each Known (names_of Button)
-unfolding names_of chars void_names
-button_known = (record { ascii = refl; ends = refl }, tt)
+unfolding names_of kind_of chars void_names raw_names encode
+button_known = (record { ascii = refl; ends = refl; utf8 = (codes "button", (refl, refl)); read = inl refl }, tt)
 
 paragraph_known : Each Known (names_of Paragraph)
-unfolding names_of chars void_names
-paragraph_known = (record { ascii = refl; ends = refl }, tt)
+unfolding names_of kind_of chars void_names raw_names encode
+paragraph_known = (record { ascii = refl; ends = refl; utf8 = (codes "p", (refl, refl)); read = inl refl }, tt)
 
 block_known : Each Known (names_of Block)
-unfolding names_of chars void_names
-block_known = (record { ascii = refl; ends = refl }, (record { ascii = refl; ends = refl }, (record { ascii = refl; ends = refl }, (record { ascii = refl; ends = refl }, (record { ascii = refl; ends = refl }, (record { ascii = refl; ends = refl }, (record { ascii = refl; ends = refl }, (record { ascii = refl; ends = refl }, (record { ascii = refl; ends = refl }, (record { ascii = refl; ends = refl }, (record { ascii = refl; ends = refl }, (record { ascii = refl; ends = refl }, (record { ascii = refl; ends = refl }, (record { ascii = refl; ends = refl }, (record { ascii = refl; ends = refl }, (record { ascii = refl; ends = refl }, (record { ascii = refl; ends = refl }, (record { ascii = refl; ends = refl }, (record { ascii = refl; ends = refl }, (record { ascii = refl; ends = refl }, tt))))))))))))))))))))
+unfolding names_of kind_of chars void_names raw_names encode
+block_known = (record { ascii = refl; ends = refl; utf8 = (codes "address", (refl, refl)); read = inl refl }, (record { ascii = refl; ends = refl; utf8 = (codes "article", (refl, refl)); read = inl refl }, (record { ascii = refl; ends = refl; utf8 = (codes "aside", (refl, refl)); read = inl refl }, (record { ascii = refl; ends = refl; utf8 = (codes "blockquote", (refl, refl)); read = inl refl }, (record { ascii = refl; ends = refl; utf8 = (codes "center", (refl, refl)); read = inl refl }, (record { ascii = refl; ends = refl; utf8 = (codes "details", (refl, refl)); read = inl refl }, (record { ascii = refl; ends = refl; utf8 = (codes "dialog", (refl, refl)); read = inl refl }, (record { ascii = refl; ends = refl; utf8 = (codes "div", (refl, refl)); read = inl refl }, (record { ascii = refl; ends = refl; utf8 = (codes "fieldset", (refl, refl)); read = inl refl }, (record { ascii = refl; ends = refl; utf8 = (codes "figcaption", (refl, refl)); read = inl refl }, (record { ascii = refl; ends = refl; utf8 = (codes "figure", (refl, refl)); read = inl refl }, (record { ascii = refl; ends = refl; utf8 = (codes "footer", (refl, refl)); read = inl refl }, (record { ascii = refl; ends = refl; utf8 = (codes "header", (refl, refl)); read = inl refl }, (record { ascii = refl; ends = refl; utf8 = (codes "hgroup", (refl, refl)); read = inl refl }, (record { ascii = refl; ends = refl; utf8 = (codes "hr", (refl, refl)); read = inl refl }, (record { ascii = refl; ends = refl; utf8 = (codes "main", (refl, refl)); read = inl refl }, (record { ascii = refl; ends = refl; utf8 = (codes "nav", (refl, refl)); read = inl refl }, (record { ascii = refl; ends = refl; utf8 = (codes "search", (refl, refl)); read = inl refl }, (record { ascii = refl; ends = refl; utf8 = (codes "section", (refl, refl)); read = inl refl }, (record { ascii = refl; ends = refl; utf8 = (codes "summary", (refl, refl)); read = inl refl }, tt))))))))))))))))))))
 
 heading_known : Each Known (names_of Heading)
-unfolding names_of chars void_names
-heading_known = (record { ascii = refl; ends = refl }, (record { ascii = refl; ends = refl }, (record { ascii = refl; ends = refl }, (record { ascii = refl; ends = refl }, (record { ascii = refl; ends = refl }, (record { ascii = refl; ends = refl }, tt))))))
+unfolding names_of kind_of chars void_names raw_names encode
+heading_known = (record { ascii = refl; ends = refl; utf8 = (codes "h1", (refl, refl)); read = inl refl }, (record { ascii = refl; ends = refl; utf8 = (codes "h2", (refl, refl)); read = inl refl }, (record { ascii = refl; ends = refl; utf8 = (codes "h3", (refl, refl)); read = inl refl }, (record { ascii = refl; ends = refl; utf8 = (codes "h4", (refl, refl)); read = inl refl }, (record { ascii = refl; ends = refl; utf8 = (codes "h5", (refl, refl)); read = inl refl }, (record { ascii = refl; ends = refl; utf8 = (codes "h6", (refl, refl)); read = inl refl }, tt))))))
 
 form_known : Each Known (names_of Form)
-unfolding names_of chars void_names
-form_known = (record { ascii = refl; ends = refl }, tt)
+unfolding names_of kind_of chars void_names raw_names encode
+form_known = (record { ascii = refl; ends = refl; utf8 = (codes "form", (refl, refl)); read = inl refl }, tt)
 
 pre_known : Each Known (names_of Pre)
-unfolding names_of chars void_names
-pre_known = (record { ascii = refl; ends = refl }, tt)
+unfolding names_of kind_of chars void_names raw_names encode
+pre_known = (record { ascii = refl; ends = refl; utf8 = (codes "pre", (refl, refl)); read = inl refl }, tt)
 
 itemlist_known : Each Known (names_of ItemList)
-unfolding names_of chars void_names
-itemlist_known = (record { ascii = refl; ends = refl }, (record { ascii = refl; ends = refl }, (record { ascii = refl; ends = refl }, (record { ascii = refl; ends = refl }, tt))))
+unfolding names_of kind_of chars void_names raw_names encode
+itemlist_known = (record { ascii = refl; ends = refl; utf8 = (codes "dir", (refl, refl)); read = inl refl }, (record { ascii = refl; ends = refl; utf8 = (codes "menu", (refl, refl)); read = inl refl }, (record { ascii = refl; ends = refl; utf8 = (codes "ol", (refl, refl)); read = inl refl }, (record { ascii = refl; ends = refl; utf8 = (codes "ul", (refl, refl)); read = inl refl }, tt))))
 
 item_known : Each Known (names_of Item)
-unfolding names_of chars void_names
-item_known = (record { ascii = refl; ends = refl }, tt)
+unfolding names_of kind_of chars void_names raw_names encode
+item_known = (record { ascii = refl; ends = refl; utf8 = (codes "li", (refl, refl)); read = inl refl }, tt)
 
 descriptionlist_known : Each Known (names_of DescriptionList)
-unfolding names_of chars void_names
-descriptionlist_known = (record { ascii = refl; ends = refl }, tt)
+unfolding names_of kind_of chars void_names raw_names encode
+descriptionlist_known = (record { ascii = refl; ends = refl; utf8 = (codes "dl", (refl, refl)); read = inl refl }, tt)
 
 description_known : Each Known (names_of Description)
-unfolding names_of chars void_names
-description_known = (record { ascii = refl; ends = refl }, (record { ascii = refl; ends = refl }, tt))
+unfolding names_of kind_of chars void_names raw_names encode
+description_known = (record { ascii = refl; ends = refl; utf8 = (codes "dd", (refl, refl)); read = inl refl }, (record { ascii = refl; ends = refl; utf8 = (codes "dt", (refl, refl)); read = inl refl }, tt))
 
 table_known : Each Known (names_of Table)
-unfolding names_of chars void_names
-table_known = (record { ascii = refl; ends = refl }, tt)
+unfolding names_of kind_of chars void_names raw_names encode
+table_known = (record { ascii = refl; ends = refl; utf8 = (codes "table", (refl, refl)); read = inl refl }, tt)
 
 caption_known : Each Known (names_of Caption)
-unfolding names_of chars void_names
-caption_known = (record { ascii = refl; ends = refl }, tt)
+unfolding names_of kind_of chars void_names raw_names encode
+caption_known = (record { ascii = refl; ends = refl; utf8 = (codes "caption", (refl, refl)); read = inl refl }, tt)
 
 columngroup_known : Each Known (names_of ColumnGroup)
-unfolding names_of chars void_names
-columngroup_known = (record { ascii = refl; ends = refl }, tt)
+unfolding names_of kind_of chars void_names raw_names encode
+columngroup_known = (record { ascii = refl; ends = refl; utf8 = (codes "colgroup", (refl, refl)); read = inl refl }, tt)
 
 column_known : Each Known (names_of Column)
-unfolding names_of chars void_names
-column_known = (record { ascii = refl; ends = refl }, tt)
+unfolding names_of kind_of chars void_names raw_names encode
+column_known = (record { ascii = refl; ends = refl; utf8 = (codes "col", (refl, refl)); read = inl refl }, tt)
 
 rowgroup_known : Each Known (names_of RowGroup)
-unfolding names_of chars void_names
-rowgroup_known = (record { ascii = refl; ends = refl }, (record { ascii = refl; ends = refl }, (record { ascii = refl; ends = refl }, tt)))
+unfolding names_of kind_of chars void_names raw_names encode
+rowgroup_known = (record { ascii = refl; ends = refl; utf8 = (codes "tbody", (refl, refl)); read = inl refl }, (record { ascii = refl; ends = refl; utf8 = (codes "tfoot", (refl, refl)); read = inl refl }, (record { ascii = refl; ends = refl; utf8 = (codes "thead", (refl, refl)); read = inl refl }, tt)))
 
 tablerow_known : Each Known (names_of TableRow)
-unfolding names_of chars void_names
-tablerow_known = (record { ascii = refl; ends = refl }, tt)
+unfolding names_of kind_of chars void_names raw_names encode
+tablerow_known = (record { ascii = refl; ends = refl; utf8 = (codes "tr", (refl, refl)); read = inl refl }, tt)
 
 cell_known : Each Known (names_of Cell)
-unfolding names_of chars void_names
-cell_known = (record { ascii = refl; ends = refl }, (record { ascii = refl; ends = refl }, tt))
+unfolding names_of kind_of chars void_names raw_names encode
+cell_known = (record { ascii = refl; ends = refl; utf8 = (codes "td", (refl, refl)); read = inl refl }, (record { ascii = refl; ends = refl; utf8 = (codes "th", (refl, refl)); read = inl refl }, tt))
 
 of_category : (kind : ElementCategory) (name : List ℕ) → is_among name (names_of kind) ≡ true → Known name
 unfolding names_of
@@ -168,7 +172,7 @@ unfolding kind_of
 known_name name h = by_category name named_kinds h
 
 -- what a parent in a head or a body holds has a category
-held : (parent kind : ElementCategory) → is_inner parent ≡ true → may_hold parent kind ≡ true → kind ≢ Other
+pub held : (parent kind : ElementCategory) → is_inner parent ≡ true → may_hold parent kind ≡ true → kind ≢ Other
 held parent kind i h e = true≢false (sym (holds_no_Other parent i (subst (λ (k : ElementCategory). may_hold parent k ≡ true) e h)))
 
 -- ---- tokens
@@ -193,7 +197,7 @@ element_same name known attributes children later void below after =
     ∙ ap (λ n. AStart n (attrs_of attributes) false ∷ (tokens (nodes_of children) ++ (end_of name ++ tokens (nodes_of later)))) known.ascii
 
 -- what an element is held in has a category that is not the document's and not that of `html`
-inner_inside : (scope : Scope) (kind : ElementCategory) → is_inner scope.parent ≡ true → may_hold scope.parent kind ≡ true → is_inner (inside scope kind).parent ≡ true
+pub inner_inside : (scope : Scope) (kind : ElementCategory) → is_inner scope.parent ≡ true → may_hold scope.parent kind ≡ true → is_inner (inside scope kind).parent ≡ true
 inner_inside scope Document i h = absurd (true≢false (sym (holds_no_Document scope.parent i h)))
 inner_inside scope Html i h = absurd (true≢false (sym (holds_no_Html scope.parent i h)))
 inner_inside scope Head i h = refl
@@ -241,17 +245,17 @@ calm_tokens scope (element_node name attributes children later) i p c =
 
 -- ---- documents
 
-html_name : Known (codes "html")
-unfolding chars void_names
-html_name = record { ascii = refl; ends = refl }
+pub html_name : Known (codes "html")
+unfolding names_of kind_of chars void_names raw_names encode
+html_name = record { ascii = refl; ends = refl; utf8 = (codes "html", (refl, refl)); read = inl refl }
 
-head_name : Known (codes "head")
-unfolding chars void_names
-head_name = record { ascii = refl; ends = refl }
+pub head_name : Known (codes "head")
+unfolding names_of kind_of chars void_names raw_names encode
+head_name = record { ascii = refl; ends = refl; utf8 = (codes "head", (refl, refl)); read = inl refl }
 
-body_name : Known (codes "body")
-unfolding chars void_names
-body_name = record { ascii = refl; ends = refl }
+pub body_name : Known (codes "body")
+unfolding names_of kind_of chars void_names raw_names encode
+body_name = record { ascii = refl; ends = refl; utf8 = (codes "body", (refl, refl)); read = inl refl }
 
 body_tokens : (attributes : List Attribute) (body : ValueTrees) → are_calm (inside top Html) (element_node (codes "body") attributes body no_trees) ≡ true →
     IsPlainTrees false (element_node (codes "body") attributes body no_trees) → tokens_in (element_node (codes "body") attributes body no_trees) ≡ tokens (nodes_of (element_node (codes "body") attributes body no_trees))

@@ -1,5 +1,7 @@
 pub mod CalmParsed
+pub mod CalmReadable
 pub mod CalmTokens
 pub mod Joined
+pub mod Kept
 pub mod OneWay
 pub mod ParsedExamples

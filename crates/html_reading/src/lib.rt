@@ -2,20 +2,21 @@
 //! calm documents. The crate has no code that runs: its functions are laws.
 #![tactic(auto)]
 
-ghost use Rattle.std.specs.Prelude.{[], ◌∷◌, codes};
 ghost use Rattle.dom_nodes.specs.Escaping.{value_char};
 ghost use Rattle.html_laws.specs.Values.{safe_char};
 ghost use Rattle.html_reading.specs.Examples.{ImpliedTagsAreParsed, TextStatesAreParsed};
 ghost use Rattle.html_reading.specs.Laws.{CalmDocumentsAreParsed, CalmFragmentsAreParsed};
-ghost use Rattle.html_reading.specs.Laws.{CalmHtmlIsParsed, FragmentsAreParsedOneWay};
-ghost use Rattle.html_reading.specs.Laws.{PagesAreParsedOneWay};
+ghost use Rattle.html_reading.specs.Laws.{CalmHtmlIsParsed, CalmPagesAreParsed};
+ghost use Rattle.html_reading.specs.Laws.{FragmentsAreParsedOneWay, PagesAreParsedOneWay};
 
 use dom_markup::laws::plain::html_of_trees;
 
-/// The HTML of a calm document is parsed as that document, and the HTML of calm trees is parsed as
-/// these trees where the context element is a `body`, `div`, `li`, `td` or `blockquote`.
+/// The HTML of a calm document is parsed as that document (`html`, `page`), and the HTML of calm
+/// trees is parsed as these trees where the context element is a `body`, `div`, `li`, `td` or
+/// `blockquote` (`fragment`).
 pub fn calm_html_is_parsed()
     ensures html { CalmHtmlIsParsed }
+    ensures page { CalmPagesAreParsed value_char }
     ensures document { CalmDocumentsAreParsed value_char }
     ensures fragment { CalmFragmentsAreParsed value_char }
 {
@@ -25,6 +26,7 @@ pub fn calm_html_is_parsed()
 
 /// The same where `<` and `>` are escaped in values too.
 pub fn safe_html_is_parsed()
+    ensures page { CalmPagesAreParsed safe_char }
     ensures document { CalmDocumentsAreParsed safe_char }
     ensures fragment { CalmFragmentsAreParsed safe_char }
 {}
