@@ -2,19 +2,21 @@
 use Rattle.std.specs.Prelude.{◌≡◌, ℕ, Bool, true, false, not, ◌==◌, List, [], ◌∷◌, ◌++◌, flat_map, Option, None, Some, refl}
 use Rattle.std.specs.List.{list_all}
 use Rattle.std.specs.Option.{option_and_then}
-use Rattle.std.specs.Str.{chars}
+use Rattle.std.specs.Str.{IsUtf8, chars}
 use Rattle.std.specs.Cmp.Derive.{both_true}
 use Rattle.std.proofs.lemmas.Bool.{and_parts, eqb-true, true≢false}
 use mathlib.Core.Path.{◌∙◌, sym, ap, subst}
 use Rattle.dom_nodes.specs.Escaping.{value_char}
-use Rattle.dom_links.specs.Forest.{Forest}
+use Rattle.dom_links.specs.Forest.{Forest, children_of as ids_below}
 use Rattle.dom_links.specs.Sound.{IsForest}
 use Rattle.dom_markup.specs.Html.{html_of}
-use Rattle.dom_markup.specs.Plain.{IsPlainTrees}
+use Rattle.dom_markup.specs.Markup.{Spells}
+use Rattle.dom_markup.specs.Numbered.{document_of}
+use Rattle.dom_markup.specs.Plain.{HaveNoIdentifiers, IsPlain, IsPlainTrees, Represents}
 use Rattle.dom_markup.specs.ReadingBack.{DocumentIsWrittenAsTrees}
 use Rattle.dom_markup.specs.ValueTrees.{ValueTrees}
 use Rattle.dom_markup.specs.ValueTrees.ValueTrees.{no_trees, text_node, comment_node, doctype_node, element_node}
-use Rattle.dom_html5.specs.Calm.{is_calm_text}
+use Rattle.dom_html5.specs.Calm.{IsCalmDocument, is_calm_text}
 use Rattle.html_rules.specs.Building.{Building, children_of, fragment_start, start, tree_of}
 use Rattle.html_rules.specs.PlainTrees.{flow_contexts}
 use Rattle.html_rules.specs.TreeTokens.{is_among, tokens}
@@ -45,7 +47,19 @@ use Rattle.html_reading.specs.Parsing.{IsFragmentOf, IsPageOf, first_state, pars
 use Rattle.html_reading.proofs.CalmReadable.{document_readable}
 use Rattle.html_reading.proofs.Kept.{ShowsBoth, calm_kept, value_shows}
 use Rattle.html_reading.proofs.CalmTokens.{calm_tokens, document_tokens}
+use Rattle.html_reading.proofs.Utf8Pieces.{document_bare, document_utf8}
 use Rattle.html_reading.proofs.Joined.{behind_last, page_parsed}
+
+-- ---- laws of dom_markup
+
+abbrev pub OneMeaning : Type 0
+OneMeaning = (f : Forest) (ns : List ℕ) (a b : ValueTrees) → Represents f ns a → Represents f ns b → a ≡ b
+
+abbrev pub ReadIsPlain : Type 0
+ReadIsPlain = (text : List ℕ) (trees : ValueTrees) → IsUtf8 text → Spells text trees → HaveNoIdentifiers trees → IsPlain (document_of trees)
+
+abbrev pub StandForTheirTrees : Type 0
+StandForTheirTrees = (t : ValueTrees) → Represents (document_of t) (ids_below (document_of t) 0) t
 
 -- ---- readable trees have no U+0000
 
@@ -119,13 +133,26 @@ fragments_parsed by piece writes context t is calm plain readable = by_start (fr
     by_start None begins k = cc
     by_start (Some b) begins k = by_end b begins (heard_steps b (tokens (nodes_of t) ++ AnEof ∷ [])) refl k
 
--- as a page, if the text is calm
-pub pages_parsed : (by : ValueChar) (piece : ℕ → Piece) → WritesValues by piece → ShowsBoth by → CalmPagesAreParsed by
-pages_parsed by piece writes shows t d plain utf8 calm = documents_parsed by piece writes t d plain (document_readable by shows t d plain utf8 (calm_kept (text_by by false t) calm))
+-- ---- calm pages
+
+-- below the root of a plain document stand no other trees
+plain_trees : OneMeaning → (forest : Forest) → (plain : IsPlain forest) → (t : ValueTrees) → Represents forest (ids_below forest 0) t → IsPlainTrees true t
+plain_trees meaning forest plain t below = subst (IsPlainTrees true) (meaning forest (ids_below forest 0) plain.trees t plain.below below) plain.plain
+
+calm_parsed : (by : ValueChar) (piece : ℕ → Piece) → WritesValues by piece → ShowsBoth by → (t : ValueTrees) → IsCalmDocument t → IsPlainTrees true t → is_calm_text (text_by by false t) ≡ true →
+    IsUtf8 (text_by by false t) → IsPageOf (chars (text_by by false t)) (nodes_of t)
+calm_parsed by piece writes shows t d plain bytes utf8 =
+    documents_parsed by piece writes t d plain (document_readable by shows t d plain (document_utf8 by piece writes t d plain utf8) (calm_kept (text_by by false t) bytes))
+
+pub pages_parsed : OneMeaning → ReadIsPlain → StandForTheirTrees → (by : ValueChar) (piece : ℕ → Piece) → WritesValues by piece → ShowsBoth by → CalmPagesAreParsed by
+pages_parsed meaning read stand by piece writes shows t utf8 page =
+    let plain : IsPlainTrees true t = plain_trees meaning (document_of t) (read (text_by by false t) t utf8 page.spelled (document_bare t page.document)) t (stand t) in
+    calm_parsed by piece writes shows t page.document plain page.bytes utf8
 
 -- the HTML of a document
-pub html_parsed : ((forest : Forest) → IsForest forest → DocumentIsWrittenAsTrees forest) → CalmHtmlIsParsed
-html_parsed law forest sound plain document utf8 calm =
-    let same : html_of forest 0 ≡ text_by value_char false plain.trees = law forest sound plain.root plain.trees plain.below ∙ text_same false plain.trees in
-    subst (λ text. IsPageOf (chars text) (nodes_of plain.trees)) (sym same)
-    (pages_parsed value_char value_piece html_writes_values value_shows plain.trees document plain.plain utf8 (ap is_calm_text (sym same) ∙ calm))
+pub html_parsed : OneMeaning → ((forest : Forest) → IsForest forest → DocumentIsWrittenAsTrees forest) → CalmHtmlIsParsed
+html_parsed meaning law forest sound plain calm utf8 =
+    let same : html_of forest 0 ≡ text_by value_char false calm.trees = law forest sound plain.root calm.trees calm.below ∙ text_same false calm.trees in
+    subst (λ text. IsPageOf (chars text) (nodes_of calm.trees)) (sym same)
+    (calm_parsed value_char value_piece html_writes_values value_shows calm.trees calm.document (plain_trees meaning forest plain calm.trees calm.below) (ap is_calm_text (sym same) ∙ calm.bytes)
+    (subst IsUtf8 same utf8))

@@ -1,7 +1,7 @@
 -- A calm document is readable, if what is written of it is calm byte by byte.
 use Rattle.std.specs.Prelude.{◌≡◌, ℕ, Bool, true, false, not, ◌==◌, ◌&&◌, ◌⊎◌, List, [], ◌∷◌, ◌++◌, codes, refl, if◌then◌else◌}
 use Rattle.std.specs.List.{flat_map, list_all}
-use Rattle.std.specs.Str.{bytes_eq, chars}
+use Rattle.std.specs.Str.{IsUtf8, bytes_eq, chars}
 use Rattle.std.proofs.Common.{inl, inr}
 use Rattle.std.proofs.lemmas.Bool.{and_parts, true≢false}
 use mathlib.Core.Path.{◌∙◌, sym, ap, subst}
@@ -22,9 +22,23 @@ use Rattle.html_calm.proofs.CalmDocuments.{body_kind, calm_parts, head_kind, htm
 use Rattle.html_laws.specs.ReadableTrees.{AreKept, AreReadable, EndsByTag, kind_of as text_kind}
 use Rattle.html_laws.specs.WrittenTrees.{ValueChar, attr_by, end_by, start_by, text_by}
 use Rattle.html_laws.proofs.TreesPlain.{mode_by}
-use Rattle.html_reading.specs.Laws.{AreUtf8, HaveUtf8Names}
 use Rattle.html_reading.proofs.CalmTokens.{Known, body_name, head_name, held, html_name, inner_inside, known_name}
 use Rattle.html_reading.proofs.Kept.{ShowsBoth, comment_kept, is_kept, kept_by, kept_parts, kept_text, raw_lacks}
+
+-- ---- names and comments in UTF-8
+
+-- the names of attributes are UTF-8
+abbrev pub HaveUtf8Names : List Attribute → Type 0
+HaveUtf8Names [] = Unit {0}
+HaveUtf8Names (attribute ∷ later) = IsUtf8 attribute.name × HaveUtf8Names later
+
+-- names of attributes and comments are UTF-8; of other texts and of values `IsPlainTrees` says so
+abbrev pub AreUtf8 : ValueTrees → Type 0
+AreUtf8 no_trees = Unit {0}
+AreUtf8 (text_node contents later) = AreUtf8 later
+AreUtf8 (comment_node contents later) = IsUtf8 contents × AreUtf8 later
+AreUtf8 (doctype_node name public system later) = AreUtf8 later
+AreUtf8 (element_node name attributes children later) = HaveUtf8Names attributes × AreUtf8 children × AreUtf8 later
 
 -- ---- attributes
 
@@ -143,7 +157,7 @@ rest_readable by shows raw (b ∷ space) attributes body c p u h =
     let calm : (may_hold_text Html (b ∷ space) ≡ true) × (are_calm (inside top Html) e ≡ true) = and_parts (may_hold_text Html (b ∷ space)) (are_calm (inside top Html) e) c in
     (kept_text raw (b ∷ space) p.1 parts.0, body_readable by shows raw attributes body calm.1 p.3 u parts.1)
 
-abbrev whole : (html head_attributes body_attributes : List Attribute) (head : ValueTrees) (space : List ℕ) (body : ValueTrees) → ValueTrees
+abbrev pub whole : (html head_attributes body_attributes : List Attribute) (head : ValueTrees) (space : List ℕ) (body : ValueTrees) → ValueTrees
 whole html head_attributes body_attributes head space body = doctype_node (codes "html") [] [] (element_node (codes "html") html
     (element_node (codes "head") head_attributes head (behind_text space (element_node (codes "body") body_attributes body no_trees))) no_trees)
 

@@ -5,3 +5,4 @@ pub mod Joined
 pub mod Kept
 pub mod OneWay
 pub mod ParsedExamples
+pub mod Utf8Pieces
