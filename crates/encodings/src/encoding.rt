@@ -41,11 +41,12 @@ pub enum Encoding {
 impl Encoding {
     /// The encoding that a label names, as `charset` of a `meta` or of an HTTP header has it. White
     /// space around the label and the case of its letters do not matter: ` UTF-8 `, `latin1` and
-    /// `ISO-8859-1` are labels, and the last two name windows-1252. None where the Encoding Standard
-    /// has no such label.
+    /// `ISO-8859-1` are labels, and the last two name windows-1252. None where the Encoding
+    /// Standard has no such label.
     pub fn for_label(label: &[u8]) -> Option<Encoding>
         ensures { (trimmed : List ℕ) × IsTrimAscii label.now trimmed
-            × (result ≡ labelled (λ row. row.0.now) (λ row. row.1) LABELS (map to_ascii_lowercase trimmed)) }
+            × (result ≡ labelled (λ row. row.0.now) (λ row. row.1) LABELS
+            (map to_ascii_lowercase trimmed)) }
     {
         find(&LABELS, label.trim_ascii())
     }
@@ -99,7 +100,8 @@ impl Encoding {
 
 /// The encoding of a label in the rows.
 fn find(rows: &[(&str, Encoding)], label: &[u8]) -> Option<Encoding>
-    ensures { result ≡ labelled (λ row. row.0.now) (λ row. row.1) rows.now (map to_ascii_lowercase label.now) }
+    ensures { result ≡ labelled (λ row. row.0.now) (λ row. row.1) rows.now
+        (map to_ascii_lowercase label.now) }
 {
     for (name, encoding) in rows {
         if is_same(name.as_bytes(), label) {
@@ -111,7 +113,8 @@ fn find(rows: &[(&str, Encoding)], label: &[u8]) -> Option<Encoding>
 
 /// Whether two labels are the same but for the case of letters.
 fn is_same(name: &[u8], label: &[u8]) -> bool
-    ensures { result ≡ bytes_eq (map to_ascii_lowercase name.now) (map to_ascii_lowercase label.now) }
+    ensures { result ≡ bytes_eq (map to_ascii_lowercase name.now)
+        (map to_ascii_lowercase label.now) }
 {
     name.eq_ignore_ascii_case(label)
 }

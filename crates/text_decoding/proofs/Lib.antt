@@ -1,0 +1,5 @@
+pub mod Lending
+pub mod Pieces
+pub mod States
+pub mod Utf8Steps
+pub mod Utf8Texts
