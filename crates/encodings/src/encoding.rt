@@ -51,6 +51,13 @@ impl Encoding {
         find(&LABELS, label.trim_ascii())
     }
 
+    /// Each label in lower case, and the encoding that it names: the table that `for_label` reads.
+    pub fn labels() -> &'static [(&'static str, Encoding)]
+        ensures { result.now ≡ LABELS }
+    {
+        &LABELS
+    }
+
     /// The name of the encoding, which is one of its labels: `windows-1252`, `Shift_JIS`, `UTF-8`.
     pub fn name(self) -> &'static str {
         match self {

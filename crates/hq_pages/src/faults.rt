@@ -19,6 +19,11 @@ pub enum Fault {
     Argument,
     /// Options of the command line don't fit each other, or a value is none of those that there are.
     Usage(&'static str),
+    /// No encoding has this label; another label is the nearest.
+    Charset {
+        label: String,
+        nearest: &'static str,
+    },
     /// The text at this place of the command line isn't a selector.
     Selector {
         place: &'static str,
@@ -55,6 +60,10 @@ impl fmt::Display for Fault {
             Fault::TooManyNodes => f.write_str("too many nodes"),
             Fault::Argument => f.write_str("an argument isn't UTF-8"),
             Fault::Usage(why) => f.write_str(why),
+            Fault::Charset { label, nearest } => write!(
+                f,
+                "--charset: no encoding has the label \"{label}\"; the nearest is \"{nearest}\""
+            ),
             Fault::Selector { place, fault, .. } => write!(f, "{place}: {fault}"),
             Fault::Script(line) => write!(f, "--script: line {line} isn't a line of a script"),
             Fault::Edit { line, fault } => write!(f, "--script: line {line}: {fault}"),

@@ -14,7 +14,7 @@ use std::env;
 use std::io::{Read, Write};
 use std::process::ExitCode;
 use std::time::Instant;
-use text_decoding::{Decoded, Decoder, Encoding, decode, declared_encoding};
+use text_decoding::{Decoded, Decoder, Encoding, declared_encoding, decode};
 
 fn main(rt: HostRuntime) -> ExitCode {
     match run(&rt) {

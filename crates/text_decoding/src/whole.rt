@@ -1,6 +1,6 @@
 //! Decoding bytes that are whole.
 
-ghost use Rattle.std.specs.Prelude.{◌≡◌, IfOk, IfSome, IsTrue};
+ghost use Rattle.std.specs.Prelude.{◌≡◌, IfNone, IfOk, IfSome, IsTrue, IsUtf8, ⊥};
 ghost use Rattle.decoded_text.specs.Characters.{IsDecoded};
 ghost use Rattle.encodings.specs.declared.encoding.Encoding.TheVariants.{Utf8};
 ghost use Rattle.text_decoding.specs.Decoding.{IsItself, IsTextOf, characters, is_ascii_based, replaced_in, text_bytes};
@@ -79,9 +79,10 @@ fn lent(encoding: Encoding, bytes: &[u8]) -> Option<&str>
 }
 
 /// The bytes as text, where they are UTF-8.
-fn lent_utf8(bytes: &[u8]) -> Option<&str>
+pub(crate) fn lent_utf8(bytes: &[u8]) -> Option<&str>
     ensures bytes { IfSome result (λ text. text.now ≡ bytes.now) }
     ensures itself { IfSome result (λ _. IsItself Utf8 bytes.now) }
+    ensures none { IfNone result (IsUtf8 bytes.now → ⊥) }
 {
     match from_utf8(bytes) {
         Ok(text) => Some(text),
