@@ -32,11 +32,8 @@ pub struct ReadPage {
 
 /// Parses a page in whatever encoding like `parse_page`. The encoding is found as `decode_page`
 /// finds it: from a byte order mark, or else from the transport, or else from what the page
-/// declares, or else from the fallback. The byte order mark isn't part of the page's text.
-///
-/// # Errors
-///
-/// `Memory` and `TooManyNodes`, as for `parse_page`.
+/// declares, or else from the fallback. The byte order mark isn't part of the page's text. Fails only
+/// with `Memory` or `TooManyNodes`.
 pub fn read_page(
     alloc: Global,
     bytes: &[u8],

@@ -6,7 +6,7 @@ use crate::faults::Fault;
 use crate::options::Reading;
 use dom_query::{
     Charset, Document, Encoding, MarkupFault, MarkupFaultKind, NodeId, Options as PageOptions,
-    decode_page, parse_page_fragment, read_page,
+    PageParser, decode_page, read_page,
 };
 use std::alloc::Global;
 use std::fs;
@@ -87,9 +87,9 @@ fn read_bytes(
         confidence: page.confidence,
         replaced: page.text.replaced(),
     };
-    let text = page.text.as_str();
-    let document = parse_page_fragment(alloc, text, context, page_options(reading))?;
-    Ok((document, found))
+    let mut parser = PageParser::for_fragment(alloc, context, page_options(reading))?;
+    parser.feed(page.text.as_str())?;
+    Ok((parser.finish()?, found))
 }
 
 /// The page that bytes stand for, or where `is_text`, a text in UTF-8, whatever it declares.

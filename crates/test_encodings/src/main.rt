@@ -14,7 +14,7 @@ use std::env;
 use std::io::{Read, Write};
 use std::process::ExitCode;
 use std::time::Instant;
-use text_decoding::{Decoded, Decoder, Encoding, declared_encoding, decode};
+use text_decoding::{Decoded, Decoder, Encoding, declared_encoding, decode, decode_pieces};
 
 fn main(rt: HostRuntime) -> ExitCode {
     match run(&rt) {
@@ -98,7 +98,7 @@ fn write_text(alloc: Global, encoding: Encoding, out: &mut Vec<u8>, item: &[u8])
     write_number(out, text.replaced())
 }
 
-/// Appends the text of bytes that come in pieces.
+/// Appends the text of bytes that come in pieces. None where `Decoder` and `decode_pieces` differ.
 fn write_pieces(
     alloc: Global,
     encoding: Encoding,
@@ -106,18 +106,35 @@ fn write_pieces(
     item: &[u8],
     size: usize,
 ) -> Option<()> {
+    let pieces = pieces_of(alloc, item, size)?;
     let mut decoder = Decoder::new(alloc, encoding);
     let mut text = Vec::new(alloc);
     let mut replaced = 0;
+    for piece in pieces.as_slice() {
+        replaced = add(&mut text, replaced, &decoder.feed(piece).ok()?)?;
+    }
+    if decoder.encoding() != encoding {
+        return None;
+    }
+    replaced = add(&mut text, replaced, &decoder.finish().ok()?)?;
+    let joined = decode_pieces(alloc, encoding, pieces.as_slice()).ok()?;
+    if joined.text.as_bytes() != text.as_slice() || joined.replaced != replaced {
+        return None;
+    }
+    write_record(out, text.as_slice())?;
+    write_number(out, replaced)
+}
+
+/// The pieces of that size that bytes are cut into.
+fn pieces_of(alloc: Global, item: &[u8], size: usize) -> Option<Vec<&[u8]>> {
+    let mut pieces = Vec::new(alloc);
     let mut rest = item;
     for _ in 0..item.len() {
         let (piece, others) = rest.split_at_checked(size.min(rest.len()))?;
-        replaced = add(&mut text, replaced, &decoder.feed(piece).ok()?)?;
+        pieces.push(piece).ok()?;
         rest = others;
     }
-    replaced = add(&mut text, replaced, &decoder.finish().ok()?)?;
-    write_record(out, text.as_slice())?;
-    write_number(out, replaced)
+    Some(pieces)
 }
 
 /// Appends the text of a piece, and returns the number of replacements so far.

@@ -20,8 +20,8 @@ use Rattle.decoded_text.specs.Characters.{IsDecoded, errors_in, text_of}
 use Rattle.text_decoding.specs.Utf8.{characters as utf8_characters, fresh}
 use Rattle.text_decoding.specs.declared.state.State.{State}
 use Rattle.text_decoding.specs.declared.decoder.Decoder.{Decoder}
-use Rattle.text_decoding.specs.declared.whole.Text.{Text}
-use Rattle.text_decoding.specs.declared.whole.Text.TheVariants.{Lent, Owned}
+use Rattle.text_decoding.specs.declared.whole.DecodedText.{DecodedText}
+use Rattle.text_decoding.specs.declared.whole.DecodedText.TheVariants.{Lent, Owned}
 
 -- the state of a decoder at the beginning of a text
 abbrev pub start : State
@@ -64,7 +64,7 @@ pub record Begins (decoded : Decoded) (whole : List (Option ℕ)) (rest : List (
   pub replaced : errors_in whole ≡ decoded.replaced + errors_in rest
 
 -- the text and its number of replacements are those of the characters
-abbrev pub IsTextOf : Text → List (Option ℕ) → Type 0
+abbrev pub IsTextOf : DecodedText → List (Option ℕ) → Type 0
 IsTextOf (Lent text) characters = (text.now ≡ text_of characters) × (errors_in characters ≡ 0)
 IsTextOf (Owned decoded) characters = IsDecoded decoded characters
 
@@ -73,11 +73,11 @@ abbrev pub IsItself : Encoding → List ℕ → Type 0
 IsItself encoding bytes = (text_of (characters encoding bytes) ≡ bytes) × (errors_in (characters encoding bytes) ≡ 0)
 
 -- the bytes of a text, and its number of replacements
-abbrev pub text_bytes : Text → List ℕ
+abbrev pub text_bytes : DecodedText → List ℕ
 text_bytes (Lent text) = text.now
 text_bytes (Owned decoded) = string_bytes decoded.text
 
-abbrev pub replaced_in : Text → ℕ
+abbrev pub replaced_in : DecodedText → ℕ
 replaced_in (Lent text) = 0
 replaced_in (Owned decoded) = decoded.replaced
 

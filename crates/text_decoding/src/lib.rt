@@ -12,4 +12,4 @@ pub use decoded_text::Decoded;
 pub use decoder::{Decoder, decode_pieces};
 pub use encodings::{Encoding, SingleByte, declared_encoding, label_in_content};
 pub use page::{Charset, Confidence, Fallback, PageText, decode_page};
-pub use whole::{Text, decode};
+pub use whole::{DecodedText, decode};

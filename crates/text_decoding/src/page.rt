@@ -8,7 +8,7 @@ ghost use Rattle.text_decoding.specs.Pages.{IsFallback, IsPageEncoding, behind_m
 ghost use Rattle.text_decoding.specs.declared.page.Confidence.TheVariants.{Fallback as Unsaid};
 ghost use Rattle.text_decoding.specs.declared.page.Fallback.TheVariants.{Guess};
 
-use crate::whole::{Text, decode, lent_utf8};
+use crate::whole::{DecodedText, decode, lent_utf8};
 use encodings::{Encoding, SingleByte, declared_encoding};
 use std::alloc::{AllocError, Global};
 
@@ -47,7 +47,7 @@ pub enum Confidence {
 #[derive(Drop)]
 pub struct PageText<'a> {
     /// The text, without a byte order mark at its start.
-    pub text: Text<'a>,
+    pub text: DecodedText<'a>,
     /// The encoding that it was in.
     pub encoding: Encoding,
     /// What says so.
@@ -79,11 +79,7 @@ impl Charset {
 /// The text of a page in whatever encoding. The encoding is that of a byte order mark, or else the
 /// transport's, or else the one that the page declares (`declared_encoding`), or else the fallback.
 /// The byte order mark isn't part of the text. The text is lent where the bytes are UTF-8 or ASCII
-/// already, as `decode` does.
-///
-/// # Errors
-///
-/// `AllocError` where memory is short.
+/// already, as `decode` does. Fails only when memory runs out.
 pub fn decode_page(
     alloc: Global,
     bytes: &[u8],
@@ -176,7 +172,7 @@ fn decode_guess(alloc: Global, bytes: &[u8]) -> Result<PageText<'_>, AllocError>
 {
     if let Some(text) = lent_utf8(bytes) {
         return Ok(PageText {
-            text: Text::Lent(text),
+            text: DecodedText::Lent(text),
             encoding: Encoding::Utf8,
             confidence: Confidence::Fallback,
         });

@@ -13,21 +13,21 @@ use std::str::{from_utf8, from_utf8_unchecked};
 
 /// The text of bytes.
 #[derive(Drop)]
-pub enum Text<'a> {
+pub enum DecodedText<'a> {
     /// The bytes themselves, which are UTF-8 already. Nothing was replaced.
     Lent(&'a str),
     /// A text of its own.
     Owned(Decoded),
 }
 
-impl Text<'_> {
+impl DecodedText<'_> {
     /// The text.
     pub fn as_str(&self) -> &str
         ensures { result.now ≡ text_bytes self.now }
     {
         match self {
-            Text::Lent(text) => text,
-            Text::Owned(decoded) => decoded.text.as_str(),
+            DecodedText::Lent(text) => text,
+            DecodedText::Owned(decoded) => decoded.text.as_str(),
         }
     }
 
@@ -36,8 +36,8 @@ impl Text<'_> {
         ensures { result ≡ replaced_in self.now }
     {
         match self {
-            Text::Lent(_) => 0,
-            Text::Owned(decoded) => decoded.replaced,
+            DecodedText::Lent(_) => 0,
+            DecodedText::Owned(decoded) => decoded.replaced,
         }
     }
 }
@@ -48,13 +48,17 @@ impl Text<'_> {
 /// # Errors
 ///
 /// `AllocError` where memory is short.
-pub fn decode(alloc: Global, encoding: Encoding, bytes: &[u8]) -> Result<Text<'_>, AllocError>
+pub fn decode(
+    alloc: Global,
+    encoding: Encoding,
+    bytes: &[u8],
+) -> Result<DecodedText<'_>, AllocError>
     ensures { IfOk result (λ text. IsTextOf text (characters encoding bytes.now)) }
 {
     if let Some(text) = lent(encoding, bytes) {
-        return Ok(Text::Lent(text));
+        return Ok(DecodedText::Lent(text));
     }
-    Ok(Text::Owned(decode_whole(alloc, encoding, bytes)?))
+    Ok(DecodedText::Owned(decode_whole(alloc, encoding, bytes)?))
 }
 
 /// The text of the bytes in an encoding, decoded.
