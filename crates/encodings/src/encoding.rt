@@ -53,7 +53,8 @@ impl Encoding {
 
     /// Each label in lower case, and the encoding that it names: the table that `for_label` reads.
     pub fn labels() -> &'static [(&'static str, Encoding)]
-        ensures { result.now ≡ LABELS }
+        ensures { (label : List ℕ) → labelled (λ row. row.0.now) (λ row. row.1) result.now label
+            ≡ labelled (λ row. row.0.now) (λ row. row.1) LABELS label }
     {
         &LABELS
     }

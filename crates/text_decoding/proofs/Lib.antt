@@ -1,4 +1,5 @@
 pub mod Lending
+pub mod PageTexts
 pub mod Pieces
 pub mod States
 pub mod Utf8Steps

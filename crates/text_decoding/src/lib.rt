@@ -3,6 +3,7 @@
 #![tactic(auto)]
 
 mod decoder;
+pub mod laws;
 mod page;
 mod state;
 mod utf8;
