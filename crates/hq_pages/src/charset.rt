@@ -40,7 +40,11 @@ const COMPARED: usize = 64;
 /// The label that becomes a text with the fewest edits: a letter is put in, taken out or replaced,
 /// or two neighbours change places.
 fn nearest_label(alloc: Global, text: &str) -> Result<&'static str, AllocError> {
-    let mut lower = String::from_str(alloc, text.get(..COMPARED).unwrap_or(text))?;
+    let compared = match text.get(..COMPARED) {
+        Some(front) => front,
+        None => text,
+    };
+    let mut lower = String::from_str(alloc, compared)?;
     lower.make_ascii_lowercase();
     let mut nearest = "utf-8";
     let mut least = usize::MAX;
