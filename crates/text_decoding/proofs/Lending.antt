@@ -9,19 +9,19 @@ use Rattle.encodings.specs.declared.encoding.Encoding.{Encoding}
 use Rattle.encodings.specs.declared.encoding.Encoding.TheVariants.{Utf8, Utf16Be, Utf16Le, Gbk, Gb18030, Big5, EucJp, Iso2022Jp, ShiftJis, EucKr, Replacement, SingleByte}
 use Rattle.encodings.specs.SingleByte.{character_of, characters as single_byte_characters, index_of}
 use Rattle.gb18030.specs.Decoding.{characters as gb18030_characters}
-use Rattle.gb18030.specs.declared.table.TheConstants.{GB18030, FIRSTS, CODES}
+use Rattle.gb18030.specs.Tables.{codes as CODES, firsts as FIRSTS, index as GB18030}
 use Rattle.gb18030.proofs.Steps.{runs as gb18030_runs}
 use Rattle.big5.specs.Decoding.{characters as big5_characters}
-use Rattle.big5.specs.declared.table.TheConstants.{BIG5}
+use Rattle.big5.specs.Tables.{index as BIG5}
 use Rattle.big5.proofs.Steps.{runs as big5_runs}
 use Rattle.euc_kr.specs.Decoding.{characters as euc_kr_characters}
-use Rattle.euc_kr.specs.declared.table.TheConstants.{EUC_KR}
+use Rattle.euc_kr.specs.Tables.{index as EUC_KR}
 use Rattle.euc_kr.proofs.Steps.{runs as euc_kr_runs}
 use Rattle.japanese.specs.ShiftJis.{characters as shift_jis_characters}
 use Rattle.japanese.proofs.ShiftJisSteps.{runs as shift_jis_runs}
 use Rattle.japanese.specs.EucJp.{characters as euc_jp_characters}
 use Rattle.japanese.proofs.EucJpSteps.{runs as euc_jp_runs}
-use Rattle.japanese.specs.declared.table.TheConstants.{JIS0208, JIS0212}
+use Rattle.japanese.specs.Tables.{jis0208 as JIS0208, jis0212 as JIS0212}
 use Rattle.text_decoding.specs.Decoding.{IsItself, characters, is_ascii_based}
 use Rattle.text_decoding.specs.Utf8.{characters as utf8_characters, fresh}
 use Rattle.text_decoding.proofs.States.{big5_ends, euc_jp_ends, euc_kr_ends, gb18030_ends, shift_jis_ends, utf8_ends}

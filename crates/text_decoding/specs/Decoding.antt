@@ -6,15 +6,15 @@ use Rattle.encodings.specs.declared.utf16.ByteOrder.TheVariants.{BigEndian, Litt
 use Rattle.encodings.specs.SingleByte.{characters as single_byte_characters, index_of}
 use Rattle.encodings.specs.Utf16.{characters as utf16_characters}
 use Rattle.gb18030.specs.Decoding.{characters as gb18030_characters}
-use Rattle.gb18030.specs.declared.table.TheConstants.{GB18030, FIRSTS, CODES}
+use Rattle.gb18030.specs.Tables.{codes as CODES, firsts as FIRSTS, index as GB18030}
 use Rattle.big5.specs.Decoding.{characters as big5_characters}
-use Rattle.big5.specs.declared.table.TheConstants.{BIG5}
+use Rattle.big5.specs.Tables.{index as BIG5}
 use Rattle.euc_kr.specs.Decoding.{characters as euc_kr_characters}
-use Rattle.euc_kr.specs.declared.table.TheConstants.{EUC_KR}
+use Rattle.euc_kr.specs.Tables.{index as EUC_KR}
 use Rattle.japanese.specs.ShiftJis.{characters as shift_jis_characters}
 use Rattle.japanese.specs.EucJp.{characters as euc_jp_characters}
 use Rattle.japanese.specs.Iso2022Jp.{characters as iso_2022_jp_characters, start as japanese_start}
-use Rattle.japanese.specs.declared.table.TheConstants.{JIS0208, JIS0212}
+use Rattle.japanese.specs.Tables.{jis0208 as JIS0208, jis0212 as JIS0212}
 use Rattle.decoded_text.specs.declared.decoded.Decoded.{Decoded}
 use Rattle.decoded_text.specs.Characters.{IsDecoded, errors_in, text_of}
 use Rattle.text_decoding.specs.Utf8.{characters as utf8_characters, fresh}

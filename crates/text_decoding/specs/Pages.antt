@@ -1,5 +1,5 @@
 -- Which encoding a page is in.
-use Rattle.std.specs.Prelude.{◌≡◌, ℕ, List, drop, Option, Some, None, MatchOption, IsUtf8, ⊥}
+use Rattle.std.specs.Prelude.{◌≡◌, ℕ, List, drop, Option, Some, None, MatchOption, IsUtf8}
 use Rattle.std.specs.Option.{option_map_or}
 use Rattle.decoded_text.specs.Characters.{text_of}
 use Rattle.encodings.specs.Labels.{for_bom}

@@ -4,7 +4,7 @@ ghost use Rattle.std.specs.Prelude.{◌≡◌, [], ◌++◌, IfOk, IsTrue, List,
 ghost use Rattle.decoded_text.specs.Characters.{Continues, IsCounted};
 ghost use Rattle.encodings.specs.SingleByte.{characters as single_byte_characters, index_of};
 ghost use Rattle.japanese.specs.Iso2022Jp.{characters as iso_2022_jp_characters};
-ghost use Rattle.japanese.specs.declared.table.TheConstants.{JIS0208};
+ghost use Rattle.japanese.specs.Tables.{jis0208 as JIS0208};
 ghost use Rattle.text_decoding.specs.Decoding.{characters_from, replaced_from};
 ghost use Rattle.text_decoding.specs.Utf8.{characters as utf8_characters};
 

@@ -1,6 +1,6 @@
 //! Decoding bytes that are whole.
 
-ghost use Rattle.std.specs.Prelude.{◌≡◌, IfNone, IfOk, IfSome, IsTrue, IsUtf8, ⊥};
+ghost use Rattle.std.specs.Prelude.{◌≡◌, IfNone, IfOk, IfSome, IsTrue, IsUtf8};
 ghost use Rattle.decoded_text.specs.Characters.{IsDecoded};
 ghost use Rattle.encodings.specs.declared.encoding.Encoding.TheVariants.{Utf8};
 ghost use Rattle.text_decoding.specs.Decoding.{IsItself, IsTextOf, characters, is_ascii_based, replaced_in, text_bytes};
