@@ -18,15 +18,11 @@ import re
 import sys
 
 ROOT = pathlib.Path(__file__).resolve().parents[2]
-ROOTS, SHARED = ("test_calls", "test_queries", "test_times", "test_batch", "examples", "dq", "hq", "hq_pages"), "test_lines"
+ROOTS, SHARED = ("test_calls", "test_queries", "test_times", "test_batch", "test_encodings", "examples", "dq", "hq", "hq_pages"), "test_lines"
 # Public functions that no program calls, with the reason. One that a program calls is a fault here.
 UNCALLED = {
     ("Tree", "move_allowed"): "its caller proves that the move is allowed, which only tree construction (html5_trees) does",
     ("", "plain_trees_are_built"): "a law: it has no body",
-    ("", "declared_encoding"): "no reader of pages in other encodings than UTF-8 yet",
-    ("", "decode_into"): "no reader of pages in other encodings than UTF-8 yet",
-    ("Encoding", "for_bom"): "no reader of pages in other encodings than UTF-8 yet",
-    ("SingleByte", "decode_into"): "no reader of pages in other encodings than UTF-8 yet",
 }
 # Comments, strings, characters, and imports of specs.
 BLANK = re.compile(r'//[^\n]*|"(?:\\.|[^"\\])*"|\'(?:\\[^\']+|[^\'\\])\'|\bghost use [^;]*;', re.S)

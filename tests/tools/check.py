@@ -43,6 +43,7 @@ import coverage  # noqa: E402
 import depth  # noqa: E402
 import documents  # noqa: E402
 import edits  # noqa: E402
+import encodings_of_pages  # noqa: E402
 import hostile  # noqa: E402
 import options  # noqa: E402
 import paths  # noqa: E402
@@ -197,6 +198,13 @@ def followed():
     return passed, failed
 
 
+def decoded():
+    """Asks the decoders, the labels and what pages declare."""
+    passed, failed = encodings_of_pages.run()
+    print(f"encodings: {passed} passed, {failed} failed")
+    return passed, failed
+
+
 def wrong_bodies():
     """Looks for each must-fail edit that docs/WRONG_BODIES.md names, and returns how many are there and how many aren't."""
     text = (ROOT / "docs" / "WRONG_BODIES.md").read_text(encoding="utf-8")
@@ -268,7 +276,7 @@ def main():
     counts, edits_left = (None, lambda: (0, 0)) if rows_alone else gate(clock)
     tables = [rows, cleaned, followed, asked_each_way]
     tables += [documents.documents, reference.reference, options.options, standard.standard, standard_rules.checked]
-    tables += [wrong_bodies, coverage.coverage, entries_of_tables.tables, hostile.hostile]
+    tables += [wrong_bodies, coverage.coverage, entries_of_tables.tables, hostile.hostile, decoded]
     counts = [counts] if counts else []
     with ThreadPoolExecutor() as pool:
         # (what is done beside the edits neither measures the processor time of others nor changes a child before it starts)

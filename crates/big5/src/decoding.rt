@@ -32,7 +32,8 @@ pub fn decode_into<'b>(
 ) -> Result<&'b [u8], AllocError>
     requires { IsCounted out.old }
     ensures continues { (more : List ℕ) → (IsTrue is_last → more ≡ []) → IfOk result (λ rest.
-        Continues out.old (characters BIG5 (bytes.now ++ more)) out.new (characters BIG5 (rest.now ++ more))) }
+        Continues out.old (characters BIG5 (bytes.now ++ more))
+        out.new (characters BIG5 (rest.now ++ more))) }
     ensures few { IfOk result (λ rest. length rest.now < 2) }
     ensures all { IsTrue is_last → IfOk result (λ rest. rest.now ≡ []) }
     ensures counted { IsCounted out.new }
@@ -75,7 +76,8 @@ fn next(bytes: &[u8], is_last: bool) -> Option<Step<'_>>
     ensures none { IfNone result (length bytes.now < 2) }
     ensures last { IsTrue is_last → IfNone result (bytes.now ≡ []) }
     ensures some { (more : List ℕ) → (IsTrue is_last → more ≡ []) → IfSome result (λ step.
-        characters BIG5 (bytes.now ++ more) ≡ marked step.character step.mark ++ characters BIG5 (step.rest.now ++ more)) }
+        characters BIG5 (bytes.now ++ more)
+        ≡ marked step.character step.mark ++ characters BIG5 (step.rest.now ++ more)) }
     ensures less { IfSome result (λ step. length step.rest.now < length bytes.now) }
 {
     let (lead, behind) = bytes.split_first()?;
@@ -95,7 +97,8 @@ fn pair(lead: u8, behind: &[u8], is_last: bool) -> Option<Step<'_>>
     ensures none { IfNone result (behind.now ≡ []) }
     ensures last { IfNone result (is_last ≡ false) }
     ensures some { (more : List ℕ) → (IsTrue is_last → more ≡ []) → IfSome result (λ step.
-        characters BIG5 (lead ∷ (behind.now ++ more)) ≡ marked step.character step.mark ++ characters BIG5 (step.rest.now ++ more)) }
+        characters BIG5 (lead ∷ (behind.now ++ more))
+        ≡ marked step.character step.mark ++ characters BIG5 (step.rest.now ++ more)) }
     ensures less { IfSome result (λ step. length step.rest.now ≤ length behind.now) }
 {
     let Some((trail, others)) = behind.split_first() else {

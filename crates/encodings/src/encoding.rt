@@ -45,9 +45,18 @@ impl Encoding {
     /// `ISO-8859-1` are labels, and the last two name windows-1252.
     pub fn for_label(label: &[u8]) -> Option<Encoding>
         ensures { (trimmed : List ℕ) × IsTrimAscii label.now trimmed
-            × (result ≡ labelled (λ row. row.0.now) (λ row. row.1) LABELS (map to_ascii_lowercase trimmed)) }
+            × (result ≡ labelled (λ row. row.0.now) (λ row. row.1) LABELS
+            (map to_ascii_lowercase trimmed)) }
     {
         find(&LABELS, label.trim_ascii())
+    }
+
+    /// Each label in lower case, and the encoding that it names: the table that `for_label` reads.
+    pub fn labels() -> &'static [(&'static str, Encoding)]
+        ensures { (label : List ℕ) → labelled (λ row. row.0.now) (λ row. row.1) result.now label
+            ≡ labelled (λ row. row.0.now) (λ row. row.1) LABELS label }
+    {
+        &LABELS
     }
 
     /// Returns the name of the encoding, which is one of its labels, such as `windows-1252`,
@@ -102,7 +111,8 @@ impl Encoding {
 
 /// Returns the encoding of a label in the rows.
 fn find(rows: &[(&str, Encoding)], label: &[u8]) -> Option<Encoding>
-    ensures { result ≡ labelled (λ row. row.0.now) (λ row. row.1) rows.now (map to_ascii_lowercase label.now) }
+    ensures { result ≡ labelled (λ row. row.0.now) (λ row. row.1) rows.now
+        (map to_ascii_lowercase label.now) }
 {
     for (name, encoding) in rows {
         if is_same(name.as_bytes(), label) {
@@ -114,7 +124,8 @@ fn find(rows: &[(&str, Encoding)], label: &[u8]) -> Option<Encoding>
 
 /// Returns whether two labels are equal, apart from the case of letters.
 fn is_same(name: &[u8], label: &[u8]) -> bool
-    ensures { result ≡ bytes_eq (map to_ascii_lowercase name.now) (map to_ascii_lowercase label.now) }
+    ensures { result ≡ bytes_eq (map to_ascii_lowercase name.now)
+        (map to_ascii_lowercase label.now) }
 {
     name.eq_ignore_ascii_case(label)
 }

@@ -10,5 +10,5 @@ mod tables;
 pub mod utf16;
 
 pub use encoding::Encoding;
-pub use prescan::declared_encoding;
+pub use prescan::{declared_encoding, label_in_content};
 pub use single_byte::SingleByte;

@@ -129,7 +129,8 @@ impl SingleByte {
     /// Fails with `AllocError` if memory runs out.
     pub fn decode_into(self, out: &mut Decoded, bytes: &[u8]) -> Result<(), AllocError>
         requires { IsCounted out.old }
-        ensures appends { OnOk result (Appends out.old out.new (characters (index_of self) bytes.now)) }
+        ensures appends { OnOk result (Appends out.old
+            out.new (characters (index_of self) bytes.now)) }
         ensures counted { IsCounted out.new }
     {
         decode_by(self.index(), out, bytes)

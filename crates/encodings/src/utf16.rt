@@ -31,7 +31,8 @@ pub fn decode_into<'b>(
 ) -> Result<&'b [u8], AllocError>
     requires { IsCounted out.old }
     ensures continues { (more : List ℕ) → (IsTrue is_last → more ≡ []) → IfOk result (λ rest.
-        Continues out.old (characters order (bytes.now ++ more)) out.new (characters order (rest.now ++ more))) }
+        Continues out.old (characters order (bytes.now ++ more))
+        out.new (characters order (rest.now ++ more))) }
     ensures few { IfOk result (λ rest. length rest.now < 4) }
     ensures all { IsTrue is_last → IfOk result (λ rest. rest.now ≡ []) }
     ensures counted { IsCounted out.new }
@@ -75,7 +76,8 @@ fn pair(
     ensures none { IfNone result (length behind.now < 2) }
     ensures last { IfNone result (is_last ≡ false) }
     ensures some { (more : List ℕ) → (IsTrue is_last → more ≡ []) → IfSome result (λ next.
-        characters order (first ∷ second ∷ (behind.now ++ more)) ≡ next.0 ∷ characters order (next.1.now ++ more)) }
+        characters order (first ∷ second ∷ (behind.now ++ more))
+        ≡ next.0 ∷ characters order (next.1.now ++ more)) }
     ensures less { IfSome result (λ next. length next.1.now ≤ length behind.now) }
 {
     let Some((third, others)) = behind.split_first() else {

@@ -22,7 +22,8 @@ pub fn decode_into<'b>(
 ) -> Result<&'b [u8], AllocError>
     requires { IsCounted out.old }
     ensures continues { (more : List ℕ) → (IsTrue is_last → more ≡ []) → IfOk result (λ rest.
-        Continues out.old (characters EUC_KR (bytes.now ++ more)) out.new (characters EUC_KR (rest.now ++ more))) }
+        Continues out.old (characters EUC_KR (bytes.now ++ more))
+        out.new (characters EUC_KR (rest.now ++ more))) }
     ensures few { IfOk result (λ rest. length rest.now < 2) }
     ensures all { IsTrue is_last → IfOk result (λ rest. rest.now ≡ []) }
     ensures counted { IsCounted out.new }
@@ -58,7 +59,8 @@ fn pair(lead: u8, behind: &[u8], is_last: bool) -> Option<(Option<char>, &[u8])>
     ensures none { IfNone result (behind.now ≡ []) }
     ensures last { IfNone result (is_last ≡ false) }
     ensures some { (more : List ℕ) → (IsTrue is_last → more ≡ []) → IfSome result (λ next.
-        characters EUC_KR (lead ∷ (behind.now ++ more)) ≡ next.0 ∷ characters EUC_KR (next.1.now ++ more)) }
+        characters EUC_KR (lead ∷ (behind.now ++ more))
+        ≡ next.0 ∷ characters EUC_KR (next.1.now ++ more)) }
     ensures less { IfSome result (λ next. length next.1.now ≤ length behind.now) }
 {
     let Some((trail, others)) = behind.split_first() else {

@@ -32,6 +32,7 @@ use std::process::ExitCode;
 fn print_reading<W: Write>(alloc: Global, out: &mut W) -> Result<(), Fault> {
     reading::print_read(alloc, out)?;
     reading::print_pieces(alloc, out)?;
+    reading::print_received(alloc, out)?;
     reading::print_fragment(alloc, out)?;
     reading::print_errors(alloc, out)?;
     reading::print_fault(alloc, out)

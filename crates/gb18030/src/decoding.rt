@@ -23,7 +23,8 @@ pub fn decode_into<'b>(
 ) -> Result<&'b [u8], AllocError>
     requires { IsCounted out.old }
     ensures continues { (more : List ℕ) → (IsTrue is_last → more ≡ []) → IfOk result (λ rest.
-        Continues out.old (characters GB18030 FIRSTS CODES (bytes.now ++ more)) out.new (characters GB18030 FIRSTS CODES (rest.now ++ more))) }
+        Continues out.old (characters GB18030 FIRSTS CODES (bytes.now ++ more))
+        out.new (characters GB18030 FIRSTS CODES (rest.now ++ more))) }
     ensures few { IfOk result (λ rest. length rest.now < 4) }
     ensures all { IsTrue is_last → IfOk result (λ rest. rest.now ≡ []) }
     ensures counted { IsCounted out.new }
@@ -43,7 +44,8 @@ fn next(bytes: &[u8], is_last: bool) -> Option<(Option<char>, &[u8])>
     ensures none { IfNone result (length bytes.now < 4) }
     ensures last { IsTrue is_last → IfNone result (bytes.now ≡ []) }
     ensures some { (more : List ℕ) → (IsTrue is_last → more ≡ []) → IfSome result (λ next.
-        characters GB18030 FIRSTS CODES (bytes.now ++ more) ≡ next.0 ∷ characters GB18030 FIRSTS CODES (next.1.now ++ more)) }
+        characters GB18030 FIRSTS CODES (bytes.now ++ more)
+        ≡ next.0 ∷ characters GB18030 FIRSTS CODES (next.1.now ++ more)) }
     ensures less { IfSome result (λ next. length next.1.now < length bytes.now) }
 {
     let (first, behind) = bytes.split_first()?;
@@ -59,7 +61,8 @@ fn pair(first: u8, behind: &[u8], is_last: bool) -> Option<(Option<char>, &[u8])
     ensures none { IfNone result (length behind.now < 3) }
     ensures last { IfNone result (is_last ≡ false) }
     ensures some { (more : List ℕ) → (IsTrue is_last → more ≡ []) → IfSome result (λ next.
-        characters GB18030 FIRSTS CODES (first ∷ (behind.now ++ more)) ≡ next.0 ∷ characters GB18030 FIRSTS CODES (next.1.now ++ more)) }
+        characters GB18030 FIRSTS CODES (first ∷ (behind.now ++ more))
+        ≡ next.0 ∷ characters GB18030 FIRSTS CODES (next.1.now ++ more)) }
     ensures less { IfSome result (λ next. length next.1.now ≤ length behind.now) }
 {
     let Some((second, others)) = behind.split_first() else {
@@ -89,7 +92,8 @@ fn four<'b>(
     ensures none { IfNone result (length others.now < 2) }
     ensures last { IfNone result (is_last ≡ false) }
     ensures some { (more : List ℕ) → (IsTrue is_last → more ≡ []) → IfSome result (λ next.
-        characters GB18030 FIRSTS CODES (first ∷ (behind.now ++ more)) ≡ next.0 ∷ characters GB18030 FIRSTS CODES (next.1.now ++ more)) }
+        characters GB18030 FIRSTS CODES (first ∷ (behind.now ++ more))
+        ≡ next.0 ∷ characters GB18030 FIRSTS CODES (next.1.now ++ more)) }
     ensures less { IfSome result (λ next. length next.1.now ≤ length behind.now) }
 {
     let Some((third, from_fourth)) = others.split_first() else {

@@ -4,6 +4,7 @@ use crate::output::print_matches;
 use crate::rewriting::{print_document, write_back};
 use dom_query::{Document, DocumentSelect, SelectionMut, run_commands};
 use hq_pages::addresses::make_whole;
+use hq_pages::charset::{declare_utf8, report_found};
 use hq_pages::cleaning::sanitize_page;
 use hq_pages::faults::Fault;
 use hq_pages::options::{Job, Options};
@@ -26,7 +27,10 @@ pub fn do_file<W: Write>(
     options: &Options<'_>,
     out: &mut W,
 ) -> Result<bool, Fault> {
-    let document = read_document(rt, name, options.reading)?;
+    let (document, found) = read_document(rt, name, options.reading)?;
+    if let Some(found) = found {
+        report_found(rt, name, found, options.verbose, options.printing.json)?;
+    }
     let mut page = Page { name, document };
     change(&mut page.document, options)?;
     let matched = do_job(&mut page, options, out)?;
@@ -73,6 +77,9 @@ pub fn change(document: &mut Document, options: &Options<'_>) -> Result<(), Faul
     }
     if options.sanitizes {
         sanitize_page(document)?;
+    }
+    if options.declares_utf8() {
+        declare_utf8(document)?;
     }
     make_whole(document, options)
 }

@@ -1,15 +1,14 @@
 //! Streams of pages: for each line of JSON that is read, a line of JSON is written.
 
 use crate::pages::change;
-use dom_query::{
-    Command, Document, DocumentSelect, Matcher, NodeMarkup, NodeRef, parse_page_bytes, run_commands,
-};
+use dom_query::{Command, Document, DocumentSelect, Matcher, NodeMarkup, NodeRef, run_commands};
 use hq_pages::addresses::make_whole_at;
+use hq_pages::charset::{Found, put_found};
 use hq_pages::faults::Fault;
 use hq_pages::json::summary_value;
 use hq_pages::options::{Job, Options, Printing, Show};
 use hq_pages::page_lines::{PageLine, address_of, put, put_error, read_line};
-use hq_pages::pages::page_options;
+use hq_pages::pages::read_line_page;
 use hq_pages::showing::text_of;
 use serde_json::{Map, Value};
 use std::alloc::Global;
@@ -127,7 +126,11 @@ fn answer_of(
     options: &Options<'_>,
     counts: &mut Counts,
 ) -> Result<Map<String, Value>, Fault> {
-    let PageLine { page, mut members } = match read_line(alloc, line) {
+    let PageLine {
+        page,
+        is_text,
+        mut members,
+    } = match read_line(alloc, line) {
         Ok(read) => read,
         Err(fault) => {
             counts.faults = counts.faults.saturating_add(1);
@@ -136,7 +139,8 @@ fn answer_of(
             return Ok(members);
         }
     };
-    if let Err(fault) = answer_page(alloc, &page, options, counts, &mut members) {
+    let read = read_line_page(alloc, &page, is_text, options.reading);
+    if let Err(fault) = answer_page(alloc, read, options, counts, &mut members) {
         counts.faults = counts.faults.saturating_add(1);
         let why = format!(in alloc; "{fault}")?;
         put_error(alloc, &mut members, why.as_str())?;
@@ -147,12 +151,15 @@ fn answer_of(
 /// Adds the answer to a page to the members of its line.
 fn answer_page(
     alloc: Global,
-    page: &[u8],
+    read: Result<(Document, Found), Fault>,
     options: &Options<'_>,
     counts: &mut Counts,
     members: &mut Map<String, Value>,
 ) -> Result<(), Fault> {
-    let mut document = parse_page_bytes(alloc, page, page_options(options.reading))?;
+    let (mut document, found) = read?;
+    if options.verbose || found.replaced > 0 {
+        put_found(alloc, members, found)?;
+    }
     change(&mut document, options)?;
     if let Some(address) = address_of(members) {
         make_whole_at(&mut document, address)?;

@@ -31,7 +31,7 @@ const NONE: char = ' ';
 
 /// All options, in the order in which `--help` lists them.
 #[rattlefmt::skip]
-static OPTIONS: [Choice; 28] = [
+static OPTIONS: [Choice; 30] = [
     ("html", NONE, "", "", "Print each match as HTML (the default)"),
     ("inner", NONE, "", "", "Print what is inside each match: HTML, or with --md Markdown"),
     ("text", 't', "", "", "Print the text of each match"),
@@ -53,6 +53,8 @@ static OPTIONS: [Choice; 28] = [
     ("remove", 'r', "SELECTOR", "", "First take out what this matches; may be repeated"),
     ("sanitize", NONE, "", "", "Then keep only harmless elements, attributes and addresses"),
     ("in-place", 'i', "", "", "Write the document back to its file; with --document or --script"),
+    ("keep-charset", NONE, "", "", "Leave the encoding that a written document declares"),
+    ("charset", NONE, "LABEL", "explicit", "Read pages in this encoding, as an HTTP header names it"),
     ("explicit", NONE, "", "", "Accept only explicit markup, in which every element is closed"),
     ("context", NONE, "NAME", "explicit", "Read a fragment as in this element: tr, \"svg path\""),
     ("scripting", NONE, "", "explicit", "Read as if scripts ran: noscript holds text"),

@@ -20,6 +20,11 @@ pub enum Fault {
     /// Options of the command line can't be combined, or a value isn't one of those that its option
     /// takes.
     Usage(&'static str),
+    /// No encoding has this label; another label is the nearest.
+    Charset {
+        label: String,
+        nearest: &'static str,
+    },
     /// The text of this argument isn't a selector.
     Selector {
         place: &'static str,
@@ -56,6 +61,10 @@ impl fmt::Display for Fault {
             Fault::TooManyNodes => f.write_str("too many nodes"),
             Fault::Argument => f.write_str("an argument isn't UTF-8"),
             Fault::Usage(why) => f.write_str(why),
+            Fault::Charset { label, nearest } => write!(
+                f,
+                "--charset: no encoding has the label \"{label}\"; the nearest is \"{nearest}\""
+            ),
             Fault::Selector { place, fault, .. } => write!(f, "{place}: {fault}"),
             Fault::Script(line) => write!(f, "--script: line {line} isn't a line of a script"),
             Fault::Edit { line, fault } => write!(f, "--script: line {line}: {fault}"),

@@ -3,6 +3,7 @@
 #![tactic(auto)]
 
 pub mod addresses;
+pub mod charset;
 pub mod cleaning;
 pub mod command;
 pub mod compressed;

@@ -1,8 +1,9 @@
 //! What the command line asks for.
 
+use crate::charset::charset_of;
 use crate::faults::Fault;
 use clap::ArgMatches;
-use dom_query::{Command, Context, Matcher, ScriptFault, SelectorFault, read_script};
+use dom_query::{Charset, Command, Context, Matcher, ScriptFault, SelectorFault, read_script};
 use std::alloc::Global;
 use url::{ParseError, Url};
 
@@ -20,6 +21,8 @@ pub struct Options<'a> {
     pub printing: Printing<'a>,
     /// Whether the document is written back to its file.
     pub in_place: bool,
+    /// Whether the encoding that a document declares is left where the document is written.
+    pub keeps_charset: bool,
     /// Whether a report says how each page was read.
     pub verbose: bool,
     pub stream: Stream,
@@ -76,6 +79,8 @@ pub enum Reading<'a> {
     Explicit,
     Page {
         context: Option<Context<'a>>,
+        /// What is known of the encoding of pages besides their bytes.
+        charset: Charset,
         scripting: bool,
         max_depth: Option<usize>,
     },
@@ -108,13 +113,14 @@ impl<'a> Options<'a> {
         terminal: bool,
     ) -> Result<Options<'a>, Fault> {
         let mut options = Options {
-            reading: reading_of(matches)?,
+            reading: reading_of(alloc, matches)?,
             removed: Vec::new(alloc),
             sanitizes: matches.get_flag("sanitize"),
             base: None,
             job: job_of(alloc, matches)?,
             printing: printing_of(matches, terminal)?,
             in_place: matches.get_flag("in-place"),
+            keeps_charset: matches.get_flag("keep-charset"),
             verbose: matches.get_flag("verbose"),
             stream: stream_of(matches),
             files: Vec::new(alloc),
@@ -196,6 +202,14 @@ impl<'a> Options<'a> {
         None
     }
 
+    /// Whether UTF-8 is declared in the documents of pages because they are written in it.
+    pub fn declares_utf8(&self) -> bool {
+        if self.keeps_charset || matches!(self.reading, Reading::Explicit) {
+            return false;
+        }
+        self.in_place || matches!(self.job, Job::Document)
+    }
+
     /// Returns whether what is printed can contain addresses.
     fn prints_addresses(&self) -> bool {
         match self.job {
@@ -264,12 +278,13 @@ fn stream_of(matches: &ArgMatches<'_>) -> Stream {
     }
 }
 
-fn reading_of<'a>(matches: &ArgMatches<'a>) -> Result<Reading<'a>, Fault> {
+fn reading_of<'a>(alloc: Global, matches: &ArgMatches<'a>) -> Result<Reading<'a>, Fault> {
     if matches.get_flag("explicit") {
         return Ok(Reading::Explicit);
     }
     Ok(Reading::Page {
         context: context_of(matches),
+        charset: charset_of(alloc, matches)?,
         scripting: matches.get_flag("scripting"),
         max_depth: max_depth_of(matches)?,
     })

@@ -10,6 +10,8 @@ use std::alloc::Global;
 #[derive(Drop)]
 pub struct PageLine {
     pub page: Vec<u8>,
+    /// Whether the page came as a text: then it is in UTF-8, whatever it declares.
+    pub is_text: bool,
     pub members: Map<String, Value>,
 }
 
@@ -44,8 +46,13 @@ pub fn read_line(alloc: Global, line: &[u8]) -> Result<PageLine, LineFault> {
     let Ok(Value::Object(mut members)) = Value::from_slice(alloc, line) else {
         return Err(LineFault::Json);
     };
+    let is_text = members.contains_key("html");
     let page = page_of(alloc, &mut members)?;
-    Ok(PageLine { page, members })
+    Ok(PageLine {
+        page,
+        is_text,
+        members,
+    })
 }
 
 /// Removes the page from the members and returns its bytes.

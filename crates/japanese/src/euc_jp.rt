@@ -23,7 +23,8 @@ pub fn decode_into<'b>(
 ) -> Result<&'b [u8], AllocError>
     requires { IsCounted out.old }
     ensures continues { (more : List ℕ) → (IsTrue is_last → more ≡ []) → IfOk result (λ rest.
-        Continues out.old (characters JIS0208 JIS0212 (bytes.now ++ more)) out.new (characters JIS0208 JIS0212 (rest.now ++ more))) }
+        Continues out.old (characters JIS0208 JIS0212 (bytes.now ++ more))
+        out.new (characters JIS0208 JIS0212 (rest.now ++ more))) }
     ensures few { IfOk result (λ rest. length rest.now < 3) }
     ensures all { IsTrue is_last → IfOk result (λ rest. rest.now ≡ []) }
     ensures counted { IsCounted out.new }
@@ -43,7 +44,8 @@ fn next(bytes: &[u8], is_last: bool) -> Option<(Option<char>, &[u8])>
     ensures none { IfNone result (length bytes.now < 3) }
     ensures last { IsTrue is_last → IfNone result (bytes.now ≡ []) }
     ensures some { (more : List ℕ) → (IsTrue is_last → more ≡ []) → IfSome result (λ next.
-        characters JIS0208 JIS0212 (bytes.now ++ more) ≡ next.0 ∷ characters JIS0208 JIS0212 (next.1.now ++ more)) }
+        characters JIS0208 JIS0212 (bytes.now ++ more)
+        ≡ next.0 ∷ characters JIS0208 JIS0212 (next.1.now ++ more)) }
     ensures less { IfSome result (λ next. length next.1.now < length bytes.now) }
 {
     let (lead, behind) = bytes.split_first()?;
@@ -60,7 +62,8 @@ fn pair(lead: u8, behind: &[u8], is_last: bool) -> Option<(Option<char>, &[u8])>
     ensures none { IfNone result (length behind.now < 2) }
     ensures last { IfNone result (is_last ≡ false) }
     ensures some { (more : List ℕ) → (IsTrue is_last → more ≡ []) → IfSome result (λ next.
-        characters JIS0208 JIS0212 (lead ∷ (behind.now ++ more)) ≡ next.0 ∷ characters JIS0208 JIS0212 (next.1.now ++ more)) }
+        characters JIS0208 JIS0212 (lead ∷ (behind.now ++ more))
+        ≡ next.0 ∷ characters JIS0208 JIS0212 (next.1.now ++ more)) }
     ensures less { IfSome result (λ next. length next.1.now ≤ length behind.now) }
 {
     let Some((trail, others)) = behind.split_first() else {
@@ -90,7 +93,8 @@ fn three<'b>(
     ensures none { IfNone result (others.now ≡ []) }
     ensures last { IfNone result (is_last ≡ false) }
     ensures some { (more : List ℕ) → (IsTrue is_last → more ≡ []) → IfSome result (λ next.
-        characters JIS0208 JIS0212 (lead ∷ (behind.now ++ more)) ≡ next.0 ∷ characters JIS0208 JIS0212 (next.1.now ++ more)) }
+        characters JIS0208 JIS0212 (lead ∷ (behind.now ++ more))
+        ≡ next.0 ∷ characters JIS0208 JIS0212 (next.1.now ++ more)) }
     ensures less { IfSome result (λ next. length next.1.now ≤ length behind.now) }
 {
     let Some((third, rest)) = others.split_first() else {

@@ -62,7 +62,8 @@ pub fn decode_into<'b>(
 ) -> Result<(State, &'b [u8]), AllocError>
     requires { IsCounted out.old }
     ensures continues { (more : List ℕ) → (IsTrue is_last → more ≡ []) → IfOk result (λ end.
-        Continues out.old (characters JIS0208 start (bytes.now ++ more)) out.new (characters JIS0208 end.0 (end.1.now ++ more))) }
+        Continues out.old (characters JIS0208 start (bytes.now ++ more))
+        out.new (characters JIS0208 end.0 (end.1.now ++ more))) }
     ensures few { IfOk result (λ end. length end.1.now < 3) }
     ensures all { IsTrue is_last → IfOk result (λ end. end.1.now ≡ []) }
     ensures counted { IsCounted out.new }
@@ -94,7 +95,8 @@ fn next(state: State, bytes: &[u8], is_last: bool) -> Option<Step<'_>>
     ensures none { IfNone result (length bytes.now < 3) }
     ensures last { IsTrue is_last → IfNone result (bytes.now ≡ []) }
     ensures some { (more : List ℕ) → (IsTrue is_last → more ≡ []) → IfSome result (λ step.
-        characters JIS0208 state (bytes.now ++ more) ≡ option_to_list step.character ++ characters JIS0208 step.state (step.rest.now ++ more)) }
+        characters JIS0208 state (bytes.now ++ more)
+        ≡ option_to_list step.character ++ characters JIS0208 step.state (step.rest.now ++ more)) }
     ensures less { IfSome result (λ step. length step.rest.now < length bytes.now) }
 {
     let (first, behind) = bytes.split_first()?;
@@ -116,7 +118,8 @@ fn escape(state: State, behind: &[u8], is_last: bool) -> Option<Step<'_>>
     ensures none { IfNone result (length behind.now < 2) }
     ensures last { IfNone result (is_last ≡ false) }
     ensures some { (more : List ℕ) → (IsTrue is_last → more ≡ []) → IfSome result (λ step.
-        characters JIS0208 state (27 ∷ (behind.now ++ more)) ≡ option_to_list step.character ++ characters JIS0208 step.state (step.rest.now ++ more)) }
+        characters JIS0208 state (27 ∷ (behind.now ++ more))
+        ≡ option_to_list step.character ++ characters JIS0208 step.state (step.rest.now ++ more)) }
     ensures less { IfSome result (λ step. length step.rest.now ≤ length behind.now) }
 {
     let Some((a, others)) = behind.split_first() else {
@@ -155,7 +158,8 @@ fn cut(state: State, behind: &[u8], is_last: bool) -> Option<Step<'_>>
     requires { length behind.now < 2 }
     ensures last { IfNone result (is_last ≡ false) }
     ensures some { (more : List ℕ) → (IsTrue is_last → more ≡ []) → IfSome result (λ step.
-        characters JIS0208 state (27 ∷ (behind.now ++ more)) ≡ option_to_list step.character ++ characters JIS0208 step.state (step.rest.now ++ more)) }
+        characters JIS0208 state (27 ∷ (behind.now ++ more))
+        ≡ option_to_list step.character ++ characters JIS0208 step.state (step.rest.now ++ more)) }
     ensures less { IfSome result (λ step. length step.rest.now ≤ length behind.now) }
 {
     if !is_last {
@@ -174,7 +178,8 @@ fn pair(state: State, first: u8, behind: &[u8], is_last: bool) -> Option<Step<'_
     ensures none { IfNone result (behind.now ≡ []) }
     ensures last { IfNone result (is_last ≡ false) }
     ensures some { (more : List ℕ) → (IsTrue is_last → more ≡ []) → IfSome result (λ step.
-        characters JIS0208 state (first ∷ (behind.now ++ more)) ≡ option_to_list step.character ++ characters JIS0208 step.state (step.rest.now ++ more)) }
+        characters JIS0208 state (first ∷ (behind.now ++ more))
+        ≡ option_to_list step.character ++ characters JIS0208 step.state (step.rest.now ++ more)) }
     ensures less { IfSome result (λ step. length step.rest.now ≤ length behind.now) }
 {
     let Some((second, others)) = behind.split_first() else {
