@@ -19,6 +19,11 @@ pub fn answer_of(
     if let Show::All = printing.show {
         return Ok(Some(summary_json(alloc, node, file)?));
     }
+    if let Show::Markdown = printing.show
+        && !printing.json
+    {
+        return Ok(Some(markdown_answer(alloc, node, printing.inner)?));
+    }
     let Some(text) = text_of(node, printing)? else {
         return none_as(alloc, printing.json);
     };
@@ -41,27 +46,38 @@ pub fn text_of(node: &NodeRef<'_>, printing: Printing<'_>) -> Result<Option<Stri
     match printing.show {
         Show::Attr(name) => attr_of(alloc, node, name, printing.trims),
         Show::Text => Ok(Some(trimmed(alloc, node.text()?, printing.trims)?)),
-        Show::Markdown => Ok(Some(markdown_of(alloc, node, printing.inner)?)),
+        Show::Markdown => Ok(Some(markdown_of(alloc, node, printing.inner)?.0)),
         Show::Csv => Ok(Some(csv_of(node)?)),
         _ if printing.inner => Ok(Some(node.inner_html()?)),
         _ => Ok(Some(node.html()?)),
     }
 }
 
-/// Returns a match as Markdown, or what is inside it, without empty lines around it. An item of a
-/// list is written with a marker: `-`, or `1.` in an ordered list.
-fn markdown_of(alloc: Global, node: &NodeRef<'_>, inner: bool) -> Result<String, Fault> {
+/// Returns what is printed of a match as Markdown. A block, such as a paragraph, is followed by an
+/// empty line, so that the next one doesn't join it.
+fn markdown_answer(alloc: Global, node: &NodeRef<'_>, inner: bool) -> Result<String, Fault> {
+    let (mut text, is_block) = markdown_of(alloc, node, inner)?;
+    if is_block {
+        text.push('\n')?;
+    }
+    Ok(text)
+}
+
+/// Returns a match as Markdown, or what is inside it, without white space around it, and whether it
+/// is a block. An item of a list is written with a marker: `-`, or `1.` in an ordered list.
+fn markdown_of(alloc: Global, node: &NodeRef<'_>, inner: bool) -> Result<(String, bool), Fault> {
     let written = serialize_md(node, !inner, None)?;
-    let text = written.as_str().trim_matches('\n');
+    let text = written.as_str().trim_start_matches('\n').trim_end();
     if inner || !node.has_name("li") {
-        return Ok(String::from_str(alloc, text)?);
+        let is_block = !inner && written.ends_with('\n');
+        return Ok((String::from_str(alloc, text)?, is_block));
     }
     let (marker, indent) = if is_in_ordered_list(node) {
         ("1. ", "   ")
     } else {
         ("- ", "  ")
     };
-    marked(alloc, text, marker, indent)
+    Ok((marked(alloc, text, marker, indent)?, false))
 }
 
 fn is_in_ordered_list(item: &NodeRef<'_>) -> bool {
