@@ -6,7 +6,7 @@ A fenced block is checked by the words behind its fence:
   built programs `hq` and `dq` on the PATH. It must end with status 0 (a line may end in `|| true` where it is meant to fail).
 - `sh build`: commands that build something, which aren't run here.
 - `text output`, or another word before `output`: what the `sh` block before it must print, on standard output and standard error.
-- `rust`: part of a file of crates/examples/src or crates/callers/src, line for line but for its indentation.
+- `rust`: part of a file of crates/examples/src or crates/callers/src, line for line, apart from its indentation.
 - `text`: part of what the program `examples` prints.
 - `python`: run by python3 where the Python package can be loaded (`python output` is compared like `text output`).
 - Any other word (`ebnf`, `c`, `toml`, `html`, `css`): shown, not checked.
@@ -49,7 +49,7 @@ def blocks(page):
 
 
 def is_part_of(block, text):
-    """Whether the block's lines stand in the text one after the other, but for their indentation."""
+    """Whether the text contains the block's lines one after the other, apart from their indentation."""
     lines = text.splitlines()
     wanted = textwrap.dedent("\n".join(block))
     pieces = (lines[at : at + len(block)] for at in range(len(lines) - len(block) + 1))

@@ -209,7 +209,7 @@ def wrong_bodies():
 
 def front_end(rt, root, name, source):
     """Whether the compiler takes the source as a program that uses that crate, over the libraries that the gate built, and
-    what it says. Nothing is proved: no function has the name that is asked for, so it ends once it has read them all."""
+    what it says. Nothing is proved: no function has the name that is passed, so the compiler ends once it has read them all."""
     caller = root / "crates" / "caller"
     (caller / "src").mkdir(parents=True, exist_ok=True)
     (caller / "src" / "main.rt").write_text(source, encoding="utf-8")
@@ -260,7 +260,7 @@ def main():
     if sys.argv[1:] not in ([], ["--rows"], ["--anew"]):
         print("usage: check [--rows | --anew]; the head of tests/tools/check.py says what it does", file=sys.stderr)
         return 2
-    # (the prover gives its memory back to the system again and again, unless it is told not to: 2 % of its time)
+    # (by default the prover returns its memory to the system again and again, which takes 2 % of its time)
     os.environ.setdefault("MIMALLOC_PURGE_DELAY", "-1")
     clock, rows_alone = Clock(), sys.argv[1:] == ["--rows"]
     counts, edits_left = (None, lambda: (0, 0)) if rows_alone else gate(clock)
