@@ -147,6 +147,7 @@ RULES = {
         ("1<form a=1>2</form>3<form b=2>4", "form"),
         ("<template><form a=1>1</form></template><form b=2>3", "form"),
         ("</form><form a=1>1", "form"),
+        f"{D}<template><form><button></form>1",
     ],
     "head pointer": [
         f"{D}<head></head><meta><style>1</style><body>2",
@@ -178,6 +179,8 @@ RULES = {
         f"{D}</br><frameset>",
         f"{D}<head></head><body a=1><frameset>",
         f"{D}<table><td><frameset>",
+        f"{D}1<template></template><frameset>",
+        f"{D}<body><template></template><frameset>",
     ],
     "frameset in the body": [
         f"{D}<p></p><frameset a=1><frame></frameset>1",
@@ -280,6 +283,7 @@ RULES = {
         f"{D}<head><html a=1>",
         f"{D}<table><html a=1>",
         f"{D}<select><html a=1>",
+        f"{D}<html a=1><html b=2><!--3--><head c=4>",
     ],
     "in head: noscript": [
         f"{D}<head><noscript><link><style>1</style></noscript><meta>",
@@ -299,6 +303,8 @@ RULES = {
         f"{D}<div><template><div></template>1</div>2",
         f"{D}<template><svg><g></template>1",
         f"{D}<template><svg></template>1",
+        f"{D}<template><select><option></template>1",
+        f"{D}<template><table><tr><td></template>1",
     ],
     "template: end of the page": [
         f"{D}<template>",
@@ -486,6 +492,9 @@ RULES = {
         f"{D}<i><b><p>1</b>2</i>3",
         f"{D}<em><a><i><p>1</a></p>2<p>3",
         f"{D}<b id=1><i id=2><b id=3><p>1</b>2</i>3</b>4",
+        f"{D}<b><i><p><u>1</b></p>2",
+        f"{D}<b><i><s><p><u><tt>1</b></p>2",
+        f"{D}<em><b><i><p><u>1</b></p>2</em>3",
     ],
     "adoption agency: foster parenting": [
         f"{D}<table><b><p>1</b>2",
@@ -744,6 +753,14 @@ RULES = {
         ("<p>1", "math annotation-xml"),
         ("<svg>1", "math annotation-xml"),
         ("<p>1<svg>2", "svg foreignObject"),
+    ],
+    # 13.2.5.33, a tag with many attributes
+    "attributes: many": [
+        f"{D}<p {' '.join(f'a{it}={it}' for it in range(count))} A3=x a{count - 1}=y a0=z b=1 B=2><p a0=3 b=4 a0=5>6"
+        for count in (4, 15, 16, 17, 18, 40)
+    ],
+    "attributes: many, and a second tag": [
+        f"{D}<p {' '.join(f'a{it}={it}' for it in range(40))}><b a39=1 a0=2 c=3 a39=4><i {' '.join(f'a{it}' for it in range(20))}>5"
     ],
     # 13.2.7 the end
     "the end": [

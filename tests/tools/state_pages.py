@@ -144,7 +144,7 @@ NUMBERS = (
     "99999999999 xFFFFFFFFF"
 )
 
-MARKS = [*"-!/<>&\"'=?`[]; ", "\t", "\n", "\f", "\r", "\r\n", "\0"]
+MARKS = [*"-!/<>&\"'=?`[]; ", "\t", "\n", "\f", "\r", "\r\n", "\r \n\t\f ", "\0"]
 # What else is put into most states, into those of character references, and into those that look for words.
 LETTERS = ["a", "Z", "0", "é", "--"]
 REFERENCE_LETTERS = ["a", "f", "g", "x", "X", "Z", "0", "9", "#", "é", ":", "@"]
