@@ -563,6 +563,15 @@ RULES = {
         f"{D}<table><svg>1<td>2",
         f"{D}<table></body></html></caption></col></colgroup></td></th></tr>1",
     ],
+    "in table: clear the stack back": [
+        *(f"{D}<table><b>1<{it}><!--2-->" for it in ("caption", "col", "colgroup", "tbody", "tfoot", "tr", "td")),
+        *(f"{D}<table><tbody><b>1<{it}><!--2-->" for it in ("tr", "th", "caption", "tfoot")),
+        *(f"{D}<table><tbody><b>1</{it}><!--2-->" for it in ("tbody", "table")),
+        *(f"{D}<table><tr><b>1<{it}><!--2-->" for it in ("td", "tr", "tbody", "col")),
+        *(f"{D}<table><tr><b>1</{it}><!--2-->" for it in ("tr", "tbody", "table")),
+        *(f"{D}<table><td><b>1</{it}><!--2-->" for it in ("td", "tr", "tbody", "table")),
+        *(f"{D}<table><caption><b>1</{it}><!--2-->" for it in ("caption", "table")),
+    ],
     "in caption": [
         f"{D}<table><caption>1<p>2</caption>3",
         f"{D}<table><caption>1</table>2",
