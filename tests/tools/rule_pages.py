@@ -275,6 +275,14 @@ RULES = {
         "<html><p><table>",
         " <p><table>",
         ("<p><table>", "div"),
+        "<!doctype html",
+        "<!doctype html ",
+        "<!doctype html public 'x'",
+        "<!doctype html system 'x",
+        "<!doctype",
+        "<!doctype html system 'x' y",
+        "</p>",
+        "",
     ],
     # 13.2.6.4.3 to 13.2.6.4.6, the head
     "html: attributes": [
