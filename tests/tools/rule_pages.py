@@ -212,6 +212,11 @@ RULES = {
         f"{D}<table><tfoot>1<tr>2</tfoot><td>3",
         f"{D}<table><thead> <b>1</b> </thead> <td>3",
     ],
+    "a null in a long text": [
+        f"{D}<{front}>{('a' * at) + chr(0) + 'b' * (40 - at)}"
+        for front in ("p", "select", "table", "svg", "title", "plaintext")
+        for at in (0, 1, 15, 16, 17, 31, 32, 39, 40)
+    ],
     "a text joins the one before": [
         f"{D}1<table>2</table>3",
         f"{D}<table>1<b></b>2",
@@ -292,6 +297,9 @@ RULES = {
         f"{D}<table><html a=1>",
         f"{D}<select><html a=1>",
         f"{D}<html a=1><html b=2><!--3--><head c=4>",
+        f"{D}<head><html a=1><!--1-->",
+        f"{D}<head></head><html a=1><!--1--><meta>",
+        f"{D}<head><noscript><html a=1><!--1-->",
     ],
     "in head: noscript": [
         f"{D}<head><noscript><link><style>1</style></noscript><meta>",
@@ -401,6 +409,8 @@ RULES = {
         f"{D}<a><table><a>1</table>2",
         f"{D}<a><table><td><a>1</td></table>2<a>3",
         f"{D}<a href=1><b><a href=2>3",
+        f"{D}<a>1<table><b>2<a>3",
+        f"{D}<a>1<table><b><i>2<a>3<td>4",
     ],
     "in body: nobr": [
         f"{D}<nobr>1<nobr>2",
@@ -571,6 +581,15 @@ RULES = {
         f"{D}<table><svg>1<td>2",
         f"{D}<table></body></html></caption></col></colgroup></td></th></tr>1",
     ],
+    "in table: text in an element before the table": [f"{D}<table><p><b></p><div> <i>1", f"{D}<table><tr><p><b></p><div> <i>1<td>2"],
+    "in table: scope of parts": [
+        *(f"{D}<table><{it}><object>1<caption>2" for it in ("tbody", "thead", "tfoot")),
+        *(f"{D}<table><{it}><object>1</{it}>2<td>3" for it in ("tbody", "thead", "tfoot")),
+        *(f"{D}<table><tr><object>1{it}2<td>3" for it in ("</tr>", "</tbody>", "</table>", "<tr>", "<tbody>")),
+        *(f"{D}<table><td><object>1{it}2<td>3" for it in ("</td>", "</tr>", "</tbody>", "</table>", "<td>", "<tr>", "<col>")),
+        *(f"{D}<table><caption><object>1{it}2<td>3" for it in ("</caption>", "</table>", "<td>", "<col>")),
+        *(f"{D}<table><object>1{it}2<td>3" for it in ("</table>", "<table>")),
+    ],
     "in table: clear the stack back": [
         *(f"{D}<table><b>1<{it}><!--2-->" for it in ("caption", "col", "colgroup", "tbody", "tfoot", "tr", "td")),
         *(f"{D}<table><tbody><b>1<{it}><!--2-->" for it in ("tr", "th", "caption", "tfoot")),
@@ -598,6 +617,7 @@ RULES = {
         ("1<col>2</colgroup>3<col>", "colgroup"),
         f"{D}<template><col></colgroup>1<col><p>",
         f"{D}<table><colgroup> 1 2\n3<col>",
+        f"{D}<table><colgroup><col></col><col>",
     ],
     "in table body": [
         f"{D}<table><tbody><tr>1</tbody>2<tr>3",
@@ -776,6 +796,7 @@ RULES = {
         f"{D}<p {' '.join(f'a{it}={it}' for it in range(count))} A3=x a{count - 1}=y a0=z b=1 B=2><p a0=3 b=4 a0=5>6"
         for count in (4, 15, 16, 17, 18, 40)
     ],
+    "attributes: without a name": [f'{D}<p ="a&amp;b" c=1>2', f'{D}<p ="a">', f'{D}<p a=1 ="b&c" d>', f"{D}<p ='a&amp;b' =>"],
     "attributes: many, and a second tag": [
         f"{D}<p {' '.join(f'a{it}={it}' for it in range(40))}><b a39=1 a0=2 c=3 a39=4><i {' '.join(f'a{it}' for it in range(20))}>5"
     ],
