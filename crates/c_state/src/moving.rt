@@ -56,9 +56,7 @@ impl State {
     }
 
     /// Puts the node's children in its place, and detaches it.
-    pub fn unwrap_node(&mut self, node: u32) -> Result<usize, Fault>
-        ensures { Keeps result self.old self.new }
-    {
+    pub fn unwrap_node(&mut self, node: u32) -> Result<usize, Fault> {
         let node = self.node(node)?;
         let first = self.document.tree.first_child_of(&node);
         if let Some(first) = first.map(|child| child.id) {

@@ -1,6 +1,6 @@
 //! What a handle holds, how it is made, and how answers leave it.
 
-ghost use Rattle.std.specs.Prelude.{◌≡◌, ◌<◌, ◌≤◌, IfOk, IfErr, length, string_bytes, take};
+ghost use Rattle.std.specs.Prelude.{◌≡◌, ◌<◌, IfErr, IfOk, length, string_bytes, take};
 ghost use Rattle.dom_markup.specs.Documents.{IsDocumentOf};
 ghost use Rattle.html5_trees.specs.Shape.{IsPage};
 ghost use Rattle.c_state.specs.declared.fault.Fault.TheVariants.{NoNode};
@@ -66,7 +66,6 @@ impl State {
         ensures ok { IfOk result (λ id. id ≡ number) }
         ensures known { IfOk result (λ _. number < length self.now.document.tree.content) }
         ensures err { IfErr result (λ fault. fault ≡ NoNode) }
-        ensures unknown { IfErr result (λ _. length self.now.document.tree.content ≤ number) }
     {
         match NodeId::new(number as usize) {
             Some(id) => {
