@@ -1,0 +1,190 @@
+"""The library for C and the package for Python, over the archive that the gate built.
+
+`c_and_python()` returns how many checks passed and how many failed:
+
+- The archive is built over the libraries that the gate left in crates/*/out, if it isn't there: the gate proves a static library, but
+  doesn't build it.
+- `./install-c` links the archive into a folder of its own, by gcc and, where it is there, by the kit's clang.
+- tests/checks/c_exports.c asks every function of include/dom_query.h: as C and as C++, under Valgrind or AddressSanitizer where there
+  is one, and with each request for memory refused in turn (tests/checks/refuse.c), after which no block may be left.
+- Each function of the header is one that the archive defines, and the other way around, and c_exports.c and the package name each.
+- examples/c/links.c is built with the pkg-config file and run.
+- The tests of the package (python/tests) are run, and those of its types, where mypy is there."""
+import os
+import pathlib
+import re
+import shutil
+import subprocess
+import sys
+import tempfile
+
+sys.path.insert(0, str(pathlib.Path(__file__).resolve().parents[1] / "tools"))
+from rows import ROOT  # noqa: E402
+
+HERE = pathlib.Path(__file__).resolve().parent
+ARCHIVE = ROOT / "crates" / "dom_query_c" / "out" / "libdom_query_c.a"
+SECONDS = 1200
+
+
+def run(words, **more):
+    """How a command ended, and what it printed."""
+    more.setdefault("env", os.environ)
+    ran = subprocess.run([str(word) for word in words], stdout=subprocess.PIPE, stderr=subprocess.STDOUT, timeout=SECONDS, **more)
+    return ran.returncode, ran.stdout.decode("utf-8", "replace")
+
+
+class Checks:
+    """What passed, and what failed."""
+
+    def __init__(self):
+        self.passed, self.failed = 0, 0
+
+    def check(self, name, is_right, printed=""):
+        if is_right:
+            self.passed += 1
+        else:
+            self.failed += 1
+            print(f"c_and_python: {name}: {printed[-1500:]}")
+        return is_right
+
+    def runs(self, name, words, **more):
+        status, printed = run(words, **more)
+        return self.check(name, status == 0, f"status {status}: {printed}")
+
+
+def install(checks, archive, folder, compiler):
+    env = {**os.environ, "DOM_QUERY_ARCHIVE": str(archive)}
+    if compiler:
+        env |= {"CC": compiler, "DOM_QUERY_PYTHON": "no"}
+    return checks.runs(f"install-c with {compiler or 'gcc'}", [ROOT / "install-c", folder], env=env)
+
+
+def names(checks, folder):
+    """The header, the archive, the test program and the package agree on the functions."""
+    header = set(re.findall(r"\b(dq_[a-z0-9_]+)\(", (ROOT / "include" / "dom_query.h").read_text()))
+    status, printed = run(["nm", "-D", "--defined-only", folder / "lib" / "libdom_query.so"])
+    built = set(re.findall(r" T (dq_[a-z0-9_]+)", printed))
+    checks.check("functions of the header", status == 0 and header == built, f"{sorted(header ^ built)}")
+    for path in (HERE / "c_exports.c", ROOT / "python" / "dom_query" / "_library.py"):
+        missing = {name for name in header if not re.search(rf"\b{name}\b", path.read_text())}
+        checks.check(f"functions in {path.name}", not missing, f"{sorted(missing)}")
+
+
+def build(checks, folder, name, words, source=HERE / "c_exports.c"):
+    program = folder / name
+    flags = ["-Wall", "-Wextra", "-I", folder / "include", "-o", program, source, "-L", folder / "lib", "-ldom_query"]
+    flags.append(f"-Wl,-rpath,{folder / 'lib'}")
+    return program if checks.runs(f"building {name}", [*words, *flags]) else None
+
+
+def programs(checks, folder):
+    """The test program, in each way."""
+    plain = build(checks, folder, "c_exports", ["gcc", "-std=c11", "-O1", "-g"])
+    if not plain:
+        return
+    checks.runs("c_exports", [plain])
+    if shutil.which("g++"):
+        as_cpp = build(checks, folder, "c_exports_cpp", ["g++", "-x", "c++", "-fpermissive", "-w", "-x", "c++"])
+        if as_cpp:
+            checks.runs("c_exports as C++", [as_cpp])
+    if shutil.which("valgrind"):
+        checks.runs("c_exports under Valgrind", ["valgrind", "-q", "--error-exitcode=9", "--leak-check=full", plain])
+    sanitized = build(checks, folder, "c_exports_asan", ["gcc", "-std=c11", "-g", "-fsanitize=address"])
+    if sanitized:
+        checks.runs("c_exports under AddressSanitizer", [sanitized])
+    refusals(checks, folder, plain)
+
+
+def refusals(checks, folder, program):
+    """Each request for memory is refused in turn; every block is given back."""
+    counter = folder / "refuse.so"
+    if not checks.runs("building refuse.c", ["gcc", "-shared", "-fPIC", "-O2", "-o", counter, HERE / "refuse.c"]):
+        return
+    at, wrong = 0, []
+    while at < 100_000:
+        at += 1
+        into, out = os.pipe()
+        env = {**os.environ, "LD_PRELOAD": str(counter), "REFUSE": str(at), "REFUSE_TO": str(out)}
+        ran = subprocess.run([program, "refusing"], env=env, pass_fds=[out], stdout=subprocess.PIPE, timeout=SECONDS)
+        os.close(out)
+        counts = os.read(into, 100).split()
+        os.close(into)
+        _, refused, left = (int(count) for count in counts)
+        # stdio keeps its buffer where the program printed
+        if ran.returncode != 0 or (left > 0 and not ran.stdout):
+            wrong.append(f"request {at}: status {ran.returncode}, {left} blocks left, {ran.stdout.decode()}")
+        if refused == 0:
+            break
+    checks.check("each request for memory refused", not wrong and at > 100, "; ".join(wrong[:5]) or f"{at} requests alone")
+
+
+def links(checks, folder):
+    """The example, by pkg-config."""
+    source, page = ROOT / "examples" / "c" / "links.c", b'<p><a href="/tea">Tea <b>hot</b></a><a>no</a><a href="/milk">Milk</a>'
+    if not shutil.which("pkg-config"):
+        program = build(checks, folder, "links", ["gcc", "-std=c11"], source)
+    else:
+        env = {**os.environ, "PKG_CONFIG_PATH": str(folder / "lib" / "pkgconfig")}
+        _, flags = run(["pkg-config", "--cflags", "--libs", "dom_query"], env=env)
+        program = folder / "links"
+        command = ["gcc", "-std=c11", "-o", program, source, *flags.split(), f"-Wl,-rpath,{folder / 'lib'}"]
+        if not checks.runs("building links.c by pkg-config", command):
+            return
+    if program:
+        ran = subprocess.run([program], input=page, stdout=subprocess.PIPE, timeout=SECONDS)
+        checks.check("links.c", ran.stdout == b"Tea hot: /tea\nMilk: /milk\n" and ran.returncode == 0, ran.stdout.decode())
+
+
+def package(checks, folder):
+    """The tests of the Python package, and its types."""
+    env = {**os.environ, "PYTHONPATH": str(ROOT / "python"), "DOM_QUERY_LIBRARY": str(folder / "lib" / "libdom_query.so")}
+    words = [sys.executable, "-W", "error::ResourceWarning", "-m", "unittest", "discover", "-s", ROOT / "python" / "tests", "-t", ROOT / "python"]
+    status, printed = run(words, env=env)
+    count = re.search(r"Ran (\d+) tests?", printed)
+    checks.check("tests of the package", status == 0 and count and int(count[1]) >= 30, printed)
+    checks.passed += int(count[1]) - 1 if status == 0 and count else 0
+    if shutil.which("mypy"):
+        checks.runs("types of the package", ["mypy", "--strict", ROOT / "python" / "dom_query"])
+
+
+def build_archive(archive):
+    """Builds the static library over the libraries that the gate left, which takes its own proofs' time once more."""
+    kit, crates = pathlib.Path(run(["rt", "doc"])[1].strip()).parent, ROOT / "crates"
+    below = re.search(r"(?m)^dom_query_c staticlib:(.*)$", (ROOT / "crates.txt").read_text())[1].split()
+    made = {rlib.stem: rlib for rlib in crates.glob("*/out/rlib/*.rlib")}
+    found = {name: made.get(name, kit / "rlibs" / f"{name}.rlib") for name in ["std", *below]}
+    words = [kit / "bin" / "rattle", "build", "--crate-name", "dom_query_c", "src/lib.rt", "--crate-type", "staticlib"]
+    words += [word for name, rlib in found.items() for word in ("--extern", f"{name}={rlib}")]
+    words += ["-L", f"dependency={kit / 'rlibs'}"]
+    words += [word for rlib in made.values() for word in ("-L", f"dependency={rlib.parent}")]
+    words += ["--antt-project", kit / "rattle" / "logic" / "antt-project.json", "--logic-built", kit / "logic_built"]
+    words += ["--links", "dom_query_c=", "--toolchain", kit / "toolchain", "-o", archive]
+    archive.parent.mkdir(exist_ok=True)
+    return run(words, cwd=crates / "dom_query_c")
+
+
+def c_and_python(archive=ARCHIVE):
+    checks = Checks()
+    if not archive.exists():
+        status, printed = build_archive(archive)
+        checks.check("building the archive", status == 0, printed)
+    if not checks.check("the archive", archive.exists(), f"there is no {archive}"):
+        return checks.passed, checks.failed
+    with tempfile.TemporaryDirectory() as made:
+        folder = pathlib.Path(made)
+        if install(checks, archive, folder, None):
+            names(checks, folder)
+            programs(checks, folder)
+            links(checks, folder)
+            package(checks, folder)
+        kit = pathlib.Path(run(["rt", "doc"])[1].strip()).parent
+        clang = kit / "toolchain" / "bin" / "clang"
+        if clang.exists():
+            install(checks, archive, folder / "by_clang", f"{clang} -fuse-ld=lld")
+    return checks.passed, checks.failed
+
+
+if __name__ == "__main__":
+    PASSED, FAILED = c_and_python(*(pathlib.Path(word).resolve() for word in sys.argv[1:2]))
+    print(f"c_and_python: {PASSED} passed, {FAILED} failed")
+    sys.exit(FAILED != 0)
