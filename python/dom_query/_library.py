@@ -123,8 +123,17 @@ def message(code: int) -> str:
     return ctypes.string_at(scratch.text_at, min(count, ROOM)).decode() or f"fault {code}"
 
 
-def fault(code: int, handle: Handle) -> Exception:
-    """The exception for a fault of a call on that handle."""
+def position(handle: Handle, selectors: bytes) -> int:
+    """How many characters of a text are selectors by themselves, as far as 256 bytes show."""
+    for at in range(min(len(selectors), 256) - 1, 0, -1):
+        code = lib.dq_matches(handle, 0, selectors[:at], at)
+        if code != NOT_UTF8 and not -29 <= code <= -20:
+            return len(selectors[:at].decode())
+    return 0
+
+
+def fault(code: int, handle: Handle, arguments: tuple[Any, ...] = ()) -> Exception:
+    """The exception for a fault of a call on that handle with these arguments."""
     text = message(code)
     if code == MEMORY:
         return MemoryError(text)
@@ -137,7 +146,8 @@ def fault(code: int, handle: Handle) -> Exception:
     if -19 <= code <= -10:
         return EditError(text, code)
     if -29 <= code <= -20:
-        return SelectorError(text, code)
+        selectors = next((it for it in arguments if isinstance(it, bytes)), b"")
+        return SelectorError(text, code, selectors.decode(), position(handle, selectors))
     if -39 <= code <= -30:
         return MarkupError(text, code, lib.dq_fault_byte(handle))
     return DomError(text, code)

@@ -13,6 +13,7 @@ from typing import Any
 from ._library import NOTHING, NO_PIECE, ROOM, Handle, fault, lib, scratch, unlocked
 from .node import Node, foreign_name
 
+LIMIT = 2**32
 _string_at = ctypes.string_at
 _SURROGATES = re.compile("[\ud800-\udfff]")
 
@@ -75,6 +76,9 @@ class Document:
     def __repr__(self) -> str:
         return "<Document, closed>" if self.closed else "<Document>"
 
+    def __str__(self) -> str:
+        return self.html
+
     def __copy__(self) -> Document:
         raise TypeError("a document can't be copied; read its html again")
 
@@ -89,14 +93,14 @@ class Document:
 
     # ---- calls of the library
 
-    def _checked(self, code: int) -> int:
+    def _checked(self, code: int, arguments: tuple[Any, ...] = ()) -> int:
         if code < 0:
-            raise fault(code, self._handle)
+            raise fault(code, self._handle, arguments)
         return code
 
     def _call(self, call: Any, *arguments: Any) -> int:
         with self._lock:
-            return self._checked(call(self._handle, *arguments))
+            return self._checked(call(self._handle, *arguments), arguments)
 
     def _text(self, call: Any, *arguments: Any) -> str | None:
         """A text that the call takes; None where there is none."""
@@ -117,11 +121,11 @@ class Document:
         """A node that the call finds; None where there is none."""
         with self._lock:
             code = call(self._handle, *arguments)
-            return None if code == NOTHING else Node(self, self._checked(code))
+            return None if code == NOTHING else Node(self, self._checked(code, arguments))
 
     def _numbers(self, call: Any, again: Any, *arguments: Any) -> list[int]:
         with self._lock:
-            count = self._checked(call(self._handle, *arguments, scratch.numbers_at, ROOM))
+            count = self._checked(call(self._handle, *arguments, scratch.numbers_at, ROOM), arguments)
             if count <= ROOM:
                 return scratch.numbers[:count]
             numbers = (ctypes.c_uint32 * count)()
@@ -134,12 +138,17 @@ class Document:
     def _pieces(self, call: Any, *arguments: Any) -> list[str | None]:
         """The texts that the call takes; None for those that aren't there."""
         with self._lock:
-            self._checked(call(self._handle, *arguments))
+            self._checked(call(self._handle, *arguments), arguments)
             lengths = self._numbers(lib.dq_lengths, lib.dq_lengths)
-            count = self._checked(lib.dq_taken(self._handle, scratch.text_at, 0))
-            text = ctypes.create_string_buffer(count or 1)
-            self._checked(lib.dq_taken(self._handle, ctypes.addressof(text), count))
-        whole, at, pieces = text.raw[:count], 0, []
+            count = self._checked(lib.dq_taken(self._handle, scratch.text_at, ROOM))
+            if count <= ROOM:
+                whole = _string_at(scratch.text_at, count)
+            else:
+                text = ctypes.create_string_buffer(count)
+                self._checked(lib.dq_taken(self._handle, ctypes.addressof(text), count))
+                whole = _string_at(text, count)
+        at = 0
+        pieces: list[str | None] = []
         for length in lengths:
             if length == NO_PIECE:
                 pieces.append(None)
@@ -236,7 +245,7 @@ class Document:
 
         An element that isn't kept is replaced by its children, or dropped with all that is below it if its name is in
         `drop`. Comments and doctypes are dropped. The values of the kept attributes stay as they are: to keep `href` or
-        `src` also means to keep `javascript:` there.
+        `src` also means to keep `javascript:` there, unless such nodes are changed afterwards.
         """
         words = [_words(names) for names in (elements, attrs, drop)]
         self._call(lib.dq_sanitize, *(part for word in words for part in (word, len(word))))
@@ -260,7 +269,7 @@ def parse(html: str | bytes | bytearray | memoryview, max_depth: int = 512) -> D
     """
     if max_depth < 0:
         raise ValueError("max_depth is 0 or more")
-    return _read(unlocked.dq_parse_page, _bytes(html), max_depth)
+    return _read(unlocked.dq_parse_page, _bytes(html), min(max_depth, LIMIT))
 
 
 def parse_bytes(html: bytes | bytearray | memoryview, encoding: str = "utf-8", max_depth: int = 512) -> Document:

@@ -19,7 +19,13 @@ class ClosedError(DomError):
 
 
 class SelectorError(DomError, ValueError):
-    """The text is not a selector."""
+    """The text is not a selector. `selectors` is the text, and `position` how many of its first characters are one by
+    themselves: 7 for `ul > li[`."""
+
+    def __init__(self, message: str, code: int, selectors: str, position: int) -> None:
+        super().__init__(f"{message}: {selectors!r}, behind character {position}", code)
+        self.selectors = selectors
+        self.position = position
 
 
 class MarkupError(DomError, ValueError):

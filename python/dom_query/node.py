@@ -2,7 +2,7 @@
 
 from __future__ import annotations
 
-from collections.abc import Iterator, MutableMapping
+from collections.abc import ItemsView, Iterator, MutableMapping, ValuesView
 from typing import TYPE_CHECKING, Any
 
 from ._library import lib
@@ -39,9 +39,24 @@ ELSEWHERE = {
     "stripped_strings": "formatted_text.split('\\n')",
     "prettify": "html, or formatted_text",
     "tostring": "html",
+    "textContent": "text",
+    "inner_text": "formatted_text",
+    "tail": "next.text",
+    "innerHTML": "inner_html",
+    "outerHTML": "html",
+    "decode": "html",
     "decode_contents": "inner_html",
+    "clear": "text = ''",
     "decompose": "remove()",
     "extract": "remove()",
+    "detach": "remove()",
+    "wrap": "before(other), and then other.append(node)",
+    "replaceWith": "replace_with(content)",
+    "querySelector": "select_one(selectors)",
+    "querySelectorAll": "select(selectors)",
+    "getAttribute": "get(name)",
+    "set": "node[name] = value",
+    "closest": "the first of ancestors that matches(selectors)",
     "drop_tree": "remove()",
     "drop_tag": "unwrap()",
     "tag": "name",
@@ -57,6 +72,7 @@ ELSEWHERE = {
     "getprevious": "previous_element",
     "find_next_sibling": "next_element",
     "find_previous_sibling": "previous_element",
+    "next_siblings": "next, and so on",
     "attributes": "attrs",
     "attrib": "attrs",
     "has_attr": "the operator in: 'href' in node",
@@ -64,15 +80,18 @@ ELSEWHERE = {
     "insert_after": "after(content)",
     "new_tag": "new_element(name)",
     "new_string": "new_text(text)",
-    "body": "select_one('body')",
-    "head": "select_one('head')",
-    "title": "select_one('title')",
 }
+
+# Elements that BeautifulSoup finds by an attribute of their name.
+TAGS = set(
+    "a article body button code div footer form h1 h2 h3 h4 head header img input label li main nav ol option p pre section "
+    "span table tbody td th title tr ul".split()
+)
 
 
 def foreign_name(owner: str, name: str) -> AttributeError:
     """The error for a name that isn't there, which says what to write if another library has it."""
-    hint = ELSEWHERE.get(name)
+    hint = f"select_one({name!r})" if name in TAGS else ELSEWHERE.get(name)
     return AttributeError(f"{owner} has no {name!r}" + (f"; write {hint}" if hint else ""))
 
 
@@ -91,7 +110,8 @@ class Attributes(MutableMapping[str, str]):
         self._node = node
 
     def _all(self) -> dict[str, str]:
-        node, found = self._node, {}
+        node = self._node
+        found: dict[str, str] = {}
         pieces = [piece or "" for piece in node.document._pieces(lib.dq_attrs, node.number)]
         for name, value in zip(pieces[::2], pieces[1::2], strict=True):
             found.setdefault(name, value)
@@ -115,10 +135,10 @@ class Attributes(MutableMapping[str, str]):
     def __contains__(self, name: object) -> bool:
         return isinstance(name, str) and name in self._node
 
-    def items(self) -> Any:
+    def items(self) -> ItemsView[str, str]:
         return self._all().items()
 
-    def values(self) -> Any:
+    def values(self) -> ValuesView[str]:
         return self._all().values()
 
     def __repr__(self) -> str:
@@ -143,6 +163,9 @@ class Node:
             return f"<Node {self.number} of a closed document>"
         name = self.name
         return f"<Node {self.number} <{name}>>" if name else f"<Node {self.number} {self.kind}>"
+
+    def __str__(self) -> str:
+        return self.html
 
     def __eq__(self, other: object) -> bool:
         return isinstance(other, Node) and self.number == other.number and self.document is other.document
@@ -359,32 +382,51 @@ class Node:
         self.document._call(lib.dq_put_html, self.number, place, text, len(text))
 
     def _put(self, place: int, content: str | Node) -> None:
-        if isinstance(content, Node):
-            if content.document is not self.document:
-                raise ValueError("the node is one of another document; give its html")
-            self.document._call(lib.dq_move, content.number, place, self.number)
-        else:
-            self._put_html(place, content)
+        with self.document._lock:
+            node = content if isinstance(content, Node) else self.document.new_text(content)
+            if node.document is not self.document:
+                raise ValueError("the node is one of another document; give its html to append_html or the like")
+            self.document._call(lib.dq_move, node.number, place, self.number)
 
     def append(self, content: str | Node) -> None:
-        """Puts explicit markup, or a node of the same document, behind the children."""
+        """Puts a text, or a node of the same document, behind the children. A text is put as it is, and is not markup."""
         self._put(AT_END, content)
 
     def prepend(self, content: str | Node) -> None:
-        """Puts explicit markup, or a node of the same document, in front of the children."""
+        """Puts a text, or a node of the same document, in front of the children."""
         self._put(AT_FRONT, content)
 
     def before(self, content: str | Node) -> None:
-        """Puts explicit markup, or a node of the same document, right before the node."""
+        """Puts a text, or a node of the same document, right before the node."""
         self._put(BEFORE, content)
 
     def after(self, content: str | Node) -> None:
-        """Puts explicit markup, or a node of the same document, right after the node."""
+        """Puts a text, or a node of the same document, right after the node."""
         self._put(AFTER, content)
 
     def replace_with(self, content: str | Node) -> None:
-        """Puts explicit markup, or a node of the same document, in the place of the node."""
+        """Puts a text, or a node of the same document, in the place of the node."""
         self._put(INSTEAD, content)
+
+    def append_html(self, html: str) -> None:
+        """Puts explicit markup behind the children. Raises `MarkupError` where the text is not explicit markup."""
+        self._put_html(AT_END, html)
+
+    def prepend_html(self, html: str) -> None:
+        """Puts explicit markup in front of the children."""
+        self._put_html(AT_FRONT, html)
+
+    def before_html(self, html: str) -> None:
+        """Puts explicit markup right before the node."""
+        self._put_html(BEFORE, html)
+
+    def after_html(self, html: str) -> None:
+        """Puts explicit markup right after the node."""
+        self._put_html(AFTER, html)
+
+    def replace_with_html(self, html: str) -> None:
+        """Puts explicit markup in the place of the node."""
+        self._put_html(INSTEAD, html)
 
     def remove(self) -> None:
         """Takes the node out of the tree, with what is below it."""

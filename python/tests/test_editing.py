@@ -44,12 +44,22 @@ class Editing(unittest.TestCase):
 
     def test_markup_at_each_place(self):
         self.second.inner_html = "<i>1</i>"
-        self.second.append("<i>2</i>")
-        self.second.prepend("0")
-        self.second.before("<hr>")
-        self.second.after("<br>")
-        self.first.replace_with("<u>u</u>v")
+        self.second.append_html("<i>2</i>")
+        self.second.prepend_html("0")
+        self.second.before_html("<hr>")
+        self.second.after_html("<br>")
+        self.first.replace_with_html("<u>u</u>v")
         self.assertEqual(self.html(), "<div><u>u</u>v<hr><p>0<i>1</i><i>2</i></p><br></div>")
+
+    def test_texts_at_each_place(self):
+        self.second.append("<2>")
+        self.second.prepend("0")
+        self.second.before("&amp;")
+        self.second.after("")
+        self.first.replace_with("<script>")
+        self.assertEqual(self.html(), "<div>&lt;script&gt;&amp;amp;<p>0c&lt;2&gt;</p></div>")
+        self.assertEqual(str(self.second), "<p>0c&lt;2&gt;</p>")
+        self.assertEqual(str(self.document), self.html())
 
     def test_nodes_at_each_place(self):
         b = self.first.select_one("b")
@@ -118,6 +128,7 @@ class Editing(unittest.TestCase):
             lambda: self.first.append(self.div),
             lambda: self.first.append(self.first),
             lambda: text.append("x"),
+            lambda: text.append_html("x"),
             lambda: self.document.root.remove() or self.document.root.before("x"),
             lambda: self.div.append(self.document.root),
         ):
@@ -125,7 +136,7 @@ class Editing(unittest.TestCase):
                 edit()
             self.assertEqual(self.html(), before)
         with self.assertRaises(MarkupError) as caught:
-            self.first.append("<i>1<i>")
+            self.first.append_html("<i>1<i>")
         self.assertEqual(caught.exception.byte, 7)
         self.assertEqual(self.html(), before)
 

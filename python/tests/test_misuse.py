@@ -10,6 +10,8 @@ import dom_query
 from dom_query import ClosedError, NodeError
 from dom_query import _library as library
 
+DEEP = 1_000_000
+
 
 class Misuse(unittest.TestCase):
     def test_closed(self):
@@ -113,6 +115,8 @@ class Misuse(unittest.TestCase):
             node.find_all("p")
         with self.assertRaisesRegex(AttributeError, "write text"):
             node.document.get_text()
+        with self.assertRaisesRegex(AttributeError, r"write select_one\('h1'\)"):
+            node.document.h1
         with self.assertRaisesRegex(AttributeError, "Node has no 'frobnicate'$"):
             node.frobnicate
         self.assertFalse(hasattr(node, "xpath"))
@@ -153,8 +157,13 @@ class Misuse(unittest.TestCase):
         done: list[int] = []
 
         def work():
-            document = dom_query.parse("<div>" * 200_000, max_depth=0)
-            done.append(len(document.html) + len(document.text) + len(document.select("div div")))
+            document = dom_query.parse("<div>" * DEEP, max_depth=0)
+            done.append(len(document.html))
+            done.append(len(document.select("div div")))
+            done.append(len(document.text + document.markdown + document.formatted_text))
+            document.sanitize(["div"])
+            document.normalize()
+            done.append(len(document.html))
             document.close()
 
         old = threading.stack_size(256 * 1024)
@@ -164,7 +173,7 @@ class Misuse(unittest.TestCase):
             thread.join()
         finally:
             threading.stack_size(old)
-        self.assertEqual(done, [11 * 200_000 + 39 + 199_999])
+        self.assertEqual(done, [11 * DEEP + len("<html><head></head><body></body></html>"), DEEP - 1, 0, 11 * DEEP])
 
     def test_memory_is_given_back(self):
         def used():
@@ -173,7 +182,7 @@ class Misuse(unittest.TestCase):
         for _ in range(2000):
             dom_query.parse("<p>a<b>c").select("b")
         before = used()
-        for _ in range(20_000):
+        for _ in range(100_000):
             dom_query.parse("<p>a<b>c").select("b")
         self.assertLess(used() - before, 4096)
 

@@ -66,8 +66,11 @@ class Reading(unittest.TestCase):
         for wrong in ("", "p:", "p[", ":nope", "p:nth-child(99999999999)", ":has(:has(b))"):
             with self.assertRaises(SelectorError, msg=wrong):
                 self.document.select(wrong)
-        with self.assertRaises(SelectorError):
-            self.document.select("é(")
+        for wrong, at in (("é(", 1), ("ul > li[", 7), ("[", 0), ("é, é:nope", 4)):
+            with self.assertRaises(SelectorError) as caught:
+                self.document.select_texts(wrong)
+            self.assertEqual((caught.exception.selectors, caught.exception.position), (wrong, at))
+        self.assertEqual(str(caught.exception), "unknown pseudo-class, or a pseudo-class in the wrong form: 'é, é:nope', behind character 4")
 
     def test_select_many(self):
         self.assertEqual(self.document.select_texts("p"), ["One twothree", "Four"])

@@ -1,21 +1,24 @@
-"""The rows of `dq`, asked again through Python: each script is run by calls of the package, and what it prints is compared."""
+"""The rows of `dq`, asked again through Python: each script is run by calls of the package, and what it prints is compared.
+
+A line `formatted` has no call of the package: it formats the nodes themselves, and `formatted_text` what is below them."""
 
 import json
 import pathlib
+import sys
 import unittest
 
 import dom_query
 from dom_query import MarkupError
 
-ROWS = pathlib.Path(__file__).resolve().parents[2] / "tests" / "rows" / "dq"
+TESTS = pathlib.Path(__file__).resolve().parents[2] / "tests"
+sys.path.insert(0, str(TESTS / "tools"))
+from rows import given  # noqa: E402
+
+ROWS = TESTS / "rows" / "dq"
 
 
 class Unknown(Exception):
     """A line that the package has no call for."""
-
-
-def written(value):
-    return value if isinstance(value, str) else "".join(text * times for text, times in value)
 
 
 def first_of_each(nodes):
@@ -40,7 +43,6 @@ SELECTING = {
 PRINTING = {
     "count": lambda document, nodes, word: str(len(nodes)),
     "text": lambda document, nodes, word: "".join(node.text for node in nodes),
-    "formatted": lambda document, nodes, word: "".join(node.formatted_text for node in nodes) if len(nodes) < 2 else unknown(),
     "html": lambda document, nodes, word: nodes[0].html if nodes else "",
     "inner-html": lambda document, nodes, word: nodes[0].inner_html if nodes else "",
     "attr": lambda document, nodes, word: nodes[0].get(word, "") if nodes else "",
@@ -50,16 +52,12 @@ EDITING = {
     "remove-attr": lambda node, word: node.attrs.pop(word, None),
     "set-text": lambda node, word: node.set_text(word),
     "set-html": lambda node, word: setattr(node, "inner_html", word),
-    "append-html": lambda node, word: node.append(word),
-    "prepend-html": lambda node, word: node.prepend(word),
-    "before-html": lambda node, word: node.before(word),
-    "after-html": lambda node, word: node.after(word),
+    "append-html": lambda node, word: node.append_html(word),
+    "prepend-html": lambda node, word: node.prepend_html(word),
+    "before-html": lambda node, word: node.before_html(word),
+    "after-html": lambda node, word: node.after_html(word),
     "remove": lambda node, word: node.remove(),
 }
-
-
-def unknown():
-    raise Unknown
 
 
 def run(markup, script):
@@ -91,16 +89,19 @@ class Rows(unittest.TestCase):
                     skipped += 1
                     continue
                 with self.subTest(row=f"{path.name}:{number}"):
-                    markup = written(case["markup"])
+                    markup, output = given(case, "markup"), given(case, "output").decode()
                     if refused:
                         with self.assertRaises(MarkupError):
                             dom_query.parse_strict(markup)
                     elif case.get("args") == ["--md"]:
-                        self.assertEqual(dom_query.parse_strict(markup).markdown + "\n", written(case["output"]))
+                        self.assertEqual(dom_query.parse_strict(markup).markdown + "\n", output)
+                    elif "script" not in case:
+                        skipped += 1
+                        continue
                     else:
                         try:
-                            self.assertEqual(run(markup, written(case.get("script", unknown))), written(case["output"]))
-                        except (Unknown, TypeError):
+                            self.assertEqual(run(markup, given(case, "script").decode()), output)
+                        except Unknown:
                             skipped += 1
                             continue
                 asked += 1

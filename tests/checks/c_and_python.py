@@ -9,7 +9,7 @@
   is one, and with each request for memory refused in turn (tests/checks/refuse.c), after which no block may be left.
 - Each function of the header is one that the archive defines, and the other way around, and c_exports.c and the package name each.
 - examples/c/links.c is built with the pkg-config file and run.
-- The tests of the package (python/tests) are run, and those of its types, where mypy is there."""
+- The tests of the package (python/tests) are run, and those of its types, where mypy is there. A wheel is made and installed."""
 import os
 import pathlib
 import re
@@ -143,8 +143,22 @@ def package(checks, folder):
     count = re.search(r"Ran (\d+) tests?", printed)
     checks.check("tests of the package", status == 0 and count and int(count[1]) >= 30, printed)
     checks.passed += int(count[1]) - 1 if status == 0 and count else 0
+    wheel(checks, folder)
     if shutil.which("mypy"):
         checks.runs("types of the package", ["mypy", "--strict", ROOT / "python" / "dom_query"])
+
+
+def wheel(checks, folder):
+    """A wheel is made and installed without a network, and works."""
+    pip = [sys.executable, "-m", "pip", "--disable-pip-version-check"]
+    if run([*pip, "--version"])[0] != 0:
+        return
+    env = {**os.environ, "PIP_NO_INDEX": "1"}
+    if checks.runs("pip wheel ./python", [*pip, "wheel", "-w", folder / "wheels", ROOT / "python"], env=env):
+        made = sorted((folder / "wheels").glob("dom_query-*.whl"))
+        checks.runs("installing the wheel", [*pip, "install", "--target", folder / "installed", *made], env=env)
+        script = "import dom_query; assert 'installed' in dom_query.__file__; assert dom_query.parse('<p>a').text == 'a'"
+        checks.runs("the installed package", [sys.executable, "-c", script], env={"PYTHONPATH": str(folder / "installed")}, cwd=folder)
 
 
 def build_archive(archive):

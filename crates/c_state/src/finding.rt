@@ -45,8 +45,15 @@ impl State {
         let node = self.node(node)?;
         let selectors = as_text(selectors)?;
         let matcher = Matcher::new(self.document.tree.allocator(), selectors)?;
-        let is_match = matcher.match_element(&self.document.tree.get_unchecked(&node));
-        Ok(is_match as usize)
+        let node = self.document.tree.get_unchecked(&node);
+        if !node.is_element() {
+            return Ok(0);
+        }
+        if matcher.match_element(&node) {
+            Ok(1)
+        } else {
+            Ok(0)
+        }
     }
 
     /// The node beside the node: its number. Refused as `Nothing` where there is none, and as

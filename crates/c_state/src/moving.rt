@@ -1,5 +1,8 @@
 //! Nodes that are made, moved and removed. After a fault the document is as it was.
 
+ghost use Rattle.std.specs.Prelude.{◌≡◌};
+ghost use Rattle.dom_links.specs.Lists.{first};
+ghost use Rattle.dom_links.specs.Forest.{children_of};
 ghost use Rattle.dom_trees.specs.Edits.{removing};
 ghost use Rattle.c_state.specs.Answers.{EditsTree, Keeps};
 
@@ -58,11 +61,19 @@ impl State {
     /// Puts the node's children in its place, and detaches it.
     pub fn unwrap_node(&mut self, node: u32) -> Result<usize, Fault> {
         let node = self.node(node)?;
-        let first = self.document.tree.first_child_of(&node);
-        if let Some(first) = first.map(|child| child.id) {
+        if let Some(first) = self.first_child_id(&node) {
             self.document.tree.insert_siblings_before(&node, &first)?;
         }
         self.document.tree.remove_from_parent(&node)?;
         Ok(0)
+    }
+
+    fn first_child_id(&self, node: &NodeId) -> Option<NodeId>
+        ensures { result ≡ first (children_of self.now.document.tree node.now) }
+    {
+        match self.document.tree.first_child_of(node) {
+            Some(child) => Some(child.id),
+            None => None,
+        }
     }
 }

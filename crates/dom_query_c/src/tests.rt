@@ -22,7 +22,7 @@ fn documents_are_read_and_freed(rt: HostRuntime) {
     assert_eq!(&rt; dq_fault(&handle), -2);
     assert_eq!(&rt; dq_parse_page(alloc, &mut handle, b"<p>Tea", 0), 0);
     assert_eq!(&rt; dq_text(alloc, &mut handle, 0, &mut room), 3);
-    assert!(&rt; room[..3] == *b"Tea");
+    assert!(&rt; room.starts_with(b"Tea"));
     assert_eq!(&rt; dq_parse(alloc, &mut handle, b"<p>Tea"), -31);
     assert_eq!(&rt; dq_fault_byte(&handle), 6);
     assert_eq!(&rt; dq_text(alloc, &mut handle, 0, &mut room), 3);
@@ -62,7 +62,7 @@ fn texts_are_taken(rt: HostRuntime) {
     let mut handle = small(alloc);
     let mut room = [0; 40];
     assert_eq!(&rt; dq_html(alloc, &mut handle, 4, &mut room), 10);
-    assert!(&rt; room[..10] == *b"<b>hot</b>");
+    assert!(&rt; room.starts_with(b"<b>hot</b>"));
     assert_eq!(&rt; dq_inner_html(alloc, &mut handle, 4, &mut room), 3);
     assert_eq!(&rt; dq_md(alloc, &mut handle, 2, &mut room), 11);
     assert_eq!(&rt; dq_formatted_text(alloc, &mut handle, 2, &mut room), 7);
@@ -71,7 +71,7 @@ fn texts_are_taken(rt: HostRuntime) {
     assert_eq!(&rt; dq_attr(alloc, &mut handle, 2, b"id", &mut room), -1);
     assert_eq!(&rt; dq_attrs(alloc, &mut handle, 2), 2);
     assert_eq!(&rt; dq_taken(alloc, &mut handle, &mut room), 8);
-    assert!(&rt; room[..8] == *b"classx y");
+    assert!(&rt; room.starts_with(b"classx y"));
     assert_eq!(&rt; dq_classes(alloc, &mut handle, 2), 2);
     assert_eq!(&rt; dq_select_texts(alloc, &mut handle, 0, b"p"), 2);
     assert_eq!(&rt; dq_select_html(alloc, &mut handle, 0, b"b"), 1);
@@ -98,7 +98,7 @@ fn documents_are_edited(rt: HostRuntime) {
     assert_eq!(&rt; dq_move(alloc, &mut handle, made, 1, 2), 0);
     assert_eq!(&rt; dq_normalize(alloc, &mut handle, 0), 0);
     assert_eq!(&rt; dq_html(alloc, &mut handle, 1, &mut room), 52);
-    assert!(&rt; room[..52] == *b"<div><p>Tea <i id=\"k\">cold</i><u>!</u></p><hr></div>");
+    assert!(&rt; room.starts_with(b"<div><p>Tea <i id=\"k\">cold</i><u>!</u></p><hr></div>"));
     assert_eq!(&rt; dq_unwrap(alloc, &mut handle, made), 0);
     assert_eq!(&rt; dq_remove(alloc, &mut handle, 4), 0);
     assert_eq!(&rt; dq_sanitize(alloc, &mut handle, b"div p", b"", b"hr"), 0);
