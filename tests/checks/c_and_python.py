@@ -8,7 +8,7 @@
 - tests/checks/c_exports.c asks every function of include/dom_query.h: as C and as C++, under Valgrind or AddressSanitizer where there
   is one, and with each request for memory refused in turn (tests/checks/refuse.c), after which no block may be left.
 - Each function of the header is one that the archive defines, and the other way around, and c_exports.c and the package name each.
-- examples/c/links.c is built with the pkg-config file and run.
+- The programs of examples/c are built with the pkg-config file and run, and so is each program that docs/C.md shows.
 - The tests of the package (python/tests) are run, and those of its types, where mypy is there. A wheel is made and installed."""
 import os
 import pathlib
@@ -19,6 +19,7 @@ import sys
 import tempfile
 
 sys.path.insert(0, str(pathlib.Path(__file__).resolve().parents[1] / "tools"))
+import documents  # noqa: E402
 from rows import ROOT  # noqa: E402
 
 HERE = pathlib.Path(__file__).resolve().parent
@@ -118,21 +119,43 @@ def refusals(checks, folder, program):
     checks.check("each request for memory refused", not wrong and at > 100, "; ".join(wrong[:5]) or f"{at} requests alone")
 
 
-def links(checks, folder):
-    """The example, by pkg-config."""
-    source, page = ROOT / "examples" / "c" / "links.c", b'<p><a href="/tea">Tea <b>hot</b></a><a>no</a><a href="/milk">Milk</a>'
-    if not shutil.which("pkg-config"):
-        program = build(checks, folder, "links", ["gcc", "-std=c11"], source)
-    else:
-        env = {**os.environ, "PKG_CONFIG_PATH": str(folder / "lib" / "pkgconfig")}
-        _, flags = run(["pkg-config", "--cflags", "--libs", "dom_query"], env=env)
-        program = folder / "links"
-        command = ["gcc", "-std=c11", "-o", program, source, *flags.split(), f"-Wl,-rpath,{folder / 'lib'}"]
-        if not checks.runs("building links.c by pkg-config", command):
-            return
-    if program:
+EXAMPLES = {
+    "links": (b'<p><a href="/tea">Tea <b>hot</b></a><a>no</a><a href="/milk">Milk</a>', b"Tea hot: /tea\nMilk: /milk\n"),
+    "clean": (
+        b"<p onclick=x()>Tea <a href=javascript:x()>free</a> <a href=HTTPS://tea.example>here</a><script>x()</script>",
+        b'<p>Tea <a>free</a> <a href="HTTPS://tea.example">here</a></p>\n',
+    ),
+}
+
+
+def examples(checks, folder):
+    """The examples in C, built by the pkg-config file."""
+    env = {**os.environ, "PKG_CONFIG_PATH": str(folder / "lib" / "pkgconfig")}
+    for name, (page, wanted) in EXAMPLES.items():
+        source, program = ROOT / "examples" / "c" / f"{name}.c", folder / name
+        if not shutil.which("pkg-config"):
+            if not build(checks, folder, name, ["gcc", "-std=c11"], source):
+                continue
+        else:
+            _, flags = run(["pkg-config", "--cflags", "--libs", "dom_query"], env=env)
+            command = ["gcc", "-std=c11", "-Wall", "-o", program, source, *flags.split(), f"-Wl,-rpath,{folder / 'lib'}"]
+            if not checks.runs(f"building {name}.c by pkg-config", command):
+                continue
         ran = subprocess.run([program], input=page, stdout=subprocess.PIPE, timeout=SECONDS)
-        checks.check("links.c", ran.stdout == b"Tea hot: /tea\nMilk: /milk\n" and ran.returncode == 0, ran.stdout.decode())
+        checks.check(f"{name}.c", ran.stdout == wanted and ran.returncode == 0, ran.stdout.decode())
+
+
+def documented(checks, folder):
+    """The C programs that docs/C.md shows, and what they print."""
+    shown = documents.blocks(ROOT / "docs" / "C.md")
+    program, source = None, folder / "documented.c"
+    for words, start, lines in shown:
+        if words == ["c"]:
+            source.write_text("\n".join(lines) + "\n", encoding="utf-8")
+            program = build(checks, folder, "documented", ["gcc", "-std=c11"], source)
+        elif words == ["c", "output"] and program:
+            status, printed = run([program])
+            checks.check(f"C.md:{start}", status == 0 and printed == "\n".join(lines) + "\n", printed)
 
 
 def package(checks, folder):
@@ -189,7 +212,8 @@ def c_and_python(archive=ARCHIVE):
         if install(checks, archive, folder, None):
             names(checks, folder)
             programs(checks, folder)
-            links(checks, folder)
+            examples(checks, folder)
+            documented(checks, folder)
             package(checks, folder)
         kit = pathlib.Path(run(["rt", "doc"])[1].strip()).parent
         clang = kit / "toolchain" / "bin" / "clang"

@@ -1,6 +1,7 @@
 //! What comes from the caller as bytes, and what is written into the caller's room.
 
-ghost use Rattle.std.specs.Prelude.{◌≡◌, IfOk, length, take};
+ghost use Rattle.std.specs.Prelude.{◌≡◌, IfOk, length, map, take};
+ghost use Rattle.dom_nodes.specs.Words.{words_of};
 
 use crate::fault::Fault;
 use std::alloc::Global;
@@ -16,7 +17,9 @@ pub fn as_text(bytes: &[u8]) -> Result<&str, Fault>
 }
 
 /// The names in a text, which are separated by ASCII whitespace.
-pub fn names_in(alloc: Global, text: &str) -> Result<Vec<&str>, Fault> {
+pub fn names_in(alloc: Global, text: &str) -> Result<Vec<&str>, Fault>
+    ensures { IfOk result (λ names. map (λ name. name.now) names.items ≡ words_of text.now) }
+{
     let mut names = Vec::new(alloc);
     for name in text.split_ascii_whitespace() {
         names.push(name)?;

@@ -1,19 +1,23 @@
 //! Edits at one node. After a fault the document is as it was.
 
+ghost use Rattle.std.specs.Prelude.{◌≡◌};
 ghost use Rattle.dom_trees.specs.Edits.{normalizing, setting_text};
-ghost use Rattle.c_state.specs.Answers.{EditsTree, Keeps};
+ghost use Rattle.c_state.specs.Answers.{ChangesTree, EditsTree};
+ghost use Rattle.c_state.specs.Edits.{IsPut, IsSanitized, attr_removed, attr_set, element_renamed};
 
 use crate::bytes::{as_text, names_in};
 use crate::fault::Fault;
+use crate::numbers::place_of;
 use crate::state::State;
 use dom_nodes::node_data::Change;
 use dom_query::prelude::*;
-use dom_query::{Allow, Place, Snippet, sanitize};
+use dom_query::{Allow, Snippet, sanitize};
 
 impl State {
     /// Gives the element's first attribute of that local name the value, or adds one.
     pub fn set_attr(&mut self, node: u32, name: &[u8], value: &[u8]) -> Result<usize, Fault>
-        ensures { Keeps result self.old self.new }
+        ensures { ChangesTree result self.old self.new
+            (λ old new. new ≡ attr_set node name.now value.now old) }
     {
         let node = self.node(node)?;
         let name = as_text(name)?;
@@ -25,7 +29,8 @@ impl State {
 
     /// Removes every attribute of that local name.
     pub fn remove_attr(&mut self, node: u32, name: &[u8]) -> Result<usize, Fault>
-        ensures { Keeps result self.old self.new }
+        ensures { ChangesTree result self.old self.new
+            (λ old new. new ≡ attr_removed node name.now old) }
     {
         let node = self.node(node)?;
         let name = as_text(name)?;
@@ -36,7 +41,8 @@ impl State {
 
     /// Changes the local name of an element.
     pub fn rename(&mut self, node: u32, name: &[u8]) -> Result<usize, Fault>
-        ensures { Keeps result self.old self.new }
+        ensures { ChangesTree result self.old self.new
+            (λ old new. new ≡ element_renamed node name.now old) }
     {
         let node = self.node(node)?;
         let name = as_text(name)?;
@@ -64,23 +70,15 @@ impl State {
         Ok(0)
     }
 
-    /// Puts explicit markup at the node: in the place of its children (0), behind them (1), in
-    /// front of them (2), right before the node (3), right after it (4), or in its place (5).
-    /// Refused as `Argument` for any other place.
+    /// Reads explicit markup and puts it at the node, at the place of that number: in the place of
+    /// its children (0), behind them (1), in front of them (2), right before the node (3), right
+    /// after it (4), or in its place (5). Refused as `Argument` for any other number.
     pub fn put_html(&mut self, node: u32, place: u32, html: &[u8]) -> Result<usize, Fault>
-        ensures { Keeps result self.old self.new }
+        ensures { ChangesTree result self.old self.new (IsPut place node html.now) }
     {
         let node = self.node(node)?;
         let html = as_text(html)?;
-        let place = match place {
-            0 => Place::InsteadOfChildren,
-            1 => Place::AtEnd,
-            2 => Place::AtFront,
-            3 => Place::Before,
-            4 => Place::After,
-            5 => Place::InsteadOfNode,
-            _ => return Err(Fault::Argument),
-        };
+        let place = place_of(place)?;
         let snippet = Snippet::read(self.document.tree.allocator(), html)?;
         snippet.put_at(&mut self.document.tree, &node, place)?;
         Ok(0)
@@ -95,7 +93,8 @@ impl State {
         attrs: &[u8],
         dropped: &[u8],
     ) -> Result<usize, Fault>
-        ensures { Keeps result self.old self.new }
+        ensures { ChangesTree result self.old self.new
+            (IsSanitized elements.now attrs.now dropped.now) }
     {
         let alloc = self.document.tree.allocator();
         let elements = names_in(alloc, as_text(elements)?)?;

@@ -8,6 +8,7 @@ mod fault;
 mod finding;
 mod gathering;
 mod moving;
+mod numbers;
 mod pieces;
 mod reading;
 mod state;

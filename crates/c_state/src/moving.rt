@@ -3,18 +3,23 @@
 ghost use Rattle.std.specs.Prelude.{◌≡◌};
 ghost use Rattle.dom_links.specs.Lists.{first};
 ghost use Rattle.dom_links.specs.Forest.{children_of};
-ghost use Rattle.dom_trees.specs.Edits.{removing};
-ghost use Rattle.c_state.specs.Answers.{EditsTree, Keeps};
+ghost use Rattle.dom_trees.specs.Edits.{making, removing};
+ghost use Rattle.dom_trees.specs.NewNodes.{bare_element, html_name, text_node};
+ghost use Rattle.c_state.specs.Answers.{ChangesTree, EditsTree, MakesNode};
+ghost use Rattle.c_state.specs.Edits.{Becomes, IsMoved, MovesTo, unwrapped_node};
 
 use crate::bytes::as_text;
 use crate::fault::Fault;
+use crate::numbers::place_of;
 use crate::state::State;
+use dom_query::Place;
 use dom_query::prelude::*;
 
 impl State {
     /// Makes an element without attributes, which stands nowhere yet: its number.
     pub fn new_element(&mut self, name: &[u8]) -> Result<usize, Fault>
-        ensures { Keeps result self.old self.new }
+        ensures { MakesNode result self.old self.new
+            (making (bare_element (html_name name.now))) }
     {
         let name = as_text(name)?;
         let made = self.document.tree.new_element(name)?;
@@ -23,30 +28,40 @@ impl State {
 
     /// Makes a text, which stands nowhere yet: its number.
     pub fn new_text(&mut self, text: &[u8]) -> Result<usize, Fault>
-        ensures { Keeps result self.old self.new }
+        ensures { MakesNode result self.old self.new (making (text_node text.now)) }
     {
         let text = as_text(text)?;
         let made = self.document.tree.new_text(text)?;
         Ok(made.value())
     }
 
-    /// Moves the node with what is below it: behind the children of the target (1), in front of
-    /// them (2), right before the target (3), right after it (4), or in its place (5). Refused as
-    /// `Argument` for any other place.
+    /// Moves the node with what is below it to the place of that number: behind the children of the
+    /// target (1), in front of them (2), right before the target (3), right after it (4), or in its
+    /// place (5). Refused as `Argument` for any other number.
     pub fn move_node(&mut self, node: u32, place: u32, target: u32) -> Result<usize, Fault>
-        ensures { Keeps result self.old self.new }
+        ensures { ChangesTree result self.old self.new (IsMoved node place target) }
     {
         let node = self.node(node)?;
         let target = self.node(target)?;
+        let place = place_of(place)?;
+        self.move_to(&node, place, &target)?;
+        Ok(0)
+    }
+
+    fn move_to(&mut self, node: &NodeId, place: Place, target: &NodeId) -> Result<(), Fault>
+        ensures { Becomes result self.old.document.tree self.new.document.tree
+            (MovesTo node.now target.now place) }
+    {
+        let tree = &mut self.document.tree;
         match place {
-            1 => self.document.tree.append_child_of(&target, &node)?,
-            2 => self.document.tree.prepend_child_of(&target, &node)?,
-            3 => self.document.tree.insert_before_of(&target, &node)?,
-            4 => self.document.tree.insert_after_of(&target, &node)?,
-            5 => self.document.tree.replace_with(&target, &node)?,
+            Place::AtEnd => tree.append_child_of(target, node)?,
+            Place::AtFront => tree.prepend_child_of(target, node)?,
+            Place::Before => tree.insert_before_of(target, node)?,
+            Place::After => tree.insert_after_of(target, node)?,
+            Place::InsteadOfNode => tree.replace_with(target, node)?,
             _ => return Err(Fault::Argument),
         }
-        Ok(0)
+        Ok(())
     }
 
     /// Detaches the node, with what is below it. It stays a node of the document.
@@ -59,7 +74,9 @@ impl State {
     }
 
     /// Puts the node's children in its place, and detaches it.
-    pub fn unwrap_node(&mut self, node: u32) -> Result<usize, Fault> {
+    pub fn unwrap_node(&mut self, node: u32) -> Result<usize, Fault>
+        ensures { ChangesTree result self.old self.new (λ old new. new ≡ unwrapped_node node old) }
+    {
         let node = self.node(node)?;
         if let Some(first) = self.first_child_id(&node) {
             self.document.tree.insert_siblings_before(&node, &first)?;

@@ -1,9 +1,10 @@
 //! What C holds of a document.
 
 ghost use Rattle.std.specs.Prelude.{◌≡◌, ◌≤ℤ◌, negsuc, pos};
-ghost use Rattle.std.specs.Prelude.{IfOk, MatchOption, MatchResult, None, Some};
+ghost use Rattle.std.specs.Prelude.{MatchOption, MatchResult, None, Some};
 ghost use Rattle.std.specs.Option.{is_some};
 ghost use Rattle.c_state.specs.declared.fault.Fault.TheVariants.{Closed};
+ghost use Rattle.dom_query_c.specs.Calls.{IsAnswer};
 
 use crate::parts::Parts;
 use crate::slot::Slot;
@@ -73,7 +74,9 @@ impl Handle {
 
     /// Puts what was read in, and frees what was there; a fault leaves the handle with that.
     pub fn fill(&mut self, alloc: Global, read: Result<State, Fault>) -> i64
-        ensures { pos 0 ≤ℤ result → IfOk read (λ state. self.new.slot.state ≡ Some state) }
+        ensures ok { pos 0 ≤ℤ result → MatchResult read
+            (λ state. self.new.slot.state ≡ Some state) (λ _. ⊥) }
+        ensures err { (pos 0 ≤ℤ result → ⊥) → self.new.slot.state ≡ self.old.slot.state }
     {
         match read {
             Ok(state) => match Box::new(alloc, state) {
@@ -90,7 +93,7 @@ impl Handle {
     /// The answer as C gets it: the number, or that of a fault, which is noted.
     pub fn answer(&mut self, given: Result<usize, Fault>) -> i64
         ensures kept { self.new.slot.state ≡ self.old.slot.state }
-        ensures ok { pos 0 ≤ℤ result → MatchResult given (λ count. result ≡ pos count) (λ _. ⊥) }
+        ensures answer { IsAnswer given result }
     {
         match given {
             Ok(count) => {
