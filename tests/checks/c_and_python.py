@@ -2,14 +2,15 @@
 
 `c_and_python()` returns how many checks passed and how many failed:
 
-- The archive is built over the libraries that the gate left in crates/*/out, if it isn't there: the gate proves a static library, but
-  doesn't build it.
+- The archive is built over the libraries that the gate left in crates/*/out, if it isn't there or they changed: the gate proves a static
+  library, but doesn't build it.
 - `./install-c` links the archive into a folder of its own, by gcc and, where it is there, by the kit's clang.
 - tests/checks/c_exports.c asks every function of include/dom_query.h: as C and as C++, under Valgrind or AddressSanitizer where there
   is one, and with each request for memory refused in turn (tests/checks/refuse.c), after which no block may be left.
 - Each function of the header is one that the archive defines, and the other way around, and c_exports.c and the package name each.
 - The programs of examples/c are built with the pkg-config file and run, and so is each program that docs/C.md shows.
 - The tests of the package (python/tests) are run, and those of its types, where mypy is there. A wheel is made and installed."""
+import hashlib
 import os
 import pathlib
 import re
@@ -184,11 +185,30 @@ def wheel(checks, folder):
         checks.runs("the installed package", [sys.executable, "-c", script], env={"PYTHONPATH": str(folder / "installed")}, cwd=folder)
 
 
+def built_libraries():
+    """The libraries that the gate left, by their names."""
+    return {rlib.stem: rlib for rlib in sorted((ROOT / "crates").glob("*/out/rlib/*.rlib"))}
+
+
+def inputs():
+    """What the archive is built from: a checksum of its own files, and of which libraries are below it."""
+    digest = hashlib.sha256()
+    crate = ROOT / "crates" / "dom_query_c"
+    for file in sorted(it for name in ("src", "specs", "proofs") for it in (crate / name).rglob("*") if it.is_file()):
+        digest.update(f"{file.relative_to(crate)}\0".encode() + file.read_bytes())
+    for name, rlib in built_libraries().items():
+        file = (rlib / "format").stat()
+        digest.update(f"{name} {file.st_mtime_ns} {file.st_ino}\n".encode())
+    return digest.hexdigest()
+
+
 def build_archive(archive):
-    """Builds the static library over the libraries that the gate left, which takes its own proofs' time once more."""
-    kit, crates = pathlib.Path(run(["rt", "doc"])[1].strip()).parent, ROOT / "crates"
+    """Builds the static library over the libraries that the gate left, which proves it once more, unless it is there already."""
+    mark, of = archive.with_suffix(".inputs"), inputs()
+    if archive.exists() and mark.exists() and mark.read_text() == of:
+        return 0, ""
+    kit, made = pathlib.Path(run(["rt", "doc"])[1].strip()).parent, built_libraries()
     below = re.search(r"(?m)^dom_query_c staticlib:(.*)$", (ROOT / "crates.txt").read_text())[1].split()
-    made = {rlib.stem: rlib for rlib in crates.glob("*/out/rlib/*.rlib")}
     found = {name: made.get(name, kit / "rlibs" / f"{name}.rlib") for name in ["std", *below]}
     words = [kit / "bin" / "rattle", "build", "--crate-name", "dom_query_c", "src/lib.rt", "--crate-type", "staticlib"]
     words += [word for name, rlib in found.items() for word in ("--extern", f"{name}={rlib}")]
@@ -197,32 +217,39 @@ def build_archive(archive):
     words += ["--antt-project", kit / "rattle" / "logic" / "antt-project.json", "--logic-built", kit / "logic_built"]
     words += ["--links", "dom_query_c=", "--toolchain", kit / "toolchain", "-o", archive]
     archive.parent.mkdir(exist_ok=True)
-    return run(words, cwd=crates / "dom_query_c")
+    status, printed = run(words, cwd=ROOT / "crates" / "dom_query_c")
+    if status == 0:
+        mark.write_text(of)
+    return status, printed
 
 
-def c_and_python(archive=ARCHIVE):
+def c_and_python(archive=None):
     checks = Checks()
-    if not archive.exists():
+    if archive is None:
+        archive = ARCHIVE
         status, printed = build_archive(archive)
         checks.check("building the archive", status == 0, printed)
-    if not checks.check("the archive", archive.exists(), f"there is no {archive}"):
-        return checks.passed, checks.failed
-    with tempfile.TemporaryDirectory() as made:
-        folder = pathlib.Path(made)
-        if install(checks, archive, folder, None):
-            names(checks, folder)
-            programs(checks, folder)
-            examples(checks, folder)
-            documented(checks, folder)
-            package(checks, folder)
-        kit = pathlib.Path(run(["rt", "doc"])[1].strip()).parent
-        clang = kit / "toolchain" / "bin" / "clang"
-        if clang.exists():
-            install(checks, archive, folder / "by_clang", f"{clang} -fuse-ld=lld")
+    if checks.check("the archive", archive.exists(), f"there is no {archive}"):
+        with tempfile.TemporaryDirectory() as made:
+            linked(checks, archive, pathlib.Path(made))
+    print(f"C and Python: {checks.passed} passed, {checks.failed} failed")
     return checks.passed, checks.failed
 
 
+def linked(checks, archive, folder):
+    """All checks of what is linked from the archive."""
+    if install(checks, archive, folder, None):
+        names(checks, folder)
+        programs(checks, folder)
+        examples(checks, folder)
+        documented(checks, folder)
+        package(checks, folder)
+    kit = pathlib.Path(run(["rt", "doc"])[1].strip()).parent
+    clang = kit / "toolchain" / "bin" / "clang"
+    if clang.exists():
+        install(checks, archive, folder / "by_clang", f"{clang} -fuse-ld=lld")
+
+
 if __name__ == "__main__":
-    PASSED, FAILED = c_and_python(*(pathlib.Path(word).resolve() for word in sys.argv[1:2]))
-    print(f"c_and_python: {PASSED} passed, {FAILED} failed")
+    _, FAILED = c_and_python(*(pathlib.Path(word).resolve() for word in sys.argv[1:2]))
     sys.exit(FAILED != 0)

@@ -32,7 +32,8 @@ impl State {
         let root = self.node(root)?;
         let selectors = as_text(selectors)?;
         let found = Selection::from(self.document.tree.get_unchecked(&root)).select(selectors)?;
-        Ok(found.ids()?)
+        let ids = found.ids()?;
+        Ok(ids)
     }
 
     /// The first element below the node that matches one of the selectors: its number. Refused as
