@@ -108,7 +108,7 @@ def faults_of(page, sources, printed_by_examples, counted):
                 fault = None if any(is_part_of(block, text) for text in sources) else "no file of crates/examples/src has this"
             elif words == ["text"]:
                 fault = None if is_part_of(block, printed_by_examples) else "the program `examples` doesn't print this"
-            elif words[0] not in {"sh", *SHOWN}:
+            elif words[0] not in {"sh", "python", *SHOWN}:
                 fault = f"unknown word {words[0]!r} behind the fence"
             else:
                 continue

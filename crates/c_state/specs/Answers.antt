@@ -22,11 +22,12 @@ pub record GivesTextThat (result : Result ℕ Fault) (old new : State) (before a
   pub count : IfOk result (λ count. count ≡ length (string_bytes new.text))
   pub written : IfOk result (λ count. take count after ≡ take (length before) (string_bytes new.text))
 
--- Nodes of which this holds are kept, and how many there are is the answer. The document stays
-pub record GivesNodes (result : Result ℕ Fault) (old new : State) (AreThey : List ℕ → Type 0) : Type 0 where
+-- Nodes of which this holds are kept, how many there are is the answer, and as many are written as there is room for. The document stays
+pub record GivesNodes (result : Result ℕ Fault) (old new : State) (before after : List ℕ) (AreThey : List ℕ → Type 0) : Type 0 where
   pub document : new.document ≡ old.document
   pub kept : IfOk result (λ _. AreThey new.ids.items)
   pub count : IfOk result (λ count. count ≡ length new.ids.items)
+  pub written : IfOk result (λ count. take count after ≡ take (length before) new.ids.items)
 
 -- The answer is 1 if the statement holds, and 0 if it doesn't
 abbrev pub SaysWhether : ℕ → Type 0 → Type 0

@@ -17,7 +17,7 @@ impl State {
     /// The elements below the node that match one of the selectors, in document order: how many
     /// there are. As many numbers are written as there is room for.
     pub fn select(&mut self, root: u32, selectors: &[u8], to: &mut [u32]) -> Result<usize, Fault>
-        ensures { GivesNodes result self.old self.new
+        ensures { GivesNodes result self.old self.new to.old to.new
             (λ ids. ByText selectors.now
             (λ list. Selected self.old.document.tree (root ∷ []) list ids)) }
     {
@@ -91,7 +91,7 @@ impl State {
     /// descendants in document order (2). The answer is how many there are. As many numbers are
     /// written as there is room for. Refused as `Argument` for any other axis.
     pub fn list(&mut self, node: u32, axis: u32, to: &mut [u32]) -> Result<usize, Fault>
-        ensures { GivesNodes result self.old self.new
+        ensures { GivesNodes result self.old self.new to.old to.new
             (λ ids. along self.old.document.tree node axis ≡ Some ids) }
     {
         let node = self.node(node)?;

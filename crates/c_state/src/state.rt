@@ -82,9 +82,11 @@ impl State {
     /// How many nodes were found last. As many numbers are written as there is room for.
     pub fn write_ids(&self, to: &mut [u32]) -> usize
         ensures count { result ≡ length self.now.ids.items }
+        ensures written { take result to.new ≡ take (length to.old) self.now.ids.items }
     {
-        for (place, id) in to.iter_mut().zip(self.ids.iter()) {
-            *place = id.value() as u32;
+        let count = self.ids.len().min(to.len());
+        for i in 0..count {
+            to[i] = self.ids[i].value() as u32;
         }
         self.ids.len()
     }
