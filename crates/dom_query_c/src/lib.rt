@@ -2,7 +2,8 @@
 //! functions as C sees them.
 #![tactic(auto)]
 
-ghost use Rattle.std.specs.Prelude.{◌≡◌, ◌∷◌, [], IfOk, None, Ok, Some, length, string_bytes, ⊤};
+ghost use Rattle.std.specs.Prelude.{◌≡◌, ◌∷◌, [], IfOk, None, Some, string_bytes, ⊤};
+ghost use Rattle.std.specs.List.{flat_map};
 ghost use Rattle.dom_links.specs.Texts.{text_of};
 ghost use Rattle.dom_markup.specs.Documents.{IsDocumentOf};
 ghost use Rattle.dom_markup.specs.Html.{html_of, inner_html_of};
@@ -13,7 +14,8 @@ ghost use Rattle.dom_select.specs.Descendants.{IsMatch};
 ghost use Rattle.dom_select.specs.Selected.{Selected};
 ghost use Rattle.dom_trees.specs.Edits.{making, normalizing, removing, setting_text};
 ghost use Rattle.dom_trees.specs.NewNodes.{bare_element, html_name, text_node};
-ghost use Rattle.dom_trees.specs.Views.{node_attr, node_name};
+ghost use Rattle.dom_nodes.specs.Words.{class_words};
+ghost use Rattle.dom_trees.specs.Views.{node_attr, node_attrs, node_name};
 ghost use Rattle.html5_trees.specs.Shape.{IsPage};
 ghost use Rattle.c_state.specs.Answers.{ChangesTree, EditsTree, GivesNodes, GivesText};
 ghost use Rattle.c_state.specs.Answers.{GivesTextThat, MakesNode, SaysWhether};
@@ -21,6 +23,7 @@ ghost use Rattle.c_state.specs.Edits.{IsMoved, IsPut, IsSanitized, attr_removed,
 ghost use Rattle.c_state.specs.Edits.{element_renamed, unwrapped_node};
 ghost use Rattle.c_state.specs.KindNumbers.{HasKind};
 ghost use Rattle.c_state.specs.Neighbours.{IsFirst, along, neighbour};
+ghost use Rattle.c_state.specs.Pieces.{GivesPieces, attr_pieces};
 ghost use Rattle.dom_query_c.specs.Calls.{Asks, GivesKept, Reads};
 
 mod handle;
@@ -101,7 +104,7 @@ pub extern "C" fn dq_select(
     to: &mut [u32],
 ) -> i64
     ensures { Asks handle.old.slot.state handle.new.slot.state result
-        (λ given s t. GivesNodes given s t (λ ids. ByText selectors.now
+        (λ given s t. GivesNodes given s t to.old to.new (λ ids. ByText selectors.now
             (λ list. Selected s.document.tree (root ∷ []) list ids))) }
 {
     ask!(alloc, handle, state => state.select(root, selectors, to))
@@ -146,7 +149,9 @@ pub extern "C" fn dq_select_texts(
     selectors: &[u8],
 ) -> i64
     ensures { Asks handle.old.slot.state handle.new.slot.state result
-        (λ given s t. t.document ≡ s.document) }
+        (λ given s t. GivesPieces given s t (λ n. Some (text_of s.document.tree n))
+            (λ ids. ByText selectors.now
+            (λ list. Selected s.document.tree (root ∷ []) list ids))) }
 {
     ask!(alloc, handle, state => state.select_texts(root, selectors))
 }
@@ -160,7 +165,9 @@ pub extern "C" fn dq_select_html(
     selectors: &[u8],
 ) -> i64
     ensures { Asks handle.old.slot.state handle.new.slot.state result
-        (λ given s t. t.document ≡ s.document) }
+        (λ given s t. GivesPieces given s t (λ n. Some (html_of s.document.tree n))
+            (λ ids. ByText selectors.now
+            (λ list. Selected s.document.tree (root ∷ []) list ids))) }
 {
     ask!(alloc, handle, state => state.select_html(root, selectors))
 }
@@ -175,7 +182,9 @@ pub extern "C" fn dq_select_attrs(
     name: &[u8],
 ) -> i64
     ensures { Asks handle.old.slot.state handle.new.slot.state result
-        (λ given s t. t.document ≡ s.document) }
+        (λ given s t. GivesPieces given s t (λ n. node_attr s.document.tree n name.now)
+            (λ ids. ByText selectors.now
+            (λ list. Selected s.document.tree (root ∷ []) list ids))) }
 {
     ask!(alloc, handle, state => state.select_attrs(root, selectors, name))
 }
@@ -184,7 +193,7 @@ pub extern "C" fn dq_select_attrs(
 #[unsafe(no_mangle)]
 pub extern "C" fn dq_found(alloc: Global, handle: &mut Handle, to: &mut [u32]) -> i64
     ensures { Asks handle.old.slot.state handle.new.slot.state result
-        (λ given s t. (t ≡ s) × (given ≡ Ok (length s.ids.items))) }
+        (λ given s t. (t ≡ s) × GivesKept given to.old to.new s.ids.items) }
 {
     ask!(alloc, handle, state => Ok(state.write_ids(to)))
 }
@@ -290,7 +299,8 @@ pub extern "C" fn dq_attr(
 #[unsafe(no_mangle)]
 pub extern "C" fn dq_attrs(alloc: Global, handle: &mut Handle, node: u32) -> i64
     ensures { Asks handle.old.slot.state handle.new.slot.state result
-        (λ given s t. t.document ≡ s.document) }
+        (λ given s t. GivesPieces given s t Some
+            (λ pieces. pieces ≡ flat_map attr_pieces (node_attrs s.document.tree node))) }
 {
     ask!(alloc, handle, state => state.take_attrs(node))
 }
@@ -299,7 +309,8 @@ pub extern "C" fn dq_attrs(alloc: Global, handle: &mut Handle, node: u32) -> i64
 #[unsafe(no_mangle)]
 pub extern "C" fn dq_classes(alloc: Global, handle: &mut Handle, node: u32) -> i64
     ensures { Asks handle.old.slot.state handle.new.slot.state result
-        (λ given s t. t.document ≡ s.document) }
+        (λ given s t. GivesPieces given s t Some
+            (λ pieces. pieces ≡ class_words (node_attrs s.document.tree node))) }
 {
     ask!(alloc, handle, state => state.take_classes(node))
 }
@@ -333,7 +344,8 @@ pub extern "C" fn dq_list(
     to: &mut [u32],
 ) -> i64
     ensures { Asks handle.old.slot.state handle.new.slot.state result
-        (λ given s t. GivesNodes given s t (λ ids. along s.document.tree node axis ≡ Some ids)) }
+        (λ given s t. GivesNodes given s t to.old to.new
+            (λ ids. along s.document.tree node axis ≡ Some ids)) }
 {
     ask!(alloc, handle, state => state.list(node, axis, to))
 }
