@@ -17,7 +17,8 @@ sys.path.insert(0, str(pathlib.Path(__file__).resolve().parents[3] / "python"))
 
 def of_dom_query(module):
     return {
-        "parse": lambda raw: module.parse(raw, 0),
+        "parse": lambda raw: module.parse(raw),
+        "parse, any depth": lambda raw: module.parse(raw, max_depth=0),
         "links": lambda page: list(zip(page.select_texts("a[href]"), page.select_attrs("a[href]", "href"))),
         "links, node by node": lambda page: [(link.text, link["href"]) for link in page.select("a[href]")],
         "html": lambda page: page.html,
@@ -98,8 +99,9 @@ def main():
             took, document = shortest(tasks.pop("parse"), raw, times)
             print(f"  {name:10} {'parse':20} {took:9.1f} ms {memory(name, page):8.1f} MB")
             for what, task in tasks.items():
-                took, result = shortest(task, document, times)
-                print(f"  {'':10} {what:20} {took:9.1f} ms {len(result):9}")
+                given = raw if what.startswith("parse") else document
+                took, result = shortest(task, given, times)
+                print(f"  {'':10} {what:20} {took:9.1f} ms {'' if given is raw else len(result):>9}")
 
 
 if __name__ == "__main__":
