@@ -758,6 +758,10 @@ RULES = {
         f"{D}<svg><script/>1",
         f"{D}<svg><title/>1",
         f"{D}<svg><script>1<b></script>2",
+        f"{D}<svg><g a\r/>1",
+        f"{D}<svg\r/>1",
+        f"{D}<svg><g\0/>1",
+        f"{D}<svg><g a\r/b>1",
     ],
     "foreign: end tags": [
         f"{D}<svg><g><path></g>1</svg>2",
