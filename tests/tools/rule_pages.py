@@ -181,6 +181,8 @@ RULES = {
         f"{D}<table><td><frameset>",
         f"{D}1<template></template><frameset>",
         f"{D}<body><template></template><frameset>",
+        f"{D}<p></p><template></template><frameset>",
+        f"{D}<template></template><p></p><frameset>",
     ],
     "frameset in the body": [
         f"{D}<p></p><frameset a=1><frame></frameset>1",
