@@ -181,6 +181,8 @@ RULES = {
         f"{D}<table><td><frameset>",
         f"{D}1<template></template><frameset>",
         f"{D}<body><template></template><frameset>",
+        f"{D}<p></p><template></template><frameset>",
+        f"{D}<template></template><p></p><frameset>",
     ],
     "frameset in the body": [
         f"{D}<p></p><frameset a=1><frame></frameset>1",
@@ -216,7 +218,8 @@ RULES = {
         f"{D}<{front}>{('a' * at) + chr(0) + 'b' * (40 - at)}"
         for front in ("p", "select", "table", "svg", "title", "plaintext")
         for at in (0, 1, 15, 16, 17, 31, 32, 39, 40)
-    ],
+    ]
+    + [f"{D}<p>{chr(0)}{'b' * count}" for count in (14, 15, 16, 20)],
     "a text joins the one before": [
         f"{D}1<table>2</table>3",
         f"{D}<table>1<b></b>2",
@@ -514,6 +517,13 @@ RULES = {
         f"{D}<b><i><s><p><u><tt>1</b></p>2",
         f"{D}<em><b><i><p><u>1</b></p>2</em>3",
     ],
+    "adoption agency: bookmark behind eight rounds": [
+        f"{D}<b>{''.join(f'<i a={it}><div>' for it in range(count))}<u>1</b>{'</div>' * count}2<p>3" for count in (6, 7, 8, 9, 12)
+    ]
+    + [
+        f"{D}<b><div>{''.join(f'<i a={it}><div>' for it in range(count))}<u>1</b>{'</div>' * count}2<p>3"
+        for count in (6, 7, 8, 9)
+    ],
     "adoption agency: foster parenting": [
         f"{D}<table><b><p>1</b>2",
         f"{D}<table><a>1<p>2</a>3<td>4",
@@ -750,6 +760,10 @@ RULES = {
         f"{D}<svg><script/>1",
         f"{D}<svg><title/>1",
         f"{D}<svg><script>1<b></script>2",
+        f"{D}<svg><g a\r/>1",
+        f"{D}<svg\r/>1",
+        f"{D}<svg><g\0/>1",
+        f"{D}<svg><g a\r/b>1",
     ],
     "foreign: end tags": [
         f"{D}<svg><g><path></g>1</svg>2",
@@ -796,8 +810,12 @@ RULES = {
         f"{D}<p {' '.join(f'a{it}={it}' for it in range(count))} A3=x a{count - 1}=y a0=z b=1 B=2><p a0=3 b=4 a0=5>6"
         for count in (4, 15, 16, 17, 18, 40)
     ],
-    "attributes: without a name": [f'{D}<p ="a&amp;b" c=1>2', f'{D}<p ="a">', f'{D}<p a=1 ="b&c" d>', f"{D}<p ='a&amp;b' =>"],
+    "attributes: without a name": [f'{D}<p ="a&amp;b" c=1>2', f'{D}<p ="a">', f'{D}<p a=1 ="b&c" d>', f"{D}<p ='a&amp;b' =>", f"{D}<p \r=c d>", f"{D}<p a='b&c' \r=d e>", f"{D}<p \r\r\n =c>"],
     "attributes: many, and a second tag": [
+        f"{D}<p><p {' '.join(f'a{it}={it}' for it in range(count))}><b a1 a0=2 c=3 a1=4><i {' '.join(f'b{it}' for it in range(20))} b1=x>5"
+        for count in (17, 18, 40)
+    ]
+    + [
         f"{D}<p {' '.join(f'a{it}={it}' for it in range(40))}><b a39=1 a0=2 c=3 a39=4><i {' '.join(f'a{it}' for it in range(20))}>5"
     ],
     # 13.2.7 the end

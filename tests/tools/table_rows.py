@@ -337,6 +337,8 @@ def not_calm_rows():
                 body = f"<table>{inner[outer]}5<{name}>2</{name}>3</{outer}></tbody></table>4"
             pages.add(f"calm: {outer}, not with {name} in it", f"<!DOCTYPE html><html><head></head><body>{body}</body></html>")
     pages.add("calm: pre, not with a line feed first", "<!DOCTYPE html><html><head></head><body><pre>\n1</pre></body></html>")
+    for name in ("x-y", "math", "svg", "desc", "nobr", "select", "template", "frame"):
+        pages.add(f"calm: not with {name}", f"<!DOCTYPE html><html><head></head><body><p>1</p><{name}>2</{name}>3</body></html>")
     pages.add("calm: not with a null", "<!DOCTYPE html><html><head></head><body>1\0<p>2\0</p></body></html>")
     pages.add("calm: not with a carriage return", "<!DOCTYPE html><html><head></head><body>1\r\n<p>2\r</p></body></html>")
     for entry, text, _, _, _, _, html in pages.answers():
