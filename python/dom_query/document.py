@@ -113,9 +113,9 @@ class Document:
             return self._taken(self._checked(count))
 
     def _taken(self, count: int) -> str:
-        text = ctypes.create_string_buffer(count or 1)
+        text = (ctypes.c_char * count)()
         self._checked(lib.dq_taken(self._handle, ctypes.addressof(text), count))
-        return _string_at(text, count).decode()
+        return str(text, "utf-8")
 
     def _node(self, call: Any, *arguments: Any) -> Node | None:
         """A node that the call finds; None where there is none."""

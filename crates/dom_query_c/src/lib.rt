@@ -105,7 +105,7 @@ pub extern "C" fn dq_select(
 ) -> i64
     ensures { Asks handle.old.slot.state handle.new.slot.state result
         (λ given s t. GivesNodes given s t to.old to.new (λ ids. ByText selectors.now
-            (λ list. Selected s.document.tree (root ∷ []) list ids))) }
+        (λ list. Selected s.document.tree (root ∷ []) list ids))) }
 {
     ask!(alloc, handle, state => state.select(root, selectors, to))
 }
@@ -120,22 +120,17 @@ pub extern "C" fn dq_select_first(
 ) -> i64
     ensures { Asks handle.old.slot.state handle.new.slot.state result
         (λ given s t. (t ≡ s) × IfOk given (λ found. ByText selectors.now
-            (λ list. IsFirst list s.document.tree root found))) }
+        (λ list. IsFirst list s.document.tree root found))) }
 {
     ask!(alloc, handle, state => state.select_first(root, selectors))
 }
 
 /// Whether the node matches the selectors: 1 or 0.
 #[unsafe(no_mangle)]
-pub extern "C" fn dq_matches(
-    alloc: Global,
-    handle: &mut Handle,
-    node: u32,
-    selectors: &[u8],
-) -> i64
+pub extern "C" fn dq_matches(alloc: Global, handle: &mut Handle, node: u32, selectors: &[u8]) -> i64
     ensures { Asks handle.old.slot.state handle.new.slot.state result
         (λ given s t. (t ≡ s) × IfOk given (λ answer. ByText selectors.now
-            (λ list. SaysWhether answer (IsMatch list s.document.tree node)))) }
+        (λ list. SaysWhether answer (IsMatch list s.document.tree node)))) }
 {
     ask!(alloc, handle, state => state.matches(node, selectors))
 }
@@ -150,8 +145,8 @@ pub extern "C" fn dq_select_texts(
 ) -> i64
     ensures { Asks handle.old.slot.state handle.new.slot.state result
         (λ given s t. GivesPieces given s t (λ n. Some (text_of s.document.tree n))
-            (λ ids. ByText selectors.now
-            (λ list. Selected s.document.tree (root ∷ []) list ids))) }
+        (λ ids. ByText selectors.now
+        (λ list. Selected s.document.tree (root ∷ []) list ids))) }
 {
     ask!(alloc, handle, state => state.select_texts(root, selectors))
 }
@@ -166,8 +161,8 @@ pub extern "C" fn dq_select_html(
 ) -> i64
     ensures { Asks handle.old.slot.state handle.new.slot.state result
         (λ given s t. GivesPieces given s t (λ n. Some (html_of s.document.tree n))
-            (λ ids. ByText selectors.now
-            (λ list. Selected s.document.tree (root ∷ []) list ids))) }
+        (λ ids. ByText selectors.now
+        (λ list. Selected s.document.tree (root ∷ []) list ids))) }
 {
     ask!(alloc, handle, state => state.select_html(root, selectors))
 }
@@ -183,8 +178,8 @@ pub extern "C" fn dq_select_attrs(
 ) -> i64
     ensures { Asks handle.old.slot.state handle.new.slot.state result
         (λ given s t. GivesPieces given s t (λ n. node_attr s.document.tree n name.now)
-            (λ ids. ByText selectors.now
-            (λ list. Selected s.document.tree (root ∷ []) list ids))) }
+        (λ ids. ByText selectors.now
+        (λ list. Selected s.document.tree (root ∷ []) list ids))) }
 {
     ask!(alloc, handle, state => state.select_attrs(root, selectors, name))
 }
@@ -239,7 +234,7 @@ pub extern "C" fn dq_html(alloc: Global, handle: &mut Handle, node: u32, to: &mu
 pub extern "C" fn dq_inner_html(alloc: Global, handle: &mut Handle, node: u32, to: &mut [u8]) -> i64
     ensures { Asks handle.old.slot.state handle.new.slot.state result
         (λ given s t. GivesText given s t to.old to.new
-            (inner_html_of s.document.tree node)) }
+        (inner_html_of s.document.tree node)) }
 {
     ask!(alloc, handle, state => state.take_inner_html(node, to))
 }
@@ -249,7 +244,7 @@ pub extern "C" fn dq_inner_html(alloc: Global, handle: &mut Handle, node: u32, t
 pub extern "C" fn dq_md(alloc: Global, handle: &mut Handle, node: u32, to: &mut [u8]) -> i64
     ensures { Asks handle.old.slot.state handle.new.slot.state result
         (λ given s t. GivesTextThat given s t to.old to.new
-            (ReadsAsWords s.document.tree node)) }
+        (ReadsAsWords s.document.tree node)) }
 {
     ask!(alloc, handle, state => state.take_md(node, to))
 }
@@ -264,7 +259,7 @@ pub extern "C" fn dq_formatted_text(
 ) -> i64
     ensures { Asks handle.old.slot.state handle.new.slot.state result
         (λ given s t. GivesText given s t to.old to.new
-            (formatted_below s.document.tree node)) }
+        (formatted_below s.document.tree node)) }
 {
     ask!(alloc, handle, state => state.take_formatted_text(node, to))
 }
@@ -274,7 +269,7 @@ pub extern "C" fn dq_formatted_text(
 pub extern "C" fn dq_name(alloc: Global, handle: &mut Handle, node: u32, to: &mut [u8]) -> i64
     ensures { Asks handle.old.slot.state handle.new.slot.state result
         (λ given s t. GivesTextThat given s t to.old to.new
-            (λ text. Some (string_bytes text) ≡ node_name s.document.tree node)) }
+        (λ text. Some (string_bytes text) ≡ node_name s.document.tree node)) }
 {
     ask!(alloc, handle, state => state.take_name(node, to))
 }
@@ -290,7 +285,7 @@ pub extern "C" fn dq_attr(
 ) -> i64
     ensures { Asks handle.old.slot.state handle.new.slot.state result
         (λ given s t. GivesTextThat given s t to.old to.new
-            (λ text. Some (string_bytes text) ≡ node_attr s.document.tree node name.now)) }
+        (λ text. Some (string_bytes text) ≡ node_attr s.document.tree node name.now)) }
 {
     ask!(alloc, handle, state => state.take_attr(node, name, to))
 }
@@ -300,7 +295,7 @@ pub extern "C" fn dq_attr(
 pub extern "C" fn dq_attrs(alloc: Global, handle: &mut Handle, node: u32) -> i64
     ensures { Asks handle.old.slot.state handle.new.slot.state result
         (λ given s t. GivesPieces given s t Some
-            (λ pieces. pieces ≡ flat_map attr_pieces (node_attrs s.document.tree node))) }
+        (λ pieces. pieces ≡ flat_map attr_pieces (node_attrs s.document.tree node))) }
 {
     ask!(alloc, handle, state => state.take_attrs(node))
 }
@@ -310,7 +305,7 @@ pub extern "C" fn dq_attrs(alloc: Global, handle: &mut Handle, node: u32) -> i64
 pub extern "C" fn dq_classes(alloc: Global, handle: &mut Handle, node: u32) -> i64
     ensures { Asks handle.old.slot.state handle.new.slot.state result
         (λ given s t. GivesPieces given s t Some
-            (λ pieces. pieces ≡ class_words (node_attrs s.document.tree node))) }
+        (λ pieces. pieces ≡ class_words (node_attrs s.document.tree node))) }
 {
     ask!(alloc, handle, state => state.take_classes(node))
 }
@@ -329,7 +324,7 @@ pub extern "C" fn dq_kind(alloc: Global, handle: &mut Handle, node: u32) -> i64
 pub extern "C" fn dq_step(alloc: Global, handle: &mut Handle, node: u32, direction: u32) -> i64
     ensures { Asks handle.old.slot.state handle.new.slot.state result
         (λ given s t. (t ≡ s) × IfOk given (λ found.
-            neighbour s.document.tree node direction ≡ Some found)) }
+        neighbour s.document.tree node direction ≡ Some found)) }
 {
     ask!(alloc, handle, state => state.step(node, direction))
 }
@@ -345,7 +340,7 @@ pub extern "C" fn dq_list(
 ) -> i64
     ensures { Asks handle.old.slot.state handle.new.slot.state result
         (λ given s t. GivesNodes given s t to.old to.new
-            (λ ids. along s.document.tree node axis ≡ Some ids)) }
+        (λ ids. along s.document.tree node axis ≡ Some ids)) }
 {
     ask!(alloc, handle, state => state.list(node, axis, to))
 }
@@ -361,22 +356,17 @@ pub extern "C" fn dq_set_attr(
 ) -> i64
     ensures { Asks handle.old.slot.state handle.new.slot.state result
         (λ given s t. ChangesTree given s t
-            (λ old new. new ≡ attr_set node name.now value.now old)) }
+        (λ old new. new ≡ attr_set node name.now value.now old)) }
 {
     ask!(alloc, handle, state => state.set_attr(node, name, value))
 }
 
 /// Removes an attribute.
 #[unsafe(no_mangle)]
-pub extern "C" fn dq_remove_attr(
-    alloc: Global,
-    handle: &mut Handle,
-    node: u32,
-    name: &[u8],
-) -> i64
+pub extern "C" fn dq_remove_attr(alloc: Global, handle: &mut Handle, node: u32, name: &[u8]) -> i64
     ensures { Asks handle.old.slot.state handle.new.slot.state result
         (λ given s t. ChangesTree given s t
-            (λ old new. new ≡ attr_removed node name.now old)) }
+        (λ old new. new ≡ attr_removed node name.now old)) }
 {
     ask!(alloc, handle, state => state.remove_attr(node, name))
 }
@@ -386,7 +376,7 @@ pub extern "C" fn dq_remove_attr(
 pub extern "C" fn dq_rename(alloc: Global, handle: &mut Handle, node: u32, name: &[u8]) -> i64
     ensures { Asks handle.old.slot.state handle.new.slot.state result
         (λ given s t. ChangesTree given s t
-            (λ old new. new ≡ element_renamed node name.now old)) }
+        (λ old new. new ≡ element_renamed node name.now old)) }
 {
     ask!(alloc, handle, state => state.rename(node, name))
 }
@@ -486,7 +476,7 @@ pub extern "C" fn dq_sanitize(
 ) -> i64
     ensures { Asks handle.old.slot.state handle.new.slot.state result
         (λ given s t. ChangesTree given s t
-            (IsSanitized elements.now attrs.now dropped.now)) }
+        (IsSanitized elements.now attrs.now dropped.now)) }
 {
     ask!(alloc, handle, state => state.sanitize(elements, attrs, dropped))
 }
