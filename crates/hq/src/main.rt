@@ -1,6 +1,7 @@
 //! `hq SELECTOR [FILE ..]` prints what a selector matches in pages. `hq --help` lists the options.
 #![tactic(auto)]
 
+mod archive;
 mod output;
 mod pages;
 mod rewriting;
@@ -55,7 +56,7 @@ fn show(rt: &HostRuntime, refused: &Error) -> u8 {
 /// Prints what is asked for of each file, and returns the exit status.
 fn do_files(rt: &HostRuntime, options: &Options<'_>) -> Result<u8, Fault> {
     let mut out = BufWriter::new(rt.alloc(), rt.stdout())?;
-    if options.stream.jsonl {
+    if options.stream.is_one() {
         let matched = answer_files(rt, options, &mut out)?;
         out.flush()?;
         return Ok(if matched { MATCHED } else { UNMATCHED });

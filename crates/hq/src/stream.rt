@@ -1,5 +1,6 @@
 //! Streams of pages: for each line of JSON that is read, a line of JSON is written.
 
+use crate::archive::answer_records;
 use crate::pages::change;
 use dom_query::{Command, Document, DocumentSelect, Matcher, NodeMarkup, NodeRef, run_commands};
 use hq_pages::addresses::make_whole_at;
@@ -22,11 +23,22 @@ pub struct Counts {
     pub pages: u64,
     pub bytes: u64,
     pub faults: u64,
-    /// Whether something matched in one of the pages.
+    /// Whether something matched in one of the pages, or a page was processed without a selector.
     pub matched: bool,
 }
 
 impl Counts {
+    /// Counts a page of this many bytes.
+    pub fn add_page(&mut self, bytes: usize) {
+        self.pages = self.pages.saturating_add(1);
+        self.bytes = self.bytes.saturating_add(bytes as u64);
+    }
+
+    /// Counts a page that couldn't be read or processed.
+    pub fn add_fault(&mut self) {
+        self.faults = self.faults.saturating_add(1);
+    }
+
     fn new() -> Counts {
         Counts {
             pages: 0,
@@ -66,15 +78,29 @@ fn answer_file<W: Write>(
     let alloc = rt.alloc();
     if name == "-" {
         let mut reader = BufReader::new(alloc, rt.stdin())?;
-        return answer_lines(alloc, &mut reader, options, counts, out);
+        return answer_pages(alloc, &mut reader, options, counts, out);
     }
     match fs::open(rt, name) {
         Ok(file) => {
             let mut reader = BufReader::new(alloc, file)?;
-            answer_lines(alloc, &mut reader, options, counts, out)
+            answer_pages(alloc, &mut reader, options, counts, out)
         }
         Err(fault) => Err(Fault::File(fault)),
     }
+}
+
+/// Writes the answer to each page of a reader: of each line, or of each record of a WARC file.
+fn answer_pages<R: BufRead, W: Write>(
+    alloc: Global,
+    reader: &mut R,
+    options: &Options<'_>,
+    counts: &mut Counts,
+    out: &mut W,
+) -> Result<(), Fault> {
+    if options.stream.warc {
+        return answer_records(alloc, reader, options, counts, out);
+    }
+    answer_lines(alloc, reader, options, counts, out)
 }
 
 /// Writes the answer to each line of a reader.
@@ -108,9 +134,19 @@ fn answer_line<W: Write>(
     if line.trim_ascii().is_empty() {
         return Ok(());
     }
-    counts.pages = counts.pages.saturating_add(1);
-    counts.bytes = counts.bytes.saturating_add(line.len() as u64);
-    let answer = Value::Object(answer_of(alloc, line, options, counts)?).to_string(alloc)?;
+    counts.add_page(line.len());
+    let members = answer_of(alloc, line, options, counts)?;
+    write_answer(alloc, members, options, out)
+}
+
+/// Writes an answer, and flushes it if that is asked for.
+pub fn write_answer<W: Write>(
+    alloc: Global,
+    members: Map<String, Value>,
+    options: &Options<'_>,
+    out: &mut W,
+) -> Result<(), Fault> {
+    let answer = Value::Object(members).to_string(alloc)?;
     out.write_all(answer.as_bytes())?;
     out.write_all(b"\n")?;
     if options.stream.line_buffered {
@@ -126,29 +162,37 @@ fn answer_of(
     options: &Options<'_>,
     counts: &mut Counts,
 ) -> Result<Map<String, Value>, Fault> {
-    let PageLine {
-        page,
-        is_text,
-        mut members,
-    } = match read_line(alloc, line) {
-        Ok(read) => read,
-        Err(fault) => {
-            counts.faults = counts.faults.saturating_add(1);
-            let mut members = Map::new(alloc);
-            put_error(alloc, &mut members, fault.name())?;
-            return Ok(members);
+    let (mut members, page) = read_line(alloc, line);
+    match page {
+        Ok(PageLine { page, is_text }) => {
+            let read = read_line_page(alloc, &page, is_text, options.reading);
+            answer_or_error(alloc, read, options, counts, &mut members)?;
         }
-    };
-    let read = read_line_page(alloc, &page, is_text, options.reading);
-    if let Err(fault) = answer_page(alloc, read, options, counts, &mut members) {
-        counts.faults = counts.faults.saturating_add(1);
-        let why = format!(in alloc; "{fault}")?;
-        put_error(alloc, &mut members, why.as_str())?;
+        Err(fault) => {
+            counts.add_fault();
+            put_error(alloc, &mut members, fault.name())?;
+        }
     }
     Ok(members)
 }
 
-/// Adds the answer to a page to the members of its line.
+/// Adds the answer to a page to the members of its line or record, or why there is none.
+pub fn answer_or_error(
+    alloc: Global,
+    read: Result<(Document, Found), Fault>,
+    options: &Options<'_>,
+    counts: &mut Counts,
+    members: &mut Map<String, Value>,
+) -> Result<(), Fault> {
+    if let Err(fault) = answer_page(alloc, read, options, counts, members) {
+        counts.add_fault();
+        let why = format!(in alloc; "{fault}")?;
+        put_error(alloc, members, why.as_str())?;
+    }
+    Ok(())
+}
+
+/// Adds the answer to a page to the members of its line or record.
 fn answer_page(
     alloc: Global,
     read: Result<(Document, Found), Fault>,
@@ -167,10 +211,12 @@ fn answer_page(
     match &options.job {
         Job::Select(selector) => put_matches(alloc, &document, selector, options, counts, members),
         Job::Script(commands) => {
+            counts.matched = true;
             let output = output_of(alloc, &mut document, commands)?;
             put(alloc, members, "output", Value::String(output))
         }
         _ => {
+            counts.matched = true;
             let text = document.root().inner_html()?;
             put(alloc, members, "document", Value::String(text))
         }

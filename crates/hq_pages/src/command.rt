@@ -10,7 +10,7 @@ const VERSION: &str = "1.0.0 (dom_query 0.29.0)";
 
 const USAGE: &str = "hq [OPTIONS] SELECTOR [FILE ..]
        hq [OPTIONS] --document | --tree | --script LINES [FILE ..]
-       hq [OPTIONS] --jsonl SELECTOR [FILE ..]";
+       hq [OPTIONS] --jsonl | --warc SELECTOR [FILE ..]";
 
 const AFTER: &str = "Examples:
   hq --text h1 page.html               the headings of a page
@@ -31,7 +31,7 @@ const NONE: char = ' ';
 
 /// All options, in the order in which `--help` lists them.
 #[rattlefmt::skip]
-static OPTIONS: [Choice; 30] = [
+static OPTIONS: [Choice; 31] = [
     ("html", NONE, "", "", "Print each match as HTML (the default)"),
     ("inner", NONE, "", "", "Print what is inside each match: HTML, or with --md Markdown"),
     ("text", 't', "", "", "Print the text of each match"),
@@ -44,6 +44,7 @@ static OPTIONS: [Choice; 30] = [
     ("script", 's', "LINES", "", "Run these lines of a script on the page; may be repeated"),
     ("json", 'j', "", "", "Print a line of JSON for each match"),
     ("jsonl", NONE, "", "", "Read lines of JSON, a page in each, and answer each by a line"),
+    ("warc", NONE, "", "jsonl", "Read WARC files, the archives of crawls, and answer each page by a line"),
     ("first", '1', "", "", "Take only the first match in each file"),
     ("trim", NONE, "", "", "Join whitespace in what --text and --attr print"),
     ("null", '0', "", "", "End each answer with a NUL byte instead of a line feed"),
@@ -60,7 +61,7 @@ static OPTIONS: [Choice; 30] = [
     ("scripting", NONE, "", "explicit", "Read as if scripts ran: noscript holds text"),
     ("max-depth", NONE, "N", "explicit", "Nest elements at most this deep"),
     ("line-buffered", NONE, "", "", "Flush the output after every line"),
-    ("progress", NONE, "", "", "Report pages, bytes and faults on standard error; with --jsonl"),
+    ("progress", NONE, "", "", "Report pages, bytes and faults on standard error; for streams"),
     ("verbose", 'v', "", "", "Report how each page was read on standard error"),
 ];
 

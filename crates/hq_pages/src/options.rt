@@ -62,15 +62,24 @@ pub struct Printing<'a> {
     pub colored: bool,
 }
 
-/// How a stream of JSON lines is processed.
+/// How a stream of pages is processed: each page is answered by a line of JSON.
 #[derive(Clone, Copy, Drop)]
 pub struct Stream {
     /// Whether the input is a stream of JSON lines.
     pub jsonl: bool,
+    /// Whether the input is a WARC file.
+    pub warc: bool,
     /// Whether every line is flushed.
     pub line_buffered: bool,
     /// Whether the numbers of pages, bytes and faults are reported on standard error.
     pub progress: bool,
+}
+
+impl Stream {
+    /// Returns whether the input is a stream of pages.
+    pub fn is_one(&self) -> bool {
+        self.jsonl || self.warc
+    }
 }
 
 /// How a page is read.
@@ -187,11 +196,11 @@ impl<'a> Options<'a> {
         if self.in_place && self.files.as_slice().contains(&"-") {
             return Some("--in-place: standard input can't be written back");
         }
-        if self.stream.jsonl && (self.in_place || matches!(self.job, Job::Tree)) {
-            return Some("--jsonl: not with --in-place or --tree");
+        if self.stream.is_one() && (self.in_place || matches!(self.job, Job::Tree)) {
+            return Some("--jsonl and --warc: not with --in-place or --tree");
         }
-        if self.stream.progress && !self.stream.jsonl {
-            return Some("--progress: only with --jsonl");
+        if self.stream.progress && !self.stream.is_one() {
+            return Some("--progress: only with --jsonl or --warc");
         }
         if self.printing.inner && !matches!(self.printing.show, Show::Html | Show::Markdown) {
             return Some("--inner: only HTML and Markdown have an inside");
@@ -273,6 +282,7 @@ fn is_colored(matches: &ArgMatches<'_>, terminal: bool) -> Result<bool, Fault> {
 fn stream_of(matches: &ArgMatches<'_>) -> Stream {
     Stream {
         jsonl: matches.get_flag("jsonl"),
+        warc: matches.get_flag("warc"),
         line_buffered: matches.get_flag("line-buffered"),
         progress: matches.get_flag("progress"),
     }
@@ -344,7 +354,7 @@ fn show_of<'a>(matches: &ArgMatches<'a>) -> Show<'a> {
             return *show;
         }
     }
-    let as_json = matches.get_flag("json") || matches.get_flag("jsonl");
+    let as_json = matches.get_flag("json") || matches.get_flag("jsonl") || matches.get_flag("warc");
     if as_json && !matches.get_flag("inner") {
         return Show::All;
     }

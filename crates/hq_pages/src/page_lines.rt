@@ -5,14 +5,12 @@ use base64::engine::general_purpose::STANDARD;
 use serde_json::{Map, Value};
 use std::alloc::Global;
 
-/// A line that was read: the bytes of its page, and its other members, which are copied to the
-/// answer.
+/// The page of a line.
 #[derive(Drop)]
 pub struct PageLine {
     pub page: Vec<u8>,
     /// Whether the page came as a text: then it is in UTF-8, whatever it declares.
     pub is_text: bool,
-    pub members: Map<String, Value>,
 }
 
 /// Why a line has no page.
@@ -39,20 +37,19 @@ impl LineFault {
     }
 }
 
-/// Reads a line: an object with the member `html`, a text, or `html_base64`, bytes in base64. Fails
-/// if the line isn't a JSON object, has neither member, or has bad base64. If memory runs out, it
-/// fails with one of these faults, too.
-pub fn read_line(alloc: Global, line: &[u8]) -> Result<PageLine, LineFault> {
+/// Reads a line: an object with the member `html`, a text, or `html_base64`, bytes in base64.
+/// Returns the page, and the other members of the object, which are copied to the answer, also if
+/// there is no page. There is none if the line isn't a JSON object, has neither member, or has bad
+/// base64. If memory runs out, one of these faults is returned, too.
+pub fn read_line(alloc: Global, line: &[u8]) -> (Map<String, Value>, Result<PageLine, LineFault>) {
     let Ok(Value::Object(mut members)) = Value::from_slice(alloc, line) else {
-        return Err(LineFault::Json);
+        return (Map::new(alloc), Err(LineFault::Json));
     };
     let is_text = members.contains_key("html");
-    let page = page_of(alloc, &mut members)?;
-    Ok(PageLine {
-        page,
-        is_text,
-        members,
-    })
+    match page_of(alloc, &mut members) {
+        Ok(page) => (members, Ok(PageLine { page, is_text })),
+        Err(fault) => (members, Err(fault)),
+    }
 }
 
 /// Removes the page from the members and returns its bytes.

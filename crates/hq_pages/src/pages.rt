@@ -11,6 +11,7 @@ use dom_query::{
 use std::alloc::Global;
 use std::fs;
 use std::io::Read;
+use text_decoding::label_in_content;
 
 /// Returns the node whose children are the top of what was read: the root, or for a fragment the
 /// element `html` around it.
@@ -107,6 +108,24 @@ pub fn read_line_page(
     } else {
         charset_in(reading)
     };
+    read_whole(alloc, bytes, charset, page_options(reading))
+}
+
+/// Returns the page that came with this field `Content-Type` of HTTP, and how it was decoded. The
+/// field names the encoding unless the command line does.
+pub fn read_received_page(
+    alloc: Global,
+    bytes: &[u8],
+    content_type: Option<&[u8]>,
+    reading: Reading<'_>,
+) -> Result<(Document, Found), Fault> {
+    let mut charset = charset_in(reading);
+    if charset.transport.is_none()
+        && let Some(value) = content_type
+        && let Some(label) = label_in_content(value)
+    {
+        charset.transport = Encoding::for_label(label);
+    }
     read_whole(alloc, bytes, charset, page_options(reading))
 }
 

@@ -41,11 +41,52 @@ pub fn text_of(node: &NodeRef<'_>, printing: Printing<'_>) -> Result<Option<Stri
     match printing.show {
         Show::Attr(name) => attr_of(alloc, node, name, printing.trims),
         Show::Text => Ok(Some(trimmed(alloc, node.text()?, printing.trims)?)),
-        Show::Markdown => Ok(Some(serialize_md(node, !printing.inner, None)?)),
+        Show::Markdown => Ok(Some(markdown_of(alloc, node, printing.inner)?)),
         Show::Csv => Ok(Some(csv_of(node)?)),
         _ if printing.inner => Ok(Some(node.inner_html()?)),
         _ => Ok(Some(node.html()?)),
     }
+}
+
+/// Returns a match as Markdown, or what is inside it, without empty lines around it. An item of a
+/// list is written with a marker: `-`, or `1.` in an ordered list.
+fn markdown_of(alloc: Global, node: &NodeRef<'_>, inner: bool) -> Result<String, Fault> {
+    let written = serialize_md(node, !inner, None)?;
+    let text = written.as_str().trim_matches('\n');
+    if inner || !node.has_name("li") {
+        return Ok(String::from_str(alloc, text)?);
+    }
+    let (marker, indent) = if is_in_ordered_list(node) {
+        ("1. ", "   ")
+    } else {
+        ("- ", "  ")
+    };
+    marked(alloc, text, marker, indent)
+}
+
+fn is_in_ordered_list(item: &NodeRef<'_>) -> bool {
+    match item.parent() {
+        Some(parent) => parent.has_name("ol"),
+        None => false,
+    }
+}
+
+/// Returns the lines of a text with the marker before the first, and every other line indented
+/// unless it is empty.
+fn marked(alloc: Global, text: &str, marker: &str, indent: &str) -> Result<String, Fault> {
+    let mut written = String::new(alloc);
+    let mut front = marker;
+    for line in text.split('\n') {
+        if !written.is_empty() {
+            written.push('\n')?;
+        }
+        if !line.is_empty() || front == marker {
+            written.push_str(front)?;
+        }
+        written.push_str(line)?;
+        front = indent;
+    }
+    Ok(written)
 }
 
 /// Returns the value of a match's attribute, or `None` if it has none of that name. The name is
