@@ -23,18 +23,11 @@ ROOTS, SHARED = ("test_calls", "test_queries", "test_times", "test_batch", "test
 UNCALLED = {
     ("Tree", "move_allowed"): "its caller proves that the move is allowed, which only tree construction (html5_trees) does",
     ("", "plain_trees_are_built"): "a law: it has no body",
-<<<<<<< ours
-=======
     ("", "calm_trees_are_built"): "a law: it has no body",
     ("", "calm_html_is_parsed"): "a law: it calls laws alone",
     ("", "safe_html_is_parsed"): "a law: it calls laws alone",
     ("", "one_parse"): "a law: it has no body",
     ("", "examples"): "a law: it has no body",
-    ("", "declared_encoding"): "no reader of pages in other encodings than UTF-8 yet",
-    ("", "decode_into"): "no reader of pages in other encodings than UTF-8 yet",
-    ("Encoding", "for_bom"): "no reader of pages in other encodings than UTF-8 yet",
-    ("SingleByte", "decode_into"): "no reader of pages in other encodings than UTF-8 yet",
->>>>>>> theirs
 }
 # Comments, strings, characters, and imports of specs.
 BLANK = re.compile(r'//[^\n]*|"(?:\\.|[^"\\])*"|\'(?:\\[^\']+|[^\'\\])\'|\bghost use [^;]*;', re.S)
