@@ -18,11 +18,16 @@ import re
 import sys
 
 ROOT = pathlib.Path(__file__).resolve().parents[2]
-ROOTS, SHARED = ("test_calls", "test_queries", "test_times", "test_batch", "test_encodings", "examples", "dq", "hq", "hq_pages"), "test_lines"
+ROOTS, SHARED = ("test_calls", "test_queries", "test_times", "test_batch", "test_encodings", "test_clean", "examples", "dq", "hq", "hq_pages"), "test_lines"
 # Public functions that no program calls, with the reason. One that a program calls is a fault here.
 UNCALLED = {
     ("Tree", "move_allowed"): "its caller proves that the move is allowed, which only tree construction (html5_trees) does",
     ("", "plain_trees_are_built"): "a law: it has no body",
+    ("", "calm_trees_are_built"): "a law: it has no body",
+    ("", "calm_html_is_parsed"): "a law: it calls laws alone",
+    ("", "safe_html_is_parsed"): "a law: it calls laws alone",
+    ("", "one_parse"): "a law: it has no body",
+    ("", "examples"): "a law: it has no body",
 }
 # Comments, strings, characters, and imports of specs.
 BLANK = re.compile(r'//[^\n]*|"(?:\\.|[^"\\])*"|\'(?:\\[^\']+|[^\'\\])\'|\bghost use [^;]*;', re.S)

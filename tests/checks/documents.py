@@ -8,8 +8,9 @@ A fenced block is checked by the words behind its fence:
 - `text output`, or another word before `output`: what the `sh` block before it must print, on standard output and standard error.
 - `rust`: part of a file of crates/examples/src or crates/callers/src, line for line, apart from its indentation.
 - `text`: part of what the program `examples` prints.
-- `python`: run by python3 where the Python package can be loaded (`python output` is compared like `text output`).
-- Any other word (`ebnf`, `c`, `toml`, `html`, `css`): shown, not checked.
+- `python`: run by python3, where the Python package has its library (`python output` is compared like `text output`).
+- `c` and `c output`: built and run by tests/checks/c_and_python.py.
+- Any other word (`ebnf`, `toml`, `html`, `css`): shown, not checked.
 
 A block without a word is a fault, and so is a link to a file or a heading that isn't there."""
 import os
@@ -26,7 +27,7 @@ from rows import ROOT, built  # noqa: E402
 
 EXAMPLES = ROOT / "crates" / "examples"
 CALLERS = ROOT / "crates" / "callers"
-SHOWN = {"ebnf", "shown", "c", "toml", "html", "css", "json", "yaml", "make", "diff", "markdown", "antt", "contracts"}
+SHOWN = {"ebnf", "shown", "toml", "html", "css", "json", "yaml", "make", "diff", "markdown", "antt", "contracts"}
 SECONDS = 120
 
 
@@ -90,6 +91,8 @@ def faults_of(page, sources, printed_by_examples, counted):
             where, fault = f"{page.relative_to(ROOT)}:{start}", None
             if not words:
                 fault = "this block has no word behind its fence"
+            elif words[0] == "c" or (words[0] == "python" and not has_python()):
+                continue
             elif words[-1] == "output":
                 wanted = "\n".join(block) + "\n"
                 if printed is None:
@@ -100,7 +103,7 @@ def faults_of(page, sources, printed_by_examples, counted):
                     fault = "the command prints nothing"
             elif words == ["sh"]:
                 printed, fault = fault_of_run(block, words, folder)
-            elif words == ["python"] and has_python():
+            elif words == ["python"]:
                 printed, fault = fault_of_run(block, words, folder)
             elif words[0] == "rust":
                 fault = None if any(is_part_of(block, text) for text in sources) else "no file of the quoted crates has this"

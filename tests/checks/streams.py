@@ -6,6 +6,7 @@ import fcntl
 import itertools
 import os
 import pathlib
+import select
 import socket
 import struct
 import subprocess
@@ -138,6 +139,18 @@ def in_pieces():
             yield f"{' '.join(words)[:30]!r} from a file", "nothing", "some output"
 
 
+def flushed():
+    """What `hq --line-buffered` has printed of a line before the next one comes."""
+    words = [built("hq"), "--jsonl", "--line-buffered", "-c", "p"]
+    with subprocess.Popen(words, stdin=subprocess.PIPE, stdout=subprocess.PIPE, stderr=subprocess.PIPE) as ran:
+        ran.stdin.write(b'{"html":"<p>"}\n')
+        ran.stdin.flush()
+        ready, _, _ = select.select([ran.stdout], [], [], SECONDS)
+        line = os.read(ran.stdout.fileno(), 1000) if ready else b""
+        ran.stdin.close()
+        return line, ran.wait(timeout=SECONDS)
+
+
 def streams():
     """Returns how many endings are as they must be, and how many aren't."""
     null = subprocess.DEVNULL
@@ -160,6 +173,7 @@ def streams():
     else:
         print("no device that is full")
     endings += in_pieces()
+    endings.append(("a line that is flushed", flushed(), (b'{"count":1}\n', 0)))
     failed = [(name, got, wanted) for name, got, wanted in endings if got != wanted]
     for name, got, wanted in failed:
         print(f"{name}: wanted {wanted}, got {got}"[:1000])

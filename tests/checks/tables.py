@@ -38,28 +38,29 @@ def named_faults(known):
             yield f"the name {name} has no rows"
 
 
-def text_faults(known, errors):
-    """The texts in arrays and functions that have no row."""
+def is_shown(array, text, rows, known):
+    """Whether a text in an array or a function has a row."""
+    if array == "FORMATS":
+        return any(text in row.get("error", "") for row in rows)
+    if array == "SHOWN":
+        return f"OPTIONS: {text}" in known
+    if array == "OPTIONS" and text not in source_tables.OTHER_OPTIONS:
+        used = any(f"--{text}" in row.get("args", []) and "error" not in row for row in rows)
+        return used or f"OPTIONS: {text}" in known
+    return f"{array}: {text}" in known or array == "OPTIONS"
+
+
+def text_faults(known, rows):
+    """The texts in arrays and functions that have no row, and arrays that source_tables.py names and no source has."""
     for array, text in source_tables.text_entries():
-        if array == "FORMATS":
-            is_there = any(text in error for error in errors)
-        elif array == "SHOWN":
-            is_there = f"OPTIONS: {text}" in known
-        elif array == "OPTIONS":
-            is_there = f"OPTIONS: {text}" in known or text in source_tables.OTHER_OPTIONS
-            is_there = is_there or any(f"--{text}" in row.get("args", []) and "error" not in row for row in ALL)
-        elif array == "mathml_attr":
-            is_there = f"mathml_attr: {text}" in known
-        else:
-            is_there = f"{array}: {text}" in known
-        if not is_there:
+        if not is_shown(array, text, rows, known):
             yield f"{array}: {text} has no row"
     arrays = {name for _, name, _ in source_tables.arrays()}
     listed = {*source_tables.OTHER_ARRAYS, *source_tables.NAME_ARRAYS} - {"LETTERS"}
     yield from (f"source_tables.py: there is no array {name}" for name in sorted(listed - arrays))
 
 
-def page_faults(known):
+def page_faults():
     """The beginnings of entries in docs/STANDARD.md that no row has, and those that rows have and the page hasn't."""
     page = (ROOT / "docs" / "STANDARD.md").read_text(encoding="utf-8").partition("## The rows for each rule")[2]
     named = set(re.findall(r"`([^`]+)`", "".join(re.findall(r"^\| 13.*\| (.*) \|$", page, re.M))))
@@ -71,17 +72,15 @@ def page_faults(known):
         yield f"docs/STANDARD.md names rows {name}, and there are none"
 
 
-ALL = []
 # The files whose rows are named in docs/STANDARD.md.
 PEERS = ("modes", "names", "fragments", "texts", "characters", "rules")
 
 
 def tables():
     """Returns how many entries have rows, and how many haven't."""
-    ALL.extend(rows_of("*.jsonl"))
-    known = {row["entry"] for row in ALL if "entry" in row}
-    errors = [row["error"] for row in ALL if isinstance(row.get("error"), str)]
-    faults = list(dict.fromkeys([*named_faults(known), *text_faults(known, errors), *page_faults(known)]))
+    rows = list(rows_of("*.jsonl"))
+    known = {row["entry"] for row in rows if "entry" in row}
+    faults = list(dict.fromkeys([*named_faults(known), *text_faults(known, rows), *page_faults()]))
     for fault in faults[:40]:
         print(f"tables: {fault}")
     entries = {*source_tables.named_entries(), *source_tables.text_entries()}
@@ -92,7 +91,7 @@ def tables():
 
 if __name__ == "__main__":
     failed = tables()[1]
-    counts = collections.Counter(row["entry"].partition(":")[0] for row in ALL if "entry" in row)
+    counts = collections.Counter(row["entry"].partition(":")[0] for row in rows_of("*.jsonl") if "entry" in row)
     for table, count in sorted(counts.items()):
         print(f"{count:6} {table}")
     sys.exit(1 if failed else 0)

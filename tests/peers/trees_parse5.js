@@ -1,6 +1,6 @@
 // Trees of pages by parse5, in the form of html5lib's tests of tree construction, as `hq --tree` prints them. Standard input is a JSON
 // list of [text, context or null, scripting]; a context is the name of an HTML element, or one behind `svg` or `math`. Prints a JSON list
-// of [tree, quirks mode].
+// of [tree, quirks mode, HTML].
 const fs = require('fs');
 const parse5 = require('parse5');
 
@@ -54,7 +54,7 @@ const read = ([text, context, scripting]) => {
         top = parse5.parseFragment(parse5.defaultTreeAdapter.createElement(name, uri, []), text, options);
     }
     for (const child of top.childNodes) lines_of(child, 0, lines);
-    return [lines.map((line) => line + '\n').join(''), top.mode || ''];
+    return [lines.map((line) => line + '\n').join(''), top.mode || '', parse5.serialize(top)];
 };
 
 console.log(JSON.stringify(JSON.parse(fs.readFileSync(0, 'utf8')).map(read)));

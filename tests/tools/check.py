@@ -38,6 +38,7 @@ sys.dont_write_bytecode = True
 TESTS = pathlib.Path(__file__).resolve().parents[1]
 for folder in ("tools", "checks", "second_definitions"):
     sys.path.insert(0, str(TESTS / folder))
+import c_and_python  # noqa: E402
 import clean  # noqa: E402
 import coverage  # noqa: E402
 import depth  # noqa: E402
@@ -50,6 +51,7 @@ import paths  # noqa: E402
 import reference  # noqa: E402
 import refusals  # noqa: E402
 import standard  # noqa: E402
+import standard_parsing  # noqa: E402
 import standard_rules  # noqa: E402
 import streams  # noqa: E402
 import tables as entries_of_tables  # noqa: E402
@@ -275,8 +277,8 @@ def main():
     clock, rows_alone = Clock(), sys.argv[1:] == ["--rows"]
     counts, edits_left = (None, lambda: (0, 0)) if rows_alone else gate(clock)
     tables = [rows, cleaned, followed, asked_each_way]
-    tables += [documents.documents, reference.reference, options.options, standard.standard, standard_rules.checked]
-    tables += [wrong_bodies, coverage.coverage, entries_of_tables.tables, hostile.hostile, decoded]
+    tables += [c_and_python.c_and_python, documents.documents, reference.reference, options.options, standard.standard]
+    tables += [standard_rules.checked, standard_parsing.checked, wrong_bodies, coverage.coverage, entries_of_tables.tables, hostile.hostile, decoded]
     counts = [counts] if counts else []
     with ThreadPoolExecutor() as pool:
         # (what is done beside the edits neither measures the processor time of others nor changes a child before it starts)

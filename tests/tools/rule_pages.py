@@ -147,6 +147,7 @@ RULES = {
         ("1<form a=1>2</form>3<form b=2>4", "form"),
         ("<template><form a=1>1</form></template><form b=2>3", "form"),
         ("</form><form a=1>1", "form"),
+        f"{D}<template><form><button></form>1",
     ],
     "head pointer": [
         f"{D}<head></head><meta><style>1</style><body>2",
@@ -178,6 +179,10 @@ RULES = {
         f"{D}</br><frameset>",
         f"{D}<head></head><body a=1><frameset>",
         f"{D}<table><td><frameset>",
+        f"{D}1<template></template><frameset>",
+        f"{D}<body><template></template><frameset>",
+        f"{D}<p></p><template></template><frameset>",
+        f"{D}<template></template><p></p><frameset>",
     ],
     "frameset in the body": [
         f"{D}<p></p><frameset a=1><frame></frameset>1",
@@ -209,6 +214,12 @@ RULES = {
         f"{D}<table><tfoot>1<tr>2</tfoot><td>3",
         f"{D}<table><thead> <b>1</b> </thead> <td>3",
     ],
+    "a null in a long text": [
+        f"{D}<{front}>{('a' * at) + chr(0) + 'b' * (40 - at)}"
+        for front in ("p", "select", "table", "svg", "title", "plaintext")
+        for at in (0, 1, 15, 16, 17, 31, 32, 39, 40)
+    ]
+    + [f"{D}<p>{chr(0)}{'b' * count}" for count in (14, 15, 16, 20)],
     "a text joins the one before": [
         f"{D}1<table>2</table>3",
         f"{D}<table>1<b></b>2",
@@ -272,6 +283,14 @@ RULES = {
         "<html><p><table>",
         " <p><table>",
         ("<p><table>", "div"),
+        "<!doctype html",
+        "<!doctype html ",
+        "<!doctype html public 'x'",
+        "<!doctype html system 'x",
+        "<!doctype",
+        "<!doctype html system 'x' y",
+        "</p>",
+        "",
     ],
     # 13.2.6.4.3 to 13.2.6.4.6, the head
     "html: attributes": [
@@ -280,6 +299,10 @@ RULES = {
         f"{D}<head><html a=1>",
         f"{D}<table><html a=1>",
         f"{D}<select><html a=1>",
+        f"{D}<html a=1><html b=2><!--3--><head c=4>",
+        f"{D}<head><html a=1><!--1-->",
+        f"{D}<head></head><html a=1><!--1--><meta>",
+        f"{D}<head><noscript><html a=1><!--1-->",
     ],
     "in head: noscript": [
         f"{D}<head><noscript><link><style>1</style></noscript><meta>",
@@ -299,6 +322,8 @@ RULES = {
         f"{D}<div><template><div></template>1</div>2",
         f"{D}<template><svg><g></template>1",
         f"{D}<template><svg></template>1",
+        f"{D}<template><select><option></template>1",
+        f"{D}<template><table><tr><td></template>1",
     ],
     "template: end of the page": [
         f"{D}<template>",
@@ -387,6 +412,8 @@ RULES = {
         f"{D}<a><table><a>1</table>2",
         f"{D}<a><table><td><a>1</td></table>2<a>3",
         f"{D}<a href=1><b><a href=2>3",
+        f"{D}<a>1<table><b>2<a>3",
+        f"{D}<a>1<table><b><i>2<a>3<td>4",
     ],
     "in body: nobr": [
         f"{D}<nobr>1<nobr>2",
@@ -486,6 +513,16 @@ RULES = {
         f"{D}<i><b><p>1</b>2</i>3",
         f"{D}<em><a><i><p>1</a></p>2<p>3",
         f"{D}<b id=1><i id=2><b id=3><p>1</b>2</i>3</b>4",
+        f"{D}<b><i><p><u>1</b></p>2",
+        f"{D}<b><i><s><p><u><tt>1</b></p>2",
+        f"{D}<em><b><i><p><u>1</b></p>2</em>3",
+    ],
+    "adoption agency: bookmark behind eight rounds": [
+        f"{D}<b>{''.join(f'<i a={it}><div>' for it in range(count))}<u>1</b>{'</div>' * count}2<p>3" for count in (6, 7, 8, 9, 12)
+    ]
+    + [
+        f"{D}<b><div>{''.join(f'<i a={it}><div>' for it in range(count))}<u>1</b>{'</div>' * count}2<p>3"
+        for count in (6, 7, 8, 9)
     ],
     "adoption agency: foster parenting": [
         f"{D}<table><b><p>1</b>2",
@@ -554,6 +591,24 @@ RULES = {
         f"{D}<table><svg>1<td>2",
         f"{D}<table></body></html></caption></col></colgroup></td></th></tr>1",
     ],
+    "in table: text in an element before the table": [f"{D}<table><p><b></p><div> <i>1", f"{D}<table><tr><p><b></p><div> <i>1<td>2"],
+    "in table: scope of parts": [
+        *(f"{D}<table><{it}><object>1<caption>2" for it in ("tbody", "thead", "tfoot")),
+        *(f"{D}<table><{it}><object>1</{it}>2<td>3" for it in ("tbody", "thead", "tfoot")),
+        *(f"{D}<table><tr><object>1{it}2<td>3" for it in ("</tr>", "</tbody>", "</table>", "<tr>", "<tbody>")),
+        *(f"{D}<table><td><object>1{it}2<td>3" for it in ("</td>", "</tr>", "</tbody>", "</table>", "<td>", "<tr>", "<col>")),
+        *(f"{D}<table><caption><object>1{it}2<td>3" for it in ("</caption>", "</table>", "<td>", "<col>")),
+        *(f"{D}<table><object>1{it}2<td>3" for it in ("</table>", "<table>")),
+    ],
+    "in table: clear the stack back": [
+        *(f"{D}<table><b>1<{it}><!--2-->" for it in ("caption", "col", "colgroup", "tbody", "tfoot", "tr", "td")),
+        *(f"{D}<table><tbody><b>1<{it}><!--2-->" for it in ("tr", "th", "caption", "tfoot")),
+        *(f"{D}<table><tbody><b>1</{it}><!--2-->" for it in ("tbody", "table")),
+        *(f"{D}<table><tr><b>1<{it}><!--2-->" for it in ("td", "tr", "tbody", "col")),
+        *(f"{D}<table><tr><b>1</{it}><!--2-->" for it in ("tr", "tbody", "table")),
+        *(f"{D}<table><td><b>1</{it}><!--2-->" for it in ("td", "tr", "tbody", "table")),
+        *(f"{D}<table><caption><b>1</{it}><!--2-->" for it in ("caption", "table")),
+    ],
     "in caption": [
         f"{D}<table><caption>1<p>2</caption>3",
         f"{D}<table><caption>1</table>2",
@@ -572,6 +627,7 @@ RULES = {
         ("1<col>2</colgroup>3<col>", "colgroup"),
         f"{D}<template><col></colgroup>1<col><p>",
         f"{D}<table><colgroup> 1 2\n3<col>",
+        f"{D}<table><colgroup><col></col><col>",
     ],
     "in table body": [
         f"{D}<table><tbody><tr>1</tbody>2<tr>3",
@@ -704,6 +760,10 @@ RULES = {
         f"{D}<svg><script/>1",
         f"{D}<svg><title/>1",
         f"{D}<svg><script>1<b></script>2",
+        f"{D}<svg><g a\r/>1",
+        f"{D}<svg\r/>1",
+        f"{D}<svg><g\0/>1",
+        f"{D}<svg><g a\r/b>1",
     ],
     "foreign: end tags": [
         f"{D}<svg><g><path></g>1</svg>2",
@@ -744,6 +804,19 @@ RULES = {
         ("<p>1", "math annotation-xml"),
         ("<svg>1", "math annotation-xml"),
         ("<p>1<svg>2", "svg foreignObject"),
+    ],
+    # 13.2.5.33, a tag with many attributes
+    "attributes: many": [
+        f"{D}<p {' '.join(f'a{it}={it}' for it in range(count))} A3=x a{count - 1}=y a0=z b=1 B=2><p a0=3 b=4 a0=5>6"
+        for count in (4, 15, 16, 17, 18, 40)
+    ],
+    "attributes: without a name": [f'{D}<p ="a&amp;b" c=1>2', f'{D}<p ="a">', f'{D}<p a=1 ="b&c" d>', f"{D}<p ='a&amp;b' =>", f"{D}<p \r=c d>", f"{D}<p a='b&c' \r=d e>", f"{D}<p \r\r\n =c>"],
+    "attributes: many, and a second tag": [
+        f"{D}<p><p {' '.join(f'a{it}={it}' for it in range(count))}><b a1 a0=2 c=3 a1=4><i {' '.join(f'b{it}' for it in range(20))} b1=x>5"
+        for count in (17, 18, 40)
+    ]
+    + [
+        f"{D}<p {' '.join(f'a{it}={it}' for it in range(40))}><b a39=1 a0=2 c=3 a39=4><i {' '.join(f'a{it}' for it in range(20))}>5"
     ],
     # 13.2.7 the end
     "the end": [

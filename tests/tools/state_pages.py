@@ -144,7 +144,7 @@ NUMBERS = (
     "99999999999 xFFFFFFFFF"
 )
 
-MARKS = [*"-!/<>&\"'=?`[]; ", "\t", "\n", "\f", "\r", "\r\n", "\0"]
+MARKS = [*"-!/<>&\"'=?`[]; ", "\t", "\n", "\f", "\r", "\r\n", "\r \n\t\f ", "\0"]
 # What else is put into most states, into those of character references, and into those that look for words.
 LETTERS = ["a", "Z", "0", "é", "--"]
 REFERENCE_LETTERS = ["a", "f", "g", "x", "X", "Z", "0", "9", "#", "é", ":", "@"]
@@ -189,5 +189,6 @@ def mode_characters(pages, modes):
         for run in RUNS:
             pages.add(f"{mode}: {run!r}", f"{front}{run}{behind}")
     for front in ("<pre>", "<listing>", "<textarea>", "<p>", "<pre a=1><b>", "<title>"):
-        for run in ("\n1", "\n\n1", "\r\n1", "\r1", "1\n", "\n", "<!--1-->\n2", "&#10;1", "\n<b>1"):
+        behind = ("<!--1-->\n2", "<!doctype x>\n2", "1<!doctype x>\n2", "1<!--2-->\n3", "1</x>\n2", "1<b>\n2", "</x>\n1")
+        for run in ("\n1", "\n\n1", "\r\n1", "\r1", "1\n", "\n", "&#10;1", "\n<b>1", *behind):
             pages.add(f"skipped line feed: {front} {run!r}", f"<!doctype html>{front}{run}")

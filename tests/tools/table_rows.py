@@ -155,14 +155,14 @@ class Pages:
                 context = MENDED[name] if context == name else context
             words.append([text, context, scripting])
         ran = subprocess.run(["node", PEER], input=json.dumps(words), capture_output=True, text=True, check=True, env=node())
-        for (entry, text, context, scripting), name, (tree, mode) in zip(self.asked, behind, json.loads(ran.stdout)):
+        for (entry, text, context, scripting), name, (tree, mode, html) in zip(self.asked, behind, json.loads(ran.stdout)):
             if name:
                 tree = re.sub(rf"(?<=[< ]){MENDED[name]}(?=>)", name, tree)
-            yield entry, text, context, scripting, tree, mode
+            yield entry, text, context, scripting, tree, mode, html
 
     def rows(self):
         """The rows, with the peer's trees."""
-        for entry, text, context, scripting, tree, _ in self.answers():
+        for entry, text, context, scripting, tree, _, _ in self.answers():
             args = ["--tree", *(["--context", context] if context else []), *(["--scripting"] if scripting else [])]
             yield {"entry": entry, "args": args, "markup": text, "output": tree}
 
@@ -295,6 +295,55 @@ def calm_rows(entries):
         page = f"<!DOCTYPE html><html><head>{head}</head><body>{body}</body></html>"
         row = {"entry": f"calm: {text}", "args": ["--jsonl", "--document"]}
         yield {**row, "markup": written({"html": page}), "output": written({"document": page}), "status": 1}
+
+
+# Explicit markup that tree construction changes: an element of the first in one of the second, so that neither makes a page calm.
+NOT_CALM = {
+    "p": "p h1 pre ul table form",
+    "a": "a",
+    "button": "button",
+    "form": "form",
+    "h1": "h1 h6",
+    "ul": "p",
+    "li": "li",
+    "dd": "dd dt",
+    "dl": "p",
+    "table": "p tr td table",
+    "tbody": "td p tbody",
+    "tr": "tr p tbody",
+    "td": "td tr",
+    "caption": "caption td",
+    "colgroup": "p colgroup",
+    "body": "body head html col frame",
+    "head": "p head body",
+    "title": "b",
+    "option": "option p",
+    "nobr": "nobr",
+    "ruby": "rt",
+    "select": "p",
+}
+
+
+def not_calm_rows():
+    """Pages of explicit markup that aren't calm, and are read by tree construction."""
+    pages, inner = Pages(), {"tr": "<tbody><tr>", "td": "<tbody><tr><td>", "li": "<li>", "dd": "<dd>", "dt": "<dt>"}
+    around = {"li": "ul", "dd": "dl", "tbody": "table", "caption": "table", "colgroup": "table", "option": "select"}
+    for outer, names in NOT_CALM.items():
+        for name in names.split():
+            body = f"<{outer}>1<{name}>2</{name}>3</{outer}>4"
+            if outer in around:
+                body = f"<{around[outer]}>{body}</{around[outer]}>"
+            if outer in ("tr", "td"):
+                body = f"<table>{inner[outer]}5<{name}>2</{name}>3</{outer}></tbody></table>4"
+            pages.add(f"calm: {outer}, not with {name} in it", f"<!DOCTYPE html><html><head></head><body>{body}</body></html>")
+    pages.add("calm: pre, not with a line feed first", "<!DOCTYPE html><html><head></head><body><pre>\n1</pre></body></html>")
+    for name in ("x-y", "math", "svg", "desc", "nobr", "select", "template", "frame"):
+        pages.add(f"calm: not with {name}", f"<!DOCTYPE html><html><head></head><body><p>1</p><{name}>2</{name}>3</body></html>")
+    pages.add("calm: not with a null", "<!DOCTYPE html><html><head></head><body>1\0<p>2\0</p></body></html>")
+    pages.add("calm: not with a carriage return", "<!DOCTYPE html><html><head></head><body>1\r\n<p>2\r</p></body></html>")
+    for entry, text, _, _, _, _, html in pages.answers():
+        row = {"entry": entry, "args": ["--jsonl", "--document"], "markup": written({"html": text})}
+        yield {**row, "output": written({"document": html}), "status": 1}
 
 
 def written(value):
@@ -441,7 +490,7 @@ def quirks_rows(entries):
     for page in rule_pages.RULES["quirks"]:
         if not isinstance(page, tuple):
             pages.add("rule quirks", page)
-    for entry, text, _, _, _, mode in pages.answers():
+    for entry, text, _, _, _, mode, _ in pages.answers():
         row = rows.setdefault(entry, {"entry": entry, "args": [], "output": ""})
         row["args"].append(f"web-mode {text}")
         row["output"] += f"quirks_mode: {MODES_OF_PEER[mode]}\n"
@@ -475,7 +524,7 @@ def main():
     write("rules", peers_rows(rule_pages.rules))
     write("quirks", quirks_rows(entries), "test_calls")
     made = [make(entries) for make in (calm_rows, address_rows, cleaning_rows, conflict_rows, hint_rows)]
-    write("hq", [row for rows in [*made, option_rows()] for row in rows])
+    write("hq", [row for rows in [*made, option_rows(), not_calm_rows()] for row in rows])
 
 
 if __name__ == "__main__":

@@ -1,5 +1,5 @@
 -- What a policy leaves of trees.
-use Rattle.std.specs.Prelude.{ℕ, ◌==◌, List, [], ◌∷◌, slice_get, if◌then◌else◌}
+use Rattle.std.specs.Prelude.{ℕ, ◌==◌, List, [], ◌∷◌, codes, slice_get, unwrap_or, if◌then◌else◌}
 use Rattle.dom_nodes.specs.Ascii.{line_feed}
 use Rattle.std.specs.Option.{option_map_or}
 use Rattle.dom_nodes.specs.Words.{is_among}
@@ -7,6 +7,7 @@ use Rattle.dom_nodes.specs.declared.node_data.NodeData.{NodeData}
 use Rattle.dom_nodes.specs.declared.node_data.NodeData.TheVariants.{Element as AnElement, Text}
 use Rattle.dom_links.specs.Forest.{Forest, children_of}
 use Rattle.dom_links.specs.Trees.{Trees, NoTrees, Tree, trees}
+use Rattle.dom_trees.specs.Views.{page_part}
 use Rattle.dom_markup.specs.Names.{void_names}
 use Rattle.dom_markup.specs.ValueTrees.{ValueTrees}
 use Rattle.dom_markup.specs.ValueTrees.ValueTrees.{no_trees, text_node, comment_node, doctype_node, element_node}
@@ -71,3 +72,11 @@ in_body policy = record { scope = behind (inside (inside top Html) Body); left =
 -- what is left of what stands below a node
 abbrev pub cleaned_below : Policy → Forest → ℕ → ValueTrees
 cleaned_below policy forest n = cleaned policy forest (in_body policy) (trees forest (children_of forest n))
+
+-- the body of a page, or the root if the page has none
+abbrev pub body_of : Forest → ℕ
+body_of forest = unwrap_or (page_part forest (codes "body")) 0
+
+-- what is left of what stands in the body of a page
+abbrev pub cleaned_body : Policy → Forest → ValueTrees
+cleaned_body policy forest = cleaned_below policy forest (body_of forest)

@@ -1,13 +1,14 @@
 //! Writes the start tag of an element that stays.
 
-ghost use Rattle.std.specs.Prelude.{◌≡◌, ◌++◌, [], IfOk, OnOk, Some, map, string_bytes};
+ghost use Rattle.std.specs.Prelude.{◌≡◌, ◌++◌, [], IfOk, OnOk, Some, if◌then◌else◌};
+ghost use Rattle.std.specs.Prelude.{map, string_bytes};
 ghost use Rattle.std.specs.List.{flat_map, list_any};
 ghost use Rattle.std.specs.Option.{option_map};
 ghost use Rattle.dom_clean.specs.Fates.{allowed_attr, allows_value, attrs_behind};
 ghost use Rattle.dom_clean.specs.Fates.{cleaned_attr, cleaned_attrs};
 ghost use Rattle.dom_clean.specs.Fates.{cleaned_value, has_attribute, kept_attr};
 ghost use Rattle.dom_clean.specs.Fates.{is_data_name, is_named, is_nowhere, is_own};
-ghost use Rattle.dom_clean.specs.Fates.{link_rel};
+ghost use Rattle.dom_clean.specs.Fates.{link_rel, with_name};
 ghost use Rattle.dom_clean.specs.Policies.{own_of, policy_of};
 ghost use Rattle.dom_clean.specs.Policy.{address_names, link_names};
 ghost use Rattle.dom_clean.specs.Written.{attribute_text, start_of};
@@ -130,7 +131,8 @@ fn push_rel(lists: &Lists, element: &str, text: &mut String) -> Result<(), OutOf
     }
 }
 
-/// Writes what is left of an attribute; `place` is the attributes before it, and it.
+/// Writes what is left of an attribute; `place` is the attributes before it, and it. An attribute
+/// that stays is compared with all those before it.
 fn push_attr(
     alloc: Global,
     lists: &Lists,
@@ -143,16 +145,33 @@ fn push_attr(
         (cleaned_attr (policy_of lists.now) element.now place.entry.0.now place.entry.1.now)) }
 {
     let (before, attr) = place;
-    let local = attr.name.local();
-    let name = local.as_str();
     if !is_nowhere(attr) {
         return Ok(());
     }
+    let local = attr.name.local();
+    let name = local.as_str();
+    let value = spellable(alloc, attr.value.as_str())?;
+    match kept_value(alloc, lists, (element, name), value)? {
+        Some(value) => push_first(before, name, value.as_str(), text),
+        None => Ok(()),
+    }
+}
+
+/// Writes an attribute, unless one of those before it has its name.
+fn push_first(
+    before: &[Attr],
+    name: &str,
+    value: &str,
+    text: &mut String,
+) -> Result<(), OutOfMemory>
+    ensures { OnOk result (string_bytes text.new ≡ string_bytes text.old
+        ++ (if list_any (is_named name.now) before.now then []
+        else attribute_text (record { name = name.now; value = value.now }))) }
+{
     if has_named(before, name) {
         return Ok(());
     }
-    let value = spellable(alloc, attr.value.as_str())?;
-    push_allowed(alloc, lists, (element, name), value, text)
+    push_valued(text, name, value)
 }
 
 /// Returns whether one of the attributes has that name and no namespace.
@@ -176,39 +195,34 @@ fn is_named(attr: &Attr, name: &str) -> bool
     attr.name.local().as_str() == name
 }
 
-/// Writes what is left of an attribute; `names` is the name of its element, and its own.
-fn push_allowed(
+/// Returns what is left of the value of an attribute, or `None` if the attribute is removed;
+/// `names` is the name of its element, and its own.
+fn kept_value(
     alloc: Global,
     lists: &Lists,
     names: (&str, &str),
     value: String,
-    text: &mut String,
-) -> Result<(), OutOfMemory>
-    ensures { OnOk result (string_bytes text.new ≡ string_bytes text.old
-        ++ flat_map attribute_text (allowed_attr (policy_of lists.now) names.entry.0.now
-        names.entry.1.now (string_bytes value))) }
+) -> Result<Option<String>, OutOfMemory>
+    ensures { IfOk result (λ left. with_name names.entry.1.now (option_map string_bytes left)
+        ≡ allowed_attr (policy_of lists.now) names.entry.0.now names.entry.1.now
+        (string_bytes value)) }
 {
     match cleaned_value(alloc, lists, names.1, value)? {
-        Some(value) => push_kept(lists, names, value.as_str(), text),
-        None => Ok(()),
+        Some(value) => Ok(allowed_value(lists, names, value)),
+        None => Ok(None),
     }
 }
 
-/// Writes an attribute, if the policy allows it; `names` is the name of its element, and its own.
-fn push_kept(
-    lists: &Lists,
-    names: (&str, &str),
-    value: &str,
-    text: &mut String,
-) -> Result<(), OutOfMemory>
-    ensures { OnOk result (string_bytes text.new ≡ string_bytes text.old ++ flat_map attribute_text
-        (kept_attr (policy_of lists.now) names.entry.0.now names.entry.1.now (Some value.now))) }
+/// Returns the value, if the policy allows it; `names` is the name of its element, and its own.
+fn allowed_value(lists: &Lists, names: (&str, &str), value: String) -> Option<String>
+    ensures { with_name names.entry.1.now (option_map string_bytes result)
+        ≡ kept_attr (policy_of lists.now) names.entry.0.now names.entry.1.now
+        (Some (string_bytes value)) }
 {
-    let (element, name) = names;
-    if !has_attribute(lists, element, name, value) {
-        return Ok(());
+    if has_attribute(lists, names.0, names.1, value.as_str()) {
+        return Some(value);
     }
-    push_valued(text, name, value)
+    None
 }
 
 /// Returns whether the policy allows an attribute with that value on an element of that name.

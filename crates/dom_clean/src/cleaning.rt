@@ -1,7 +1,7 @@
 //! Cleans the text of a fragment or of a page.
 
 ghost use Rattle.std.specs.Prelude.{◌≡◌, IfOk, MatchOption, string_bytes};
-ghost use Rattle.dom_clean.specs.Cleaned.{cleaned_below};
+ghost use Rattle.dom_clean.specs.Cleaned.{body_of, cleaned_below, cleaned_body};
 ghost use Rattle.dom_clean.specs.Laws.{IsSafePage, IsSafeText, page_around, page_of};
 ghost use Rattle.dom_clean.specs.Policies.{policy_of};
 ghost use Rattle.dom_clean.specs.Policy.{is_sound};
@@ -43,15 +43,29 @@ pub fn clean(alloc: Global, source: &str, policy: &Policy) -> Result<String, Pag
 /// has no body: `<!DOCTYPE html>`, then `html` with an empty `head` and a `body`, all without
 /// attributes. Fails only if memory is refused or the node ids run out.
 pub fn clean_page(alloc: Global, source: &str, policy: &Policy) -> Result<String, PageFault>
-    ensures { IfOk result (λ page. IsSafePage policy.now (string_bytes page)) }
+    ensures safe { IfOk result (λ page. IsSafePage policy.now (string_bytes page)) }
+    ensures calm { (trees : ValueTrees) → IsCalmPage source.now trees → IfOk result (λ page.
+        string_bytes page
+        ≡ page_around (text_of (cleaned_body policy.now (document_of trees)))) }
 {
-    let document = parse_page(alloc, source, Options::default())?;
-    let body = match document.tree.body() {
+    let options = Options {
+        scripting: false,
+        max_depth: None,
+        errors: false,
+    };
+    let document = parse_page(alloc, source, options)?;
+    let text = clean_node(&document.tree, body_of(&document.tree), policy)?;
+    Ok(page_around(alloc, text.as_str())?)
+}
+
+/// Returns the body of a page, or the root if the page has none.
+fn body_of(tree: &Tree) -> NodeId
+    ensures { result ≡ body_of tree.now }
+{
+    match tree.body() {
         Some(body) => body.id,
         None => NodeId::root(),
-    };
-    let text = clean_node(&document.tree, body, policy)?;
-    Ok(page_around(alloc, text.as_str())?)
+    }
 }
 
 /// Returns the page with the text in its body.

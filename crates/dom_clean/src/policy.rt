@@ -89,8 +89,8 @@ impl fmt::Display for PolicyFault {
 impl Error for PolicyFault {}
 
 impl Policy {
-    /// Returns the policy of these rules, or the first fault that was found in them. It succeeds
-    /// exactly if the rules are sound.
+    /// Returns the policy of these rules. Fails with the first fault that is found in them; it
+    /// succeeds exactly if the rules are sound, that is, if the result is safe.
     pub fn new(rules: Rules) -> Result<Policy, PolicyFault>
         ensures { MatchResult result (λ policy. (policy ≡ rules) × (is_sound rules ≡ true))
             (λ _. is_sound rules ≡ false) }

@@ -20,6 +20,12 @@ mod selector_places;
 pub mod serializing;
 
 pub use document_md::DocumentMd;
+pub use dom_clean::Policy;
+pub use dom_clean::PolicyFault;
+pub use dom_clean::Rules;
+pub use dom_clean::clean;
+pub use dom_clean::clean_page;
+pub use dom_clean::clean_tree;
 pub use dom_edits::edit::SelectionFault;
 pub use dom_edits::selection_mut::SelectionMut;
 pub use dom_html5::Charset;

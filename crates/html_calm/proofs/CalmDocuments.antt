@@ -19,8 +19,8 @@ use Rattle.html_rules.specs.Building.{built, built_fragment, fragment_start, is_
 use Rattle.html_standard.specs.Tokens.{AnEof}
 use Rattle.html_rules.specs.PlainTrees.{FlowPlace, IsPlainPage, Page, are_plain, flow_contexts, outermost, page_trees, space_node}
 use Rattle.html_rules.specs.TreeTokens.{is_among, tokens, no_trees as no_nodes, text_node as text, doctype_node as doctype, element_node as element}
-use Rattle.html_rules.proofs.PagesBuilt.{fragment_heard, heard_fragment, heard_page, page_heard}
-use Rattle.html_rules.proofs.TreeLists.{heard_children, heard_tree, of_each}
+use Rattle.html_rules.proofs.PagesBuilt.{fragment_switched, switched_fragment, switched_page, page_switched}
+use Rattle.html_rules.proofs.TreeLists.{switched_children, switched_tree, of_each}
 use Rattle.html_calm.specs.CalmTrees.{attrs_of, have_no_null, nodes_of, place_in}
 use Rattle.html_calm.proofs.CalmPlain.{calm_is_plain}
 use Rattle.html_calm.proofs.CategoryPlaces.{is_inner}
@@ -90,7 +90,7 @@ document html head_attributes body_attributes head space body = doctype_node (co
 document_built : (html head_attributes body_attributes : List Attribute) (head : ValueTrees) (space : List ℕ) (body : ValueTrees) →
     are_calm top (document html head_attributes body_attributes head space body) ≡ true → IsPlainTrees true (document html head_attributes body_attributes head space body) →
     have_no_null (document html head_attributes body_attributes head space body) ≡ true →
-    heard_page (tokens (nodes_of (document html head_attributes body_attributes head space body))) ≡ Some (nodes_of (document html head_attributes body_attributes head space body))
+    switched_page (tokens (nodes_of (document html head_attributes body_attributes head space body))) ≡ Some (nodes_of (document html head_attributes body_attributes head space body))
 unfolding document
 document_built html head_attributes body_attributes head space body c p z =
     let rest : ValueTrees = behind_text space (element_node (codes "body") body_attributes body no_trees) in
@@ -103,19 +103,19 @@ document_built html head_attributes body_attributes head space body c p z =
     let same : nodes_of (document html head_attributes body_attributes head space body) ≡ page_trees page =
     ap (λ t. doctype (codes "html") (element (codes "html") (attrs_of html) (element (codes "head") (attrs_of head_attributes) (nodes_of head) t) no_nodes)) r.is in
     let plain : IsPlainPage page = record { metadata = calm_is_plain (inside (inside top Html) Head) head refl p.4.5.5 n.0 parts.0; space = r.white; contents = r.contents } in
-    ap (λ t. heard_page (tokens t)) same ∙ page_heard page plain ∙ ap Some (sym same)
+    ap (λ t. switched_page (tokens t)) same ∙ page_switched page plain ∙ ap Some (sym same)
 
 -- the tokens of a calm document give that document
-pub calm_document_heard : (t : ValueTrees) → IsCalmDocument t → IsPlainTrees true t → have_no_null t ≡ true → heard_page (tokens (nodes_of t)) ≡ Some (nodes_of t)
+pub calm_document_switched : (t : ValueTrees) → IsCalmDocument t → IsPlainTrees true t → have_no_null t ≡ true → switched_page (tokens (nodes_of t)) ≡ Some (nodes_of t)
 unfolding document
-calm_document_heard t d p z =
+calm_document_switched t d p z =
     let same : t ≡ document d.html_attributes d.head_attributes d.body_attributes d.head d.space d.body = d.is in
     let whole : ValueTrees = document d.html_attributes d.head_attributes d.body_attributes d.head d.space d.body in
-    subst (λ (x : ValueTrees). heard_page (tokens (nodes_of x)) ≡ Some (nodes_of x)) (sym same)
+    subst (λ (x : ValueTrees). switched_page (tokens (nodes_of x)) ≡ Some (nodes_of x)) (sym same)
     (document_built d.html_attributes d.head_attributes d.body_attributes d.head d.space d.body (ap (are_calm top) (sym same) ∙ d.calm) (subst (IsPlainTrees true) same p) (ap have_no_null (sym same) ∙ z))
 
 pub calm_document_built : (t : ValueTrees) → IsCalmDocument t → IsPlainTrees true t → have_no_null t ≡ true → built (tokens (nodes_of t)) ≡ Some (nodes_of t)
-calm_document_built t d p z = heard_tree start (tokens (nodes_of t) ++ AnEof ∷ []) (nodes_of t) (calm_document_heard t d p z)
+calm_document_built t d p z = switched_tree start (tokens (nodes_of t) ++ AnEof ∷ []) (nodes_of t) (calm_document_switched t d p z)
 
 -- what the category of a context is to the rules
 FlowContext : List ℕ → Type 0
@@ -130,13 +130,13 @@ unfolding FlowContext
 inner_context context is = (contexts context is).0
 
 -- the same as a fragment in such a context
-pub calm_fragment_heard : (context : List ℕ) (t : ValueTrees) → is_among context flow_contexts ≡ true → are_calm (record top { parent = kind_of context }) t ≡ true → IsPlainTrees false t → have_no_null t ≡ true →
-    heard_fragment context (tokens (nodes_of t)) ≡ Some (nodes_of t)
+pub calm_fragment_switched : (context : List ℕ) (t : ValueTrees) → is_among context flow_contexts ≡ true → are_calm (record top { parent = kind_of context }) t ≡ true → IsPlainTrees false t → have_no_null t ≡ true →
+    switched_fragment context (tokens (nodes_of t)) ≡ Some (nodes_of t)
 unfolding FlowContext
-calm_fragment_heard context t is c p z =
+calm_fragment_switched context t is c p z =
     let k : (is_inner (kind_of context) ≡ true) × (place_in (kind_of context) ≡ FlowPlace) = contexts context is in
-    fragment_heard context (nodes_of t) is (ap (λ place. are_plain (outermost place) (nodes_of t)) (sym k.1) ∙ calm_is_plain (record top { parent = kind_of context }) t k.0 p z c)
+    fragment_switched context (nodes_of t) is (ap (λ place. are_plain (outermost place) (nodes_of t)) (sym k.1) ∙ calm_is_plain (record top { parent = kind_of context }) t k.0 p z c)
 
 pub calm_fragment_built : (context : List ℕ) (t : ValueTrees) → is_among context flow_contexts ≡ true → are_calm (record top { parent = kind_of context }) t ≡ true → IsPlainTrees false t → have_no_null t ≡ true →
     built_fragment context (tokens (nodes_of t)) ≡ Some (nodes_of t)
-calm_fragment_built context t is c p z = heard_children (fragment_start context) (tokens (nodes_of t) ++ AnEof ∷ []) (nodes_of t) (calm_fragment_heard context t is c p z)
+calm_fragment_built context t is c p z = switched_children (fragment_start context) (tokens (nodes_of t) ++ AnEof ∷ []) (nodes_of t) (calm_fragment_switched context t is c p z)

@@ -13,11 +13,12 @@ ghost use Rattle.html_rules.specs.TreeTokens.{is_among, tokens};
 
 /// By the tree construction rules of the HTML Standard, the tokens of a calm document give that
 /// document, and the tokens of calm trees give these trees as a fragment in `body`, `div`, `li`,
-/// `td` or `blockquote`.
+/// `td` or `blockquote`, if no text contains U+0000.
 pub fn calm_trees_are_built()
-    ensures document { (trees : ValueTrees) → IsCalmDocument trees → IsPlainTrees true trees →
-        have_no_null trees ≡ true → built (tokens (nodes_of trees)) ≡ Some (nodes_of trees) }
-    ensures fragment { (context : List ℕ) (trees : ValueTrees) → is_among context flow_contexts ≡ true →
-        are_calm (scope_in context) trees ≡ true → IsPlainTrees false trees →
-        have_no_null trees ≡ true → built_fragment context (tokens (nodes_of trees)) ≡ Some (nodes_of trees) }
+    ensures document { (trees : ValueTrees) → IsCalmDocument trees → IsPlainTrees true trees
+        → have_no_null trees ≡ true → built (tokens (nodes_of trees)) ≡ Some (nodes_of trees) }
+    ensures fragment { (context : List ℕ) (trees : ValueTrees)
+        → is_among context flow_contexts ≡ true → are_calm (scope_in context) trees ≡ true
+        → IsPlainTrees false trees → have_no_null trees ≡ true
+        → built_fragment context (tokens (nodes_of trees)) ≡ Some (nodes_of trees) }
 {}

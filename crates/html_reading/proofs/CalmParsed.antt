@@ -20,7 +20,7 @@ use Rattle.dom_html5.specs.Calm.{IsCalmDocument, is_calm_text}
 use Rattle.html_rules.specs.Building.{Building, children_of, fragment_start, start, tree_of}
 use Rattle.html_rules.specs.PlainTrees.{flow_contexts}
 use Rattle.html_rules.specs.TreeTokens.{is_among, tokens}
-use Rattle.html_rules.proofs.TreeLists.{heard_steps, of_each}
+use Rattle.html_rules.proofs.TreeLists.{switched_steps, of_each}
 use Rattle.html_standard.specs.Machine.{normalized, start_in}
 use Rattle.html_standard.specs.PlainMarkup.{AreAnswered, Item, Piece, is_raw_char, tokens as item_tokens, written}
 use Rattle.html_standard.specs.Reading.{IsFeedback, plain_feedback}
@@ -41,7 +41,7 @@ use Rattle.html_laws.proofs.TreesPlain.{trees_plain}
 use Rattle.html_laws.proofs.TreesTokens.{trees_tokens}
 use Rattle.html_laws.proofs.TreesWritten.{trees_written}
 use Rattle.html_calm.specs.CalmTrees.{have_no_null, nodes_of, scope_in}
-use Rattle.html_calm.proofs.CalmDocuments.{calm_document_heard, calm_fragment_heard, inner_context}
+use Rattle.html_calm.proofs.CalmDocuments.{calm_document_switched, calm_fragment_switched, inner_context}
 use Rattle.html_reading.specs.Laws.{CalmDocumentsAreParsed, CalmFragmentsAreParsed, CalmHtmlIsParsed, CalmPagesAreParsed}
 use Rattle.html_reading.specs.Parsing.{IsFragmentOf, IsPageOf, first_state, parsed, parser}
 use Rattle.html_reading.proofs.CalmReadable.{document_readable}
@@ -89,21 +89,21 @@ follows : FollowsHtml (plain_feedback false)
 follows seen token = behind_last seen token []
 
 markup_parsed : (by : ValueChar) (piece : ℕ → Piece) → WritesValues by piece → (top : Bool) (t : ValueTrees) → IsPlainTrees top t → AreReadable t → tokens_in t ≡ tokens (nodes_of t) →
-    (b e : Building) → heard_steps b (tokens (nodes_of t) ++ AnEof ∷ []) ≡ Some e → (steps : ℕ) × (parsed steps (parser (start_in Data) (normalized (chars (text_by by false t))) b) ≡ Some e)
+    (b e : Building) → switched_steps b (tokens (nodes_of t) ++ AnEof ∷ []) ≡ Some e → (steps : ℕ) × (parsed steps (parser (start_in Data) (normalized (chars (text_by by false t))) b) ≡ Some e)
 markup_parsed by piece writes top t plain readable same b e h =
     let items : List Item = items_of piece t in
     let text : chars (text_by by false t) ≡ flat_map written items = chars_are (trees_written by piece writes top t plain readable) in
     let found : flat_map item_tokens items ≡ tokens (nodes_of t) = trees_tokens by piece writes top t plain readable ∙ same in
     let answers : IsFeedback (plain_feedback false) × AreAnswered (plain_feedback false) [] items = html_answers (plain_feedback false) follows piece t readable [] in
     let p : (steps : ℕ) × (parsed steps (parser (start_in Data) (normalized (flat_map written items)) b) ≡ Some e) =
-    page_parsed answers.0 plain_page items (trees_plain by piece writes top t plain readable) answers.1 b e (ap (λ ts. heard_steps b (ts ++ AnEof ∷ [])) found ∙ h) in
+    page_parsed answers.0 plain_page items (trees_plain by piece writes top t plain readable) answers.1 b e (ap (λ ts. switched_steps b (ts ++ AnEof ∷ [])) found ∙ h) in
     (p.0, ap (λ cs. parsed p.0 (parser (start_in Data) (normalized cs) b)) text ∙ p.1)
 
 -- as a page
 pub documents_parsed : (by : ValueChar) (piece : ℕ → Piece) → WritesValues by piece → CalmDocumentsAreParsed by
-documents_parsed by piece writes t d plain readable = by_end (heard_steps start (tokens (nodes_of t) ++ AnEof ∷ [])) refl (calm_document_heard t d plain (no_null t readable))
+documents_parsed by piece writes t d plain readable = by_end (switched_steps start (tokens (nodes_of t) ++ AnEof ∷ [])) refl (calm_document_switched t d plain (no_null t readable))
   where
-    by_end : (o : Option Building) → heard_steps start (tokens (nodes_of t) ++ AnEof ∷ []) ≡ o → tree_of o ≡ Some (nodes_of t) → IsPageOf (chars (text_by by false t)) (nodes_of t)
+    by_end : (o : Option Building) → switched_steps start (tokens (nodes_of t) ++ AnEof ∷ []) ≡ o → tree_of o ≡ Some (nodes_of t) → IsPageOf (chars (text_by by false t)) (nodes_of t)
     by_end None is k = cc
     by_end (Some e) is k =
         let m : (steps : ℕ) × (parsed steps (parser (start_in Data) (normalized (chars (text_by by false t))) start) ≡ Some e) =
@@ -115,9 +115,9 @@ begins_in_data : (context : List ℕ) → is_among context flow_contexts ≡ tru
 begins_in_data = of_each (λ context. first_state context ≡ Data) flow_contexts (refl, (refl, (refl, (refl, (refl, tt)))))
 
 pub fragments_parsed : (by : ValueChar) (piece : ℕ → Piece) → WritesValues by piece → CalmFragmentsAreParsed by
-fragments_parsed by piece writes context t is calm plain readable = by_start (fragment_start context) refl (calm_fragment_heard context t is calm plain (no_null t readable))
+fragments_parsed by piece writes context t is calm plain readable = by_start (fragment_start context) refl (calm_fragment_switched context t is calm plain (no_null t readable))
   where
-    by_end : (b : Building) → fragment_start context ≡ Some b → (o : Option Building) → heard_steps b (tokens (nodes_of t) ++ AnEof ∷ []) ≡ o → children_of o ≡ Some (nodes_of t) →
+    by_end : (b : Building) → fragment_start context ≡ Some b → (o : Option Building) → switched_steps b (tokens (nodes_of t) ++ AnEof ∷ []) ≡ o → children_of o ≡ Some (nodes_of t) →
         IsFragmentOf context (chars (text_by by false t)) (nodes_of t)
     by_end b begins None ends k = cc
     by_end b begins (Some e) ends k =
@@ -128,10 +128,10 @@ fragments_parsed by piece writes context t is calm plain readable = by_start (fr
               ∙ ap (λ o. children_of (option_and_then (λ c. parsed m.0 (parser (start_in Data) (normalized (chars (text_by by false t))) c)) o)) begins ∙ ap children_of m.1 ∙ k,
         )
 
-    by_start : (o : Option Building) → fragment_start context ≡ o → children_of (option_and_then (λ b. heard_steps b (tokens (nodes_of t) ++ AnEof ∷ [])) o) ≡ Some (nodes_of t) →
+    by_start : (o : Option Building) → fragment_start context ≡ o → children_of (option_and_then (λ b. switched_steps b (tokens (nodes_of t) ++ AnEof ∷ [])) o) ≡ Some (nodes_of t) →
         IsFragmentOf context (chars (text_by by false t)) (nodes_of t)
     by_start None begins k = cc
-    by_start (Some b) begins k = by_end b begins (heard_steps b (tokens (nodes_of t) ++ AnEof ∷ [])) refl k
+    by_start (Some b) begins k = by_end b begins (switched_steps b (tokens (nodes_of t) ++ AnEof ∷ [])) refl k
 
 -- ---- calm pages
 

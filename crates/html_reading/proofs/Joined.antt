@@ -8,7 +8,7 @@ use Rattle.std.proofs.lemmas.Option.{same_Some}
 use mathlib.Core.Path.{◌∙◌, sym, ap, subst}
 use Rattle.html_rules.specs.Building.{Building, tree_step, tree_steps}
 use Rattle.html_rules.specs.RuleWords.{Mode, Initial, BeforeHtml, BeforeHead, InHead, AfterHead, InBody, Text, InTable, InCaption, InColumnGroup, InTableBody, InRow, InCell, AfterBody, AfterAfterBody}
-use Rattle.html_rules.proofs.TreeLists.{Steps, heard_are_steps, heard_steps, if_heard, is_heard, says}
+use Rattle.html_rules.proofs.TreeLists.{Steps, switched_are_steps, switched_steps, if_switched, is_switched, text_if}
 use Rattle.html_standard.specs.Laws.{PlainPagesAreRead}
 use Rattle.html_standard.specs.Machine.{Machine, Step, normalized, start_in, step}
 use Rattle.html_standard.specs.PlainMarkup.{Item, AreAnswered, IsAnswered, CharItem, StartTag, EndTag, CommentItem, DoctypeItem, TextElement, RawElement, is_plain_item, start_token, state_of, tokens, written}
@@ -54,23 +54,23 @@ behind_last [] t more = refl
 behind_last (x ∷ []) t more = refl
 behind_last (x ∷ y ∷ seen) t more = behind_last (y ∷ seen) t more
 
--- where the name of the tag has a state and the tag is heard, a text is read
-text_in : (mode : Mode) (found : Option State) (state : State) → found ≡ Some state → says found mode ≡ true → mode ≡ Text
+-- where the name of the tag has a state and the tag switches the tokenizer, the mode is "text"
+text_in : (mode : Mode) (found : Option State) (state : State) → found ≡ Some state → text_if found mode ≡ true → mode ≡ Text
 text_in Text found state is h = refl
-text_in Initial found state is h = absurd (true≢false (sym h ∙ ap (λ s. says s Initial) is))
-text_in BeforeHtml found state is h = absurd (true≢false (sym h ∙ ap (λ s. says s BeforeHtml) is))
-text_in BeforeHead found state is h = absurd (true≢false (sym h ∙ ap (λ s. says s BeforeHead) is))
-text_in InHead found state is h = absurd (true≢false (sym h ∙ ap (λ s. says s InHead) is))
-text_in AfterHead found state is h = absurd (true≢false (sym h ∙ ap (λ s. says s AfterHead) is))
-text_in InBody found state is h = absurd (true≢false (sym h ∙ ap (λ s. says s InBody) is))
-text_in InTable found state is h = absurd (true≢false (sym h ∙ ap (λ s. says s InTable) is))
-text_in InCaption found state is h = absurd (true≢false (sym h ∙ ap (λ s. says s InCaption) is))
-text_in InColumnGroup found state is h = absurd (true≢false (sym h ∙ ap (λ s. says s InColumnGroup) is))
-text_in InTableBody found state is h = absurd (true≢false (sym h ∙ ap (λ s. says s InTableBody) is))
-text_in InRow found state is h = absurd (true≢false (sym h ∙ ap (λ s. says s InRow) is))
-text_in InCell found state is h = absurd (true≢false (sym h ∙ ap (λ s. says s InCell) is))
-text_in AfterBody found state is h = absurd (true≢false (sym h ∙ ap (λ s. says s AfterBody) is))
-text_in AfterAfterBody found state is h = absurd (true≢false (sym h ∙ ap (λ s. says s AfterAfterBody) is))
+text_in Initial found state is h = absurd (true≢false (sym h ∙ ap (λ s. text_if s Initial) is))
+text_in BeforeHtml found state is h = absurd (true≢false (sym h ∙ ap (λ s. text_if s BeforeHtml) is))
+text_in BeforeHead found state is h = absurd (true≢false (sym h ∙ ap (λ s. text_if s BeforeHead) is))
+text_in InHead found state is h = absurd (true≢false (sym h ∙ ap (λ s. text_if s InHead) is))
+text_in AfterHead found state is h = absurd (true≢false (sym h ∙ ap (λ s. text_if s AfterHead) is))
+text_in InBody found state is h = absurd (true≢false (sym h ∙ ap (λ s. text_if s InBody) is))
+text_in InTable found state is h = absurd (true≢false (sym h ∙ ap (λ s. text_if s InTable) is))
+text_in InCaption found state is h = absurd (true≢false (sym h ∙ ap (λ s. text_if s InCaption) is))
+text_in InColumnGroup found state is h = absurd (true≢false (sym h ∙ ap (λ s. text_if s InColumnGroup) is))
+text_in InTableBody found state is h = absurd (true≢false (sym h ∙ ap (λ s. text_if s InTableBody) is))
+text_in InRow found state is h = absurd (true≢false (sym h ∙ ap (λ s. text_if s InRow) is))
+text_in InCell found state is h = absurd (true≢false (sym h ∙ ap (λ s. text_if s InCell) is))
+text_in AfterBody found state is h = absurd (true≢false (sym h ∙ ap (λ s. text_if s AfterBody) is))
+text_in AfterAfterBody found state is h = absurd (true≢false (sym h ∙ ap (λ s. text_if s AfterAfterBody) is))
 
 -- ---- steps of tree construction
 
@@ -96,42 +96,42 @@ steps_then b c e xs ys first whole =
     let s : Split b xs ys e = steps_split b e xs ys whole in
     subst (λ (x : Building). tree_steps x ys ≡ Some e) (same_Some s.middle c (sym s.first ∙ first)) s.second
 
--- the state behind a token, which is heard
-record Heard (b : Building) (seen : List Token) (t : Token) : Type 0 where
+-- the state behind a token, which switches the tokenizer if its name has a state
+record Switched (b : Building) (seen : List Token) (t : Token) : Type 0 where
   now : Building
   steps : tree_steps b (seen ++ t ∷ []) ≡ Some now
-  heard : is_heard t now ≡ true
+  is : is_switched t now ≡ true
 
-heard_at : (b e : Building) (seen : List Token) (t : Token) (more : List Token) → Steps b (seen ++ t ∷ more) e → Heard b seen t
-heard_at b e [] t more h = by_step (tree_step b t) refl h
+switched_at : (b e : Building) (seen : List Token) (t : Token) (more : List Token) → Steps b (seen ++ t ∷ more) e → Switched b seen t
+switched_at b e [] t more h = by_step (tree_step b t) refl h
   where
-    by_heard : (c : Building) (x : Bool) → is_heard t c ≡ x → tree_step b t ≡ Some c → option_and_then (λ d. heard_steps d more) (cond x (Some c) None) ≡ Some e → Heard b [] t
-    by_heard c true k is later = record { now = c; steps = ap (option_and_then (λ d. tree_steps d [])) is; heard = k }
-    by_heard c false k is later = cc
+    by_switch : (c : Building) (x : Bool) → is_switched t c ≡ x → tree_step b t ≡ Some c → option_and_then (λ d. switched_steps d more) (cond x (Some c) None) ≡ Some e → Switched b [] t
+    by_switch c true k is later = record { now = c; steps = ap (option_and_then (λ d. tree_steps d [])) is; is = k }
+    by_switch c false k is later = cc
 
-    by_step : (o : Option Building) → tree_step b t ≡ o → option_and_then (λ d. heard_steps d more) (option_and_then (if_heard t) o) ≡ Some e → Heard b [] t
+    by_step : (o : Option Building) → tree_step b t ≡ o → option_and_then (λ d. switched_steps d more) (option_and_then (if_switched t) o) ≡ Some e → Switched b [] t
     by_step None is k = cc
-    by_step (Some c) is k = by_heard c (is_heard t c) refl is k
-heard_at b e (x ∷ seen) t more h = by_step (λ c k. heard_at c e seen t more k) (tree_step b x) refl h
+    by_step (Some c) is k = by_switch c (is_switched t c) refl is k
+switched_at b e (x ∷ seen) t more h = by_step (λ c k. switched_at c e seen t more k) (tree_step b x) refl h
   where
-    by_heard : ((c : Building) → Steps c (seen ++ t ∷ more) e → Heard c seen t) → (c : Building) (y : Bool) → tree_step b x ≡ Some c → option_and_then (λ d. heard_steps d (seen ++ t ∷ more)) (cond y (Some c) None) ≡ Some e → Heard b (x ∷ seen) t
-    by_heard each c true is k =
-        let s : Heard c seen t = each c k in
-        record { now = s.now; steps = ap (option_and_then (λ d. tree_steps d (seen ++ t ∷ []))) is ∙ s.steps; heard = s.heard }
-    by_heard each c false is k = cc
+    by_switch : ((c : Building) → Steps c (seen ++ t ∷ more) e → Switched c seen t) → (c : Building) (y : Bool) → tree_step b x ≡ Some c → option_and_then (λ d. switched_steps d (seen ++ t ∷ more)) (cond y (Some c) None) ≡ Some e → Switched b (x ∷ seen) t
+    by_switch each c true is k =
+        let s : Switched c seen t = each c k in
+        record { now = s.now; steps = ap (option_and_then (λ d. tree_steps d (seen ++ t ∷ []))) is ∙ s.steps; is = s.is }
+    by_switch each c false is k = cc
 
-    by_step : ((c : Building) → Steps c (seen ++ t ∷ more) e → Heard c seen t) → (o : Option Building) → tree_step b x ≡ o → option_and_then (λ d. heard_steps d (seen ++ t ∷ more)) (option_and_then (if_heard x) o) ≡ Some e → Heard b (x ∷ seen) t
+    by_step : ((c : Building) → Steps c (seen ++ t ∷ more) e → Switched c seen t) → (o : Option Building) → tree_step b x ≡ o → option_and_then (λ d. switched_steps d (seen ++ t ∷ more)) (option_and_then (if_switched x) o) ≡ Some e → Switched b (x ∷ seen) t
     by_step each None is k = cc
-    by_step each (Some c) is k = by_heard each c (is_heard x c) is k
+    by_step each (Some c) is k = by_switch each c (is_switched x c) is k
 
 -- ---- plain markup is answered as it needs it
 
 said : (b e : Building) (seen : List Token) (t : Token) (more : List Token) (state : State) → Steps b (seen ++ t ∷ more) e → switch_behind (seen ++ t ∷ []) ≡ Some state →
     switch_after (tree_steps b (seen ++ t ∷ [])) (seen ++ t ∷ []) ≡ Some state
 said b e seen t more state h is =
-    let s : Heard b seen t = heard_at b e seen t more h in
+    let s : Switched b seen t = switched_at b e seen t more h in
     ap (λ o. switch_after o (seen ++ t ∷ [])) s.steps
-    ∙ ap (λ m. switch_in m (seen ++ t ∷ [])) (text_in s.now.mode (switch_behind (t ∷ [])) state (sym (behind_last seen t []) ∙ is) s.heard) ∙ is
+    ∙ ap (λ m. switch_in m (seen ++ t ∷ [])) (text_in s.now.mode (switch_behind (t ∷ [])) state (sym (behind_last seen t []) ∙ is) s.is) ∙ is
 
 pub answered_so : (b e : Building) (seen : List Token) (items : List Item) (rest : List Token) → Steps b (seen ++ (flat_map tokens items ++ rest)) e → AreAnswered (plain_feedback false) seen items →
     AreAnswered (feedback_of b) seen items
@@ -225,10 +225,10 @@ joined_reads b e {r} {q} (next s is runs reads) c now stops all =
     parsed_more (parser r.machine r.text c) d e s is runs (steps_then b c d r.seen s.tokens now split.first)
     (subst (λ (m : Machine). Parsed (parser m s.rest d) e) (answer_is b d r.seen s.tokens s.machine split.first) rest)
 
--- a page of plain markup is parsed to the state that tree construction has behind its tokens, where its start tags are heard
+-- a page of plain markup is parsed to the state that tree construction has behind its tokens, where each token whose name has a state switches the tokenizer
 pub page_parsed : IsFeedback (plain_feedback false) → PlainPagesAreRead → (items : List Item) → list_all is_plain_item items ≡ true → AreAnswered (plain_feedback false) [] items →
     (b e : Building) → Steps b (flat_map tokens items ++ AnEof ∷ []) e → Parsed (parser (start_in Data) (normalized (flat_map written items)) b) e
 page_parsed honest law items plain answers b e h =
     let read : ReadsPage (feedback_of b) (flat_map written items) (flat_map tokens items ++ AnEof ∷ []) =
     law (feedback_of b) (is_feedback honest b) items plain (answered_so b e [] items (AnEof ∷ []) h answers) in
-    joined_reads b e read.reads b refl read.stops (ap (tree_steps b) (sym read.all) ∙ heard_are_steps b e (flat_map tokens items ++ AnEof ∷ []) h)
+    joined_reads b e read.reads b refl read.stops (ap (tree_steps b) (sym read.all) ∙ switched_are_steps b e (flat_map tokens items ++ AnEof ∷ []) h)

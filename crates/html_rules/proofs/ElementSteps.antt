@@ -11,7 +11,7 @@ use Rattle.html_rules.specs.TreeRules.{formatting}
 use Rattle.html_standard.specs.Reading.{switch_at}
 use Rattle.html_standard.specs.Tokens.{Attr, Token, AStart, AnEnd}
 use Rattle.html_rules.specs.TreeTokens.{Trees, no_trees, element_node, end_of, is_among, joined, tokens}
-use Rattle.html_rules.proofs.TreeLists.{Steps, ends_text, joined_joined, quiet_start, step_on, steps_on}
+use Rattle.html_rules.proofs.TreeLists.{Steps, ends_text, joined_joined, plain_start, step_on, steps_on}
 use Rattle.html_rules.proofs.RuleShapes.{Closes, ClosesFormatting, Runs, grown, inserted_plainly, open_of, marked}
 use Rattle.html_rules.proofs.StackKeys.{InFlow, Listable, Unlisted, mark, markers, Key, Outer, Ready, Steady, Fits, none, pass, mine, are_below, below_more, below_self, fits_below, fits_less, key, key_of, keys, outer, same_number, unlisted_number}
 use Rattle.html_rules.proofs.TextSteps.{Built, step_by_rules}
@@ -185,14 +185,14 @@ pub element_built : (name : List ℕ) (attrs : List Attr) (children : Trees) (v 
     Begun b o os name attrs x → Steady v x (key_of b.next name ∷ key o ∷ keys os) → IsBuilt v children →
     ((d : Building) → outer d ≡ x → Ready d (key_of b.next name ∷ key o ∷ keys os) → Ended d b.next name attrs children o os (outer b)) →
     Built b o os (AStart name attrs false ∷ (tokens children ++ end_of name)) (one name attrs children)
-element_built name attrs children v b o os x ends quiet start steady inner finish =
+element_built name attrs children v b o os x ends unswitched start steady inner finish =
     let c : Building = start.after in
     let f : Filled c b b.next name attrs children o os (outer b) =
     filled name attrs children v c b b.next o os (outer b) ends start.ready (subst (λ (y : Outer). Steady v y (key_of b.next name ∷ key o ∷ keys os)) (sym start.kept) steady) inner
     (λ d kept r. finish d (kept ∙ start.kept) r) in
     record {
       after = f.after;
-      steps = step_on (with_stack b (o ∷ os)) (with_stack c (open_of b.next name attrs no_trees ∷ o ∷ os)) (with_stack f.after (grown o name attrs children ∷ os)) (AStart name attrs false) (tokens children ++ end_of name) (quiet_start name attrs (with_stack c (open_of b.next name attrs no_trees ∷ o ∷ os)) quiet) start.step f.steps;
+      steps = step_on (with_stack b (o ∷ os)) (with_stack c (open_of b.next name attrs no_trees ∷ o ∷ os)) (with_stack f.after (grown o name attrs children ∷ os)) (AStart name attrs false) (tokens children ++ end_of name) (plain_start name attrs (with_stack c (open_of b.next name attrs no_trees ∷ o ∷ os)) unswitched) start.step f.steps;
       ready = f.ready;
       kept = f.kept;
     }

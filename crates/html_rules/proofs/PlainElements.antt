@@ -15,7 +15,7 @@ use Rattle.html_rules.proofs.RuleFacts.{block_opens, block_ordinary, block_no_he
 use Rattle.html_rules.proofs.RuleShapes.{Formatting, HoldsItems, IsBreak, IsSource, IsVoid, OpensBlock, OpensFormatting, OpensHeading, OpensItem, OpensPhrase, OpensRubyText, Ordinary, Runs, with_leaf}
 use Rattle.html_rules.proofs.StackKeys.{At, Barless, InFlow, Key, Outer, Passes, Ready, Steady, below_more, description_list_at, flow_of, into_flow, key, key_of, keys, lacking, lacks, lacks_more, list_at, none_needed, not_heading_at, outer, ruby_at, steady_in, top_key_is, unlisted_name}
 use Rattle.html_rules.proofs.TextSteps.{Built, anchor_opens, button_opens, input_made, nothing_to_close, step_by_rules}
-use Rattle.html_rules.proofs.TreeLists.{Steps, of_each, quiet_start, step_on}
+use Rattle.html_rules.proofs.TreeLists.{Steps, of_each, plain_start, step_on}
 
 -- an element of one name, wherever it may stand
 abbrev pub ElementBuilt : List ℕ → Class → Type 0
@@ -34,7 +34,7 @@ pub ordinary : (name : List ℕ) → Ordinary name → (attrs : List Attr) (chil
     Begun b o os name attrs (outer b) → Steady v (outer b) (key_of b.next name ∷ key o ∷ keys os) → IsBuilt v children →
     Built b o os (AStart name attrs false ∷ (tokens children ++ end_of name)) (one name attrs children)
 ordinary name facts attrs children v b o os f start steady inner =
-    element_built name attrs children v b o os (outer b) facts.ends facts.quiet start steady inner
+    element_built name attrs children v b o os (outer b) facts.ends facts.unswitched start steady inner
     (λ d kept r. subst (λ (y : Outer). Ended d b.next name attrs children o os y) kept
     (ended name facts.closes facts.unlisted d b.next attrs children o os (key o ∷ keys os) (subst (λ (y : Outer). InFlow y (key o ∷ keys os)) (sym kept) f) r))
 
@@ -43,7 +43,7 @@ formatted : (name : List ℕ) → Formatting name → (attrs : List Attr) (child
     Begun b o os name attrs (outer b) → Steady v (outer b) (key_of b.next name ∷ key o ∷ keys os) → IsBuilt v children → Ready b (key o ∷ keys os) →
     Built b o os (AStart name attrs false ∷ (tokens children ++ end_of name)) (one name attrs children)
 formatted name facts attrs children v b o os f start steady inner r =
-    element_built name attrs children v b o os (outer b) facts.ends facts.quiet start steady inner
+    element_built name attrs children v b o os (outer b) facts.ends facts.unswitched start steady inner
     (λ d kept rd. subst (λ (y : Outer). Ended d b.next name attrs children o os y) kept
     (ended_formatting name facts.listed facts.closes d b.next attrs children o os (key o ∷ keys os) (subst (λ (y : Outer). InFlow y (key o ∷ keys os)) (sym kept) f) rd r.numbers))
 
@@ -240,12 +240,12 @@ none_only (element_node name attrs children later) h = absurd (true≢false (sym
 pub leaf : (name : List ℕ) (attrs : List Attr) (children : Trees) (ok : Bool) (b : Building) (o : Open) (os : List Open) → is_none children ≡ true → end_of name ≡ [] → switch_at name ≡ None → Ready b (key o ∷ keys os) →
     tree_step (with_stack b (o ∷ os)) (AStart name attrs false) ≡ Some (with_leaf name attrs ok b o os) →
     Built b o os (AStart name attrs false ∷ (tokens children ++ end_of name)) (one name attrs children)
-leaf name attrs children ok b o os none ends quiet r step =
+leaf name attrs children ok b o os none ends unswitched r step =
     subst (λ (t : Trees). Built b o os (AStart name attrs false ∷ (tokens t ++ end_of name)) (one name attrs t)) (none_only children none)
     (record {
       after = record b { next = suc b.next; frameset_ok = ok };
       steps = subst (λ (xs : List Token). Steps (with_stack b (o ∷ os)) (AStart name attrs false ∷ xs) (with_leaf name attrs ok b o os)) (sym ends)
-          (step_on (with_stack b (o ∷ os)) (with_leaf name attrs ok b o os) (with_leaf name attrs ok b o os) (AStart name attrs false) [] (quiet_start name attrs (with_leaf name attrs ok b o os) quiet) step refl);
+          (step_on (with_stack b (o ∷ os)) (with_leaf name attrs ok b o os) (with_leaf name attrs ok b o os) (AStart name attrs false) [] (plain_start name attrs (with_leaf name attrs ok b o os) unswitched) step refl);
       ready = record { skip = r.skip; fits = r.fits; numbers = below_more b.next (key o ∷ keys os) r.numbers };
       kept = refl;
     })
@@ -253,27 +253,27 @@ leaf name attrs children ok b o os none ends quiet r step =
 flow_leaf : (name : List ℕ) (attrs : List Attr) (children : Trees) (ok : Bool) (b : Building) (o : Open) (os : List Open) → is_none children ≡ true → end_of name ≡ [] → switch_at name ≡ None →
     InFlow (outer b) (key o ∷ keys os) → Ready b (key o ∷ keys os) → Runs (AStart name attrs false) (with_stack b (o ∷ os)) (with_leaf name attrs ok b o os) →
     Built b o os (AStart name attrs false ∷ (tokens children ++ end_of name)) (one name attrs children)
-flow_leaf name attrs children ok b o os none ends quiet f r runs =
-    leaf name attrs children ok b o os none ends quiet r (step_by_rules (with_stack b (o ∷ os)) (with_leaf name attrs ok b o os) (key o ∷ keys os) (AStart name attrs false) f r.skip runs)
+flow_leaf name attrs children ok b o os none ends unswitched f r runs =
+    leaf name attrs children ok b o os none ends unswitched r (step_by_rules (with_stack b (o ∷ os)) (with_leaf name attrs ok b o os) (key o ∷ keys os) (AStart name attrs false) f r.skip runs)
 
 pub void : (name : List ℕ) → is_among name (names_of AVoid) ≡ true → ElementBuilt name AVoid
 void name is attrs children w h plain inner b o os s r =
     let parts : (is_flow w.place ≡ true) × (is_none children ≡ true) = and_parts (is_flow w.place) (is_none children) h in
     let facts : IsVoid name = of_each IsVoid (names_of AVoid) void_is name is in
-    flow_leaf name attrs children false b o os parts.1 facts.ends facts.quiet (flow_of w.place (outer b) (key o ∷ keys os) parts.0 s.place) r (facts.made attrs b o os (none_needed (o ∷ os) b.listed r.fits))
+    flow_leaf name attrs children false b o os parts.1 facts.ends facts.unswitched (flow_of w.place (outer b) (key o ∷ keys os) parts.0 s.place) r (facts.made attrs b o os (none_needed (o ∷ os) b.listed r.fits))
 
 pub source : (name : List ℕ) → is_among name (names_of ASource) ≡ true → ElementBuilt name ASource
 source name is attrs children w h plain inner b o os s r =
     let parts : (is_flow w.place ≡ true) × (is_none children ≡ true) = and_parts (is_flow w.place) (is_none children) h in
     let facts : IsSource name = of_each IsSource (names_of ASource) source_is name is in
-    flow_leaf name attrs children b.frameset_ok b o os parts.1 facts.ends facts.quiet (flow_of w.place (outer b) (key o ∷ keys os) parts.0 s.place) r (facts.made attrs b o os)
+    flow_leaf name attrs children b.frameset_ok b o os parts.1 facts.ends facts.unswitched (flow_of w.place (outer b) (key o ∷ keys os) parts.0 s.place) r (facts.made attrs b o os)
 
 pub thematic_break : (name : List ℕ) → is_among name (names_of ABreak) ≡ true → ElementBuilt name ABreak
 thematic_break name is attrs children w h plain inner b o os s r =
     let parts : (holds_blocks w ≡ true) × (is_none children ≡ true) = and_parts (holds_blocks w) (is_none children) h in
     let p : Spot w b o os = spot w b o os parts.0 s in
     let facts : IsBreak name = of_each IsBreak (names_of ABreak) break_is name is in
-    flow_leaf name attrs children false b o os parts.1 facts.ends facts.quiet p.flow r (facts.made attrs b o os p.no_p)
+    flow_leaf name attrs children false b o os parts.1 facts.ends facts.unswitched p.flow r (facts.made attrs b o os p.no_p)
 
 input_i : ElementBuilt (codes "input") AnInput
 input_i attrs children w h plain inner b o os s r =

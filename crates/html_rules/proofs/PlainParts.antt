@@ -17,7 +17,7 @@ use Rattle.html_rules.proofs.RuleFacts.{caption_barless, caption_is, caption_no_
 use Rattle.html_rules.proofs.RuleShapes.{IsForm, IsLeafIn, IsMarkedPart, IsPart, IsRawText, IsTable, KeepsSpace, RunsIn, grown, in_text, open_of, with_leaf, with_one}
 use Rattle.html_rules.proofs.StackKeys.{At, Barless, InFlow, Key, Outer, Ready, Steady, caption, cell, column_group_at, fits_below, fits_cleared, flow_of, head_at, below_more, is_deep, key, key_names, key_of, keys, lacks_more, mark, outer, pass, row_at, row_group_at, same_names, same_number, steady_in, table_at}
 use Rattle.html_rules.proofs.TextSteps.{Built, fixed_text, raw_built, step_by_rules, step_in, text_built}
-use Rattle.html_rules.proofs.TreeLists.{Steps, each_space, ends_text, heard_steps, if_heard, of_each, step_on, steps_on, text_start}
+use Rattle.html_rules.proofs.TreeLists.{Steps, each_space, ends_text, switched_steps, if_switched, of_each, step_on, steps_on, text_start}
 
 -- ---- tables
 
@@ -28,7 +28,7 @@ table_t attrs children w h plain inner b o os s r =
     let facts : IsTable name = table_is.0 in
     let x : Outer = record (outer b) { mode = InTable } in
     let c : Building = record b { next = suc b.next; mode = InTable; frameset_ok = false } in
-    element_built name attrs children (inside w ATable) b o os x facts.ends facts.quiet
+    element_built name attrs children (inside w ATable) b o os x facts.ends facts.unswitched
     (record {
       after = c;
       step = step_by_rules (with_stack b (o ∷ os)) (with_stack c (open_of b.next name attrs no_trees ∷ o ∷ os)) (key o ∷ keys os) (AStart name attrs false) p.flow r.skip (facts.opens attrs (with_stack b (o ∷ os)) p.no_p);
@@ -59,7 +59,7 @@ part mode after name attrs children v b o (p ∷ ps) facts is deep r steady inne
     let x : Outer = record (outer b) { mode = after } in
     let c : Building = record b { next = suc b.next; mode = after } in
     let os : List Open = p ∷ ps in
-    element_built name attrs children v b o os x facts.ends facts.quiet
+    element_built name attrs children v b o os x facts.ends facts.unswitched
     (record {
       after = c;
       step = step_in (with_stack b (o ∷ os)) (with_stack c (open_of b.next name attrs no_trees ∷ o ∷ os)) (AStart name attrs false) mode is r.skip (facts.opens b attrs o.attrs o.number o.children p ps);
@@ -83,7 +83,7 @@ marked_part mode after name attrs children v b o (p ∷ ps) facts is deep r stea
     let x : Outer = record (outer b) { mode = after } in
     let c : Building = record b { next = suc b.next; mode = after; listed = Marker ∷ b.listed } in
     let os : List Open = p ∷ ps in
-    element_built name attrs children v b o os x facts.ends facts.quiet
+    element_built name attrs children v b o os x facts.ends facts.unswitched
     (record {
       after = c;
       step = step_in (with_stack b (o ∷ os)) (with_stack c (open_of b.next name attrs no_trees ∷ o ∷ os)) (AStart name attrs false) mode is r.skip (facts.opens b attrs o.attrs o.number o.children p ps);
@@ -149,7 +149,7 @@ column name is attrs children w h plain inner b o os s r =
     let parts : (is_column_group w.place ≡ true) × (is_none children ≡ true) = and_parts (is_column_group w.place) (is_none children) h in
     let a : At ColumnGroupPlace (outer b) (key o ∷ keys os) = column_group_at w.place (outer b) (key o ∷ keys os) parts.0 s.place in
     let facts : IsLeafIn InColumnGroup name = of_each (IsLeafIn InColumnGroup) (names_of AColumn) column_is name is in
-    leaf name attrs children b.frameset_ok b o os parts.1 facts.ends facts.quiet r (step_in (with_stack b (o ∷ os)) (with_leaf name attrs b.frameset_ok b o os) (AStart name attrs false) InColumnGroup a.0 r.skip (facts.made attrs b o os))
+    leaf name attrs children b.frameset_ok b o os parts.1 facts.ends facts.unswitched r (step_in (with_stack b (o ∷ os)) (with_leaf name attrs b.frameset_ok b o os) (AStart name attrs false) InColumnGroup a.0 r.skip (facts.made attrs b o os))
 
 -- ---- form
 
@@ -165,7 +165,7 @@ form_f attrs children w h plain inner b o os s r =
     let ks : List Key = key o ∷ keys os in
     let f : InFlow x ks = record { flow = p.flow.flow; mode = p.flow.mode; found = p.flow.found } in
     let k : At FlowPlace x (key_of b.next name ∷ ks) = flow_at name b.next x (key o) (keys os) facts.passes form_no_heading.0 f in
-    element_built name attrs children (inside w AForm) b o os x facts.ends facts.quiet
+    element_built name attrs children (inside w AForm) b o os x facts.ends facts.unswitched
     (record {
       after = c;
       step = step_by_rules (with_stack b (o ∷ os)) (with_stack c (open_of b.next name attrs no_trees ∷ o ∷ os)) ks (AStart name attrs false) p.flow r.skip (facts.opens attrs (with_stack b (o ∷ os)) free p.no_p);
@@ -208,10 +208,10 @@ unfolding tree_step
 passed x b h = ap (λ t. elim t [ true ↦ Some (record b { skip = false }) | false ↦ run 12 x b.mode (record b { skip = false }) ]) h
 
 -- where no line feed comes first, none is dropped
-none_dropped : (b : Building) (xs : List Token) → opens_feed xs ≡ false → heard_steps (record b { skip = true }) xs ≡ heard_steps (record b { skip = false }) xs
+none_dropped : (b : Building) (xs : List Token) → opens_feed xs ≡ false → switched_steps (record b { skip = true }) xs ≡ switched_steps (record b { skip = false }) xs
 unfolding opens_feed
 none_dropped b [] h = absurd (true≢false h)
-none_dropped b (x ∷ xs) h = ap (λ r. option_and_then (λ c. heard_steps c xs) (option_and_then (if_heard x) r)) (passed x b h)
+none_dropped b (x ∷ xs) h = ap (λ r. option_and_then (λ c. switched_steps c xs) (option_and_then (if_switched x) r)) (passed x b h)
 
 first_token : (t : Trees) (w : Within) (name : List ℕ) → begins_feed t ≡ false → are_plain w t ≡ true → opens_feed (tokens t ++ AnEnd name ∷ []) ≡ false
 unfolding opens_feed
@@ -308,7 +308,7 @@ pub metadata : (name : List ℕ) → is_among name (names_of AMetadata) ≡ true
 metadata name is attrs children w h plain inner b o os s r =
     let parts : (is_head w.place ≡ true) × (is_none children ≡ true) = and_parts (is_head w.place) (is_none children) h in
     let facts : IsLeafIn InHead name = of_each (IsLeafIn InHead) (names_of AMetadata) metadata_is name is in
-    leaf name attrs children b.frameset_ok b o os parts.1 facts.ends facts.quiet r
+    leaf name attrs children b.frameset_ok b o os parts.1 facts.ends facts.unswitched r
     (step_in (with_stack b (o ∷ os)) (with_leaf name attrs b.frameset_ok b o os) (AStart name attrs false) InHead (head_at w.place (outer b) (key o ∷ keys os) parts.0 s.place) r.skip (facts.made attrs b o os))
 
 -- ---- texts

@@ -1,23 +1,24 @@
-//! Calls of `dom_clean`, asked at a shell. `test_clean RULE ..` makes rules and cleans the markup
-//! on standard input by them, as a fragment. `test_clean each RULE ..` does so for each of many
-//! texts, which end with byte 30, and ends each answer so. `test_clean page RULE ..` reads a page,
-//! and cleans all that stands below its root.
+//! Calls of `dom_clean` from a shell. `test_clean RULE ..` makes a policy of the rules, and cleans
+//! standard input by it as a fragment. `test_clean each RULE ..` does this for several fragments
+//! with byte 30 between them, and writes byte 30 after each text. `test_clean page RULE ..` cleans
+//! standard input as a page, and `test_clean tree RULE ..` cleans the tree of that page.
 #![tactic(auto)]
 
 mod rules;
 
-use dom_clean::{Policy, clean, clean_tree};
+use dom_clean::{Policy, clean, clean_page, clean_tree};
 use dom_html5::{Options, parse_page};
 use std::env;
 use std::io::Read;
 use std::process::ExitCode;
 
-/// What is read of standard input.
+/// How standard input is cleaned.
 #[derive(Clone, Copy, Drop)]
 enum Way {
     Fragment,
     Each,
     Page,
+    Tree,
 }
 
 fn main(rt: HostRuntime) -> ExitCode {
@@ -37,6 +38,7 @@ fn obey(rt: &HostRuntime) -> Option<()> {
         match word.as_str() {
             "each" => way = Way::Each,
             "page" => way = Way::Page,
+            "tree" => way = Way::Tree,
             line => rules::change(rt, &mut rules, line)?,
         }
     }
@@ -50,7 +52,8 @@ fn answer(rt: &HostRuntime, way: Way, source: &str, policy: &Policy) -> Option<(
     match way {
         Way::Fragment => print!(rt; "{}", clean(rt.alloc(), source, policy).ok()?).ok(),
         Way::Each => answer_each(rt, source, policy),
-        Way::Page => answer_page(rt, source, policy),
+        Way::Page => print!(rt; "{}", clean_page(rt.alloc(), source, policy).ok()?).ok(),
+        Way::Tree => answer_tree(rt, source, policy),
     }
 }
 
@@ -62,7 +65,7 @@ fn answer_each(rt: &HostRuntime, source: &str, policy: &Policy) -> Option<()> {
     Some(())
 }
 
-fn answer_page(rt: &HostRuntime, source: &str, policy: &Policy) -> Option<()> {
+fn answer_tree(rt: &HostRuntime, source: &str, policy: &Policy) -> Option<()> {
     let document = parse_page(rt.alloc(), source, Options::default()).ok()?;
     print!(rt; "{}", clean_tree(&document.tree, policy).ok()?).ok()
 }

@@ -1,5 +1,5 @@
 -- Bytes that are the UTF-8 of their text.
-use Rattle.std.proofs.Common.{◌≡◌, ℕ, zero, suc, ◌<◌, List, [], ◌∷◌, ◌++◌, Bool, true, map, refl, sym, ap, ap₂, ◌∙◌, append-nil, arith, Option, Some, None}
+use Rattle.std.proofs.Common.{◌≡◌, ℕ, suc, ◌<◌, List, [], ◌∷◌, ◌++◌, true, map, refl, sym, ap, ap₂, ◌∙◌, append-nil, arith, Option, Some}
 use Rattle.std.proofs.lemmas.Bool.Decides.{nat_tests}
 use Rattle.std.proofs.lemmas.Str.{IsUtf8-from_ascii, chars-IsAscii, encodes-chars}
 use Rattle.std.specs.Str.{IsAscii, IsUtf8, chars}

@@ -1,11 +1,14 @@
 -- Decoded pieces, one behind the other.
-use Rattle.std.proofs.Common.{◌≡◌, ℕ, ◌<◌, ◌≤◌, ◌+◌, List, [], ◌∷◌, ◌++◌, length, drop, get_or, refl, sym, ap, ◌∙◌, subst, append_assoc, append-nil, arith, Option}
+use Rattle.std.proofs.Common.{◌≡◌, ℕ, ◌<◌, ◌≤◌, ◌+◌, List, [], ◌++◌, length, drop, get_or, sym, ap, ◌∙◌, subst, append_assoc, arith, Option}
 use Rattle.std.proofs.lemmas.List.{at_drop_more, at_drop_all}
 use Rattle.std.specs.Prelude.{string_bytes}
 use Rattle.decoded_text.specs.declared.decoded.Decoded.{Decoded}
-use Rattle.decoded_text.specs.Characters.{Appends, Continues, IsDecoded, errors_in, text_of}
+use Rattle.decoded_text.specs.Characters.{Continues, IsCounted, IsDecoded, text_of}
 use Rattle.decoded_text.proofs.Texts.{continues-end, decoded-all, errors-nil, text-nil}
 use Rattle.text_decoding.specs.Decoding.{Begins, joined}
+
+pub counted_new : (decoded : Decoded) → IsDecoded decoded [] → IsCounted decoded
+counted_new decoded empty = let e = errors-nil in let g = empty.replaced in omega arith
 
 pub begins : (old new : Decoded) (before after : List (Option ℕ)) → IsDecoded old [] → Continues old before new after → Begins new before after
 begins old new before after empty all = record {

@@ -1,5 +1,6 @@
 -- States of decoders.
-use Rattle.std.proofs.Common.{◌≡◌, ℕ, List, [], ◌∷◌, ◌++◌, Bool, true, false, cond, map, length, refl, sym, ap, ◌∙◌, subst, append-nil, arith, Option, Some, None}
+use Rattle.std.proofs.Common.{◌≡◌, ℕ, zero, suc, List, [], ◌∷◌, ◌++◌, Bool, true, false, cond, length, refl, sym, ap, ◌∙◌, subst, Bor, Option, None}
+use Rattle.std.specs.Prelude.{◌==◌, IfOk, Result, Ok, Err}
 use Rattle.decoded_text.specs.declared.decoded.Decoded.{Decoded}
 use Rattle.decoded_text.specs.Characters.{Appends, Continues}
 use Rattle.decoded_text.proofs.Texts.{continues-both, continues-more, continues-start}
@@ -50,6 +51,14 @@ iso_2022_jp_ends index state = refl
 
 pub ruleset ends = (utf16_ends, gb18030_ends, big5_ends, euc_kr_ends, shift_jis_ends, euc_jp_ends, iso_2022_jp_ends)
 
+-- ---- all bytes
+
+-- where a step leaves none of its bytes
+pub at_end : {E : Type 0} (f : State → List ℕ → List (Option ℕ)) (old new : Decoded) (before : List (Option ℕ)) (more : List ℕ) (result : Result (State × Bor (List ℕ)) E) →
+    IfOk result (λ end. Continues old before new (f end.0 more)) → IfOk result (λ end. end.1.now ≡ []) → IfOk result (λ end. Continues old before new (f end.0 (end.1.now ++ more)))
+at_end f old new before more (Ok end) so_far all = subst (λ rest. Continues old before new (f end.0 (rest ++ more))) (sym all) so_far
+at_end f old new before more (Err fault) so_far all = so_far
+
 -- ---- UTF-8
 
 pub utf8_ends : utf8_characters fresh [] ≡ []
@@ -66,7 +75,10 @@ utf8_last state end old mid new bytes more none first last =
 
 -- ---- the replacement encoding
 
-same : (b : Bool) → cond b ([] {A = Option ℕ}) [] ≡ []
+abbrev none_at_all : List (Option ℕ)
+none_at_all = []
+
+same : (b : Bool) → cond b none_at_all none_at_all ≡ []
 same true = refl
 same false = refl
 
@@ -81,9 +93,9 @@ replaced_already state out bytes more h =
     let P : List (Option ℕ) → Type 0 = λ b. Continues out b out (replaced_from state more) in
     subst P (none_left state more h ∙ sym (none_left state (bytes ++ more) h)) (continues-start out (replaced_from state more))
 
-pub replaced_empty : (state : State) (out : Decoded) (bytes more : List ℕ) → length bytes ≡ 0 → Continues out (replaced_from state (bytes ++ more)) out (replaced_from state more)
-replaced_empty state out [] more h = continues-start out (replaced_from state more)
-replaced_empty state out (b ∷ bs) more h = absurd (omega arith)
+pub not_empty : (n : ℕ) → false ≡ (n == 0) → n ≡ 0 → ⊥
+not_empty zero is none = cc
+not_empty (suc n) is none = cc
 
 pub replaced_now : (state : State) (out new : Decoded) (bytes more : List ℕ) → state.is_replaced ≡ false → (length bytes ≡ 0 → ⊥) → Appends out new (None ∷ []) →
     Continues out (replaced_from state (bytes ++ more)) new []

@@ -1,5 +1,5 @@
 -- Steps of the decoder of UTF-8.
-use Rattle.std.proofs.Common.{◌≡◌, ℕ, ◌<◌, ◌≤◌, ◌+◌, ◌-◌, ◌*◌, List, [], ◌∷◌, ◌++◌, Bool, true, false, ◌==◌, map, length, refl, sym, ap, ◌∙◌, subst, append_assoc, arith, eq-eqb, Option, Some, None}
+use Rattle.std.proofs.Common.{◌≡◌, ℕ, ◌-◌, List, [], ◌∷◌, ◌++◌, true, false, ◌==◌, map, length, refl, sym, ap, ◌∙◌, subst, append_assoc, arith, eq-eqb, Option, Some, None}
 use Rattle.std.proofs.lemmas.Bool.Decides.{nat_tests}
 use Rattle.std.specs.Str.{IsUtf8, chars}
 use Rattle.decoded_text.specs.declared.decoded.Decoded.{Decoded}

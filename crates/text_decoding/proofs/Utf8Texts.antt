@@ -1,12 +1,12 @@
 -- Texts in UTF-8, as the decoder reads them.
-use Rattle.std.proofs.Common.{◌≡◌, ℕ, ◌<◌, ◌≤◌, ◌+◌, ◌-◌, ◌*◌, ◌/◌, ◌%◌, List, [], ◌∷◌, ◌++◌, Bool, true, false, cond, ◌==◌, nat_lt, nat_le, ◌&&◌, map, ◌⊎◌, inl, inr, eqb-true, refl, sym, ap, ap₂, ◌∙◌, append_assoc, arith, Option, Some, None, if◌then◌else◌}
+use Rattle.std.proofs.Common.{◌≡◌, ℕ, ◌<◌, ◌≤◌, ◌+◌, ◌-◌, ◌*◌, ◌/◌, ◌%◌, List, [], ◌∷◌, ◌++◌, Bool, true, false, cond, ◌==◌, nat_lt, map, ◌⊎◌, inl, inr, eqb-true, refl, sym, ap, ◌∙◌, append_assoc, arith, Some, None, if◌then◌else◌}
 use Rattle.std.proofs.lemmas.Bool.Decides.{nat_tests}
 use Rattle.std.proofs.lemmas.Bool.{and_parts, cases_lt}
 use Rattle.std.proofs.lemmas.Str.{chars-encodes, encode_ascii}
 use Rattle.std.specs.Str.{IsUtf8, chars, encode_utf8_all}
-use lib.Utf8.{encode, next, scalar, scalars, scalar_cases}
+use lib.Utf8.{encode, scalar, scalars, scalar_cases}
 use Rattle.text_decoding.specs.declared.utf8.Utf8State.{Utf8State}
-use Rattle.text_decoding.specs.Utf8.{alone, at_first, at_next, begun, begun_by, behind_byte, character, characters, code_with, fresh, is_between, or_alone}
+use Rattle.text_decoding.specs.Utf8.{alone, at_first, begun, begun_by, behind_byte, character, characters, code_with, fresh, is_between, or_alone}
 
 inside : (least greatest byte : ℕ) → least ≤ byte → byte ≤ greatest → is_between least greatest byte ≡ true
 inside least greatest byte h k = grind (arith, nat_tests)

@@ -1,5 +1,5 @@
 -- The decoder of each encoding.
-use Rattle.std.specs.Prelude.{◌≡◌, ℕ, ◌+◌, List, [], ◌∷◌, ◌++◌, Bool, true, false, if◌then◌else◌, Option, Some, None, string_bytes}
+use Rattle.std.specs.Prelude.{◌≡◌, ℕ, ◌+◌, List, [], ◌∷◌, ◌++◌, Bool, true, false, if◌then◌else◌, Option, None, string_bytes}
 use Rattle.encodings.specs.declared.encoding.Encoding.{Encoding}
 use Rattle.encodings.specs.declared.encoding.Encoding.TheVariants.{Utf8, Utf16Be, Utf16Le, Gbk, Gb18030, Big5, EucJp, Iso2022Jp, ShiftJis, EucKr, Replacement, SingleByte}
 use Rattle.encodings.specs.declared.utf16.ByteOrder.TheVariants.{BigEndian, LittleEndian}
