@@ -138,7 +138,7 @@ OTHER_ARRAYS = {
 # Options that no row can show, with what shows them.
 OTHER_OPTIONS = {
     "in-place": "it writes files; tests/checks/documents.py runs it in docs/HQ.md",
-    "verbose": "it prints nothing yet",
+    "verbose": "it writes to standard error; tests/rows/hq/charset.jsonl",
     "progress": "it prints a time; tests/rows/hq/lines.jsonl and tests/checks/documents.py",
 }
 

@@ -294,7 +294,7 @@ def calm_rows(entries):
         head, body = IN_HEAD.get(text, ""), "" if text in IN_HEAD else CALM.get(text, f"<{text}>x</{text}>")
         page = f"<!DOCTYPE html><html><head>{head}</head><body>{body}</body></html>"
         row = {"entry": f"calm: {text}", "args": ["--jsonl", "--document"]}
-        yield {**row, "markup": written({"html": page}), "output": written({"document": page}), "status": 1}
+        yield {**row, "markup": written({"html": page}), "output": written({"document": page})}
 
 
 # Explicit markup that tree construction changes: an element of the first in one of the second, so that neither makes a page calm.
@@ -343,7 +343,7 @@ def not_calm_rows():
     pages.add("calm: not with a carriage return", "<!DOCTYPE html><html><head></head><body>1\r\n<p>2\r</p></body></html>")
     for entry, text, _, _, _, _, html in pages.answers():
         row = {"entry": entry, "args": ["--jsonl", "--document"], "markup": written({"html": text})}
-        yield {**row, "output": written({"document": html}), "status": 1}
+        yield {**row, "output": written({"document": html})}
 
 
 def written(value):
@@ -396,7 +396,7 @@ OPTION_ROWS = {
     "html": (["--html", "p"], "<p>1<b>2", "<p>1<b>2</b></p>\n"),
     "inner": (["--inner", "p"], "<p>1<b>2", "1<b>2</b>\n"),
     "text": (["--text", "p"], "<p>1<b>2", "12\n"),
-    "md": (["--md", "p"], "<p>1<b>2", "\n\n1**2**\n\n\n"),
+    "md": (["--md", "p"], "<p>1<b>2", "1**2**\n\n"),
     "attr": (["--attr", "a", "p"], "<p a=1><p b=2>", "1\n"),
     "count": (["--count", "p"], "<p a=1><p b=2>", "2\n"),
     "csv": (["--csv", "table"], "<table><td>1<td>2<tr><td>3", "1,2\n3,\n"),
@@ -439,7 +439,7 @@ def conflict_rows(entries):
     shows = [text for array, text in entries if array == "SHOWS"]
     usage = (
         "\n\nUsage: hq [OPTIONS] SELECTOR [FILE ..]\n       hq [OPTIONS] --document | --tree | --script LINES [FILE ..]\n"
-        "       hq [OPTIONS] --jsonl SELECTOR [FILE ..]\n\nFor more information, try '--help'.\n"
+        "       hq [OPTIONS] --jsonl | --warc SELECTOR [FILE ..]\n\nFor more information, try '--help'.\n"
     )
     values = {"attr": ["a"], "script": ["text"]}
     shown = {"attr": "--attr <NAME>", "script": "--script <LINES>"}
