@@ -8,6 +8,7 @@ ghost use Rattle.html5_trees.specs.Elements.{IsRooted};
 
 mod adopting;
 mod edits;
+mod late;
 mod placing;
 mod popping;
 
@@ -21,8 +22,9 @@ use dom_nodes::node_data::NodeData;
 use dom_nodes::node_id::NodeId;
 use dom_trees::quirks::QuirksMode;
 use dom_trees::tree::Tree;
-use edits::{add_attrs, cut_out, put_comment, put_copy, put_doctype, put_element, put_text};
+use edits::{cut_out, put_comment, put_copy, put_doctype, put_element, put_text};
 use html5_tokens::token::Tag;
+use late::{LateAttrs, late_place};
 use placing::gap;
 pub use placing::{Placing, is_foster_target};
 pub use popping::ForeignEnd;
@@ -50,6 +52,8 @@ pub struct GrowingTree {
     form: FormPointer,
     /// The context element of a fragment, with the id of the root that represents it.
     context: Option<Open>,
+    /// Attributes that are to be added to `html` and to `body`.
+    late: Vec<LateAttrs>,
 }
 
 impl Model for GrowingTree {
@@ -89,16 +93,21 @@ impl GrowingTree {
             head: None,
             form: FormPointer::None,
             context: None,
+            late: Vec::new(alloc),
         }
     }
 
-    /// Returns the finished tree.
-    pub fn into_built(self) -> BuiltTree {
-        BuiltTree {
-            tree: self.tree,
+    /// The tree, once all is read.
+    pub fn into_built(self) -> Result<BuiltTree, PageFault> {
+        let mut tree = self.tree;
+        for late in self.late {
+            late.put_into(&mut tree)?;
+        }
+        Ok(BuiltTree {
+            tree,
             errors: self.errors,
             quirks_mode: self.quirks_mode,
-        }
+        })
     }
 
     /// The stack of open elements.
@@ -211,7 +220,6 @@ impl GrowingTree {
             name,
             number: 0,
             holds_html: false,
-            fingerprint: 0,
         });
     }
 
@@ -284,13 +292,23 @@ impl GrowingTree {
         put_doctype(&mut self.tree, parts)
     }
 
-    /// Adds those attributes of a tag to the element at an index of the stack that it doesn't have
-    /// yet.
+    /// Adds the attributes of a tag to the element at a place of the stack, where it lacks them.
     pub fn add_attrs(&mut self, place: usize, tag: &Tag) -> Result<(), PageFault> {
         let Some(open) = self.stack.get(place) else {
             return Ok(());
         };
-        add_attrs(&mut self.tree, open.id, tag)
+        let at = match late_place(self.late.as_slice(), open.id) {
+            Some(at) => at,
+            None => {
+                self.late.push(LateAttrs::new(&self.tree, open.id)?)?;
+                self.late.len().saturating_sub(1)
+            }
+        };
+        let alloc = self.tree.allocator();
+        match self.late.get_mut(at) {
+            Some(late) => late.add(alloc, tag),
+            None => Ok(()),
+        }
     }
 
     /// Detaches the element at an index of the stack.

@@ -33,22 +33,11 @@ pub struct Open {
     pub number: u32,
     /// Whether it is an `annotation-xml` whose encoding is HTML.
     pub holds_html: bool,
-    /// A hash of its attributes, or 0 if none was computed.
-    pub fingerprint: u32,
 }
 
 impl Open {
     pub fn is_html(&self, name: Name) -> bool {
         self.ns == ElementNamespace::Html && self.name == name
-    }
-
-    /// Returns whether it may have the name and the attributes of another formatting element. If
-    /// not, the two certainly differ.
-    pub fn is_like(&self, other: &Open) -> bool {
-        if self.name != other.name {
-            return false;
-        }
-        self.fingerprint == other.fingerprint || self.fingerprint == 0 || other.fingerprint == 0
     }
 }
 

@@ -98,20 +98,7 @@ pub fn put_doctype(tree: &mut Tree, parts: [&str; 3]) -> Result<(), PageFault>
     Ok(())
 }
 
-/// Adds those attributes of a tag to an element that it doesn't have yet.
-pub fn add_attrs(tree: &mut Tree, id: NodeId, tag: &Tag) -> Result<(), PageFault>
-    requires { IsElement tree.old id }
-    ensures { Grows tree.old tree.new }
-{
-    let attrs = attrs_of(
-        tree.allocator(),
-        ElementNamespace::Html,
-        tag.attrs.as_slice(),
-    )?;
-    settled(tree.add_missing_attrs_of(&id, attrs))
-}
-
-/// Makes a detached element and returns its id.
+/// Makes an element, which stands alone.
 fn create(
     tree: &mut Tree,
     name: QualName,
@@ -157,7 +144,6 @@ pub fn put_element(
         name,
         number: 0,
         holds_html: flags.mathml_annotation_xml_integration_point,
-        fingerprint: 0,
     })
 }
 
@@ -246,7 +232,6 @@ fn copy_of(tree: &mut Tree, element: Open) -> Result<Open, PageFault>
         name: element.name,
         number: element.number,
         holds_html: false,
-        fingerprint: element.fingerprint,
     })
 }
 

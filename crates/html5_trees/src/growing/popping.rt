@@ -164,30 +164,30 @@ impl GrowingTree {
         let Some(open) = self.stack.current() else {
             return Ok(());
         };
-        let fingerprint = self.formatting.fingerprint_for(&self.tree, open.id);
-        let open = Open {
-            fingerprint,
-            ..open
-        };
-        if let Some(index) = self.formatting.third_same(&self.tree, &open) {
+        let likeness = self.likeness_of(open.id);
+        if let Some(index) = self.formatting.third_same(&self.tree, &open, likeness) {
             self.remove_entry(index);
         }
-        self.push_current(fingerprint)
+        self.push_current(likeness)
     }
 
-    /// Appends the current node to the list, with this hash of its attributes.
-    fn push_current(&mut self, fingerprint: u32) -> Result<(), PageFault> {
+    /// The likeness of an element that is to be added to the list.
+    pub fn likeness_of(&mut self, id: NodeId) -> u32
+        ensures { self.new ≡ self.old }
+    {
+        self.formatting.likeness_of(&self.tree, id)
+    }
+
+    /// Adds the current node, of that likeness, to the list.
+    fn push_current(&mut self, likeness: u32) -> Result<(), PageFault> {
         let Some(open) = self.stack.current() else {
             return Ok(());
         };
-        self.formatting.push(Entry::Element(Open {
-            fingerprint,
-            ..open
-        }))
+        self.formatting.push(Entry::Element(open), likeness)
     }
 
     pub fn push_marker(&mut self) -> Result<(), PageFault> {
-        self.formatting.push(Entry::Marker)
+        self.formatting.push(Entry::Marker, 0)
     }
 
     /// Removes the last entry of the list and returns it.
