@@ -2,3 +2,5 @@ pub mod Shape
 pub mod ElementKinds
 pub mod Framed
 pub mod Elements
+pub mod Placing
+pub mod Popping

@@ -190,18 +190,11 @@ impl GrowingTree {
         self.formatting.push(Entry::Marker, 0)
     }
 
-    /// Removes the last entry of the list and returns it.
-    fn take_entry(&mut self) -> Option<Entry> {
-        self.formatting.take()
-    }
-
-    pub fn clear_to_marker(&mut self) {
-        for _ in 0..self.formatting.len() {
-            match self.take_entry() {
-                Some(Entry::Element(_)) => {}
-                _ => return,
-            }
-        }
+    /// Clears the list of active formatting elements up to the last marker.
+    pub fn clear_to_marker(&mut self)
+        ensures { self.new ≡ self.old }
+    {
+        self.formatting.clear_to_marker();
     }
 
     /// Removes the entry at an index of the list.
