@@ -2,6 +2,7 @@
 use Rattle.std.proofs.Common.{ℕ, ◌≡◌, ◌+◌, suc, List, [], ◌∷◌, ◌++◌, Option, Some, take, drop, Result, Ok, Err, sym, ap, subst}
 use Rattle.std.specs.Prelude.{All, OnErr, OnOk, insert, remove, slice_get, slice_set}
 use Rattle.std.specs.Option.{option_to_list}
+use Rattle.std.proofs.lemmas.List.{take-append-drop}
 use Rattle.std.proofs.lemmas.List.Elements.{All-append, All-cons, All-drop, All-pop, All-push, All-same, All-set, All-take, All-weaker}
 use Rattle.std.proofs.lemmas.Option.{IfSome_then}
 use Rattle.dom_links.specs.Forest.{Forest}
@@ -40,6 +41,11 @@ stack_removed f os ns es h m c i all e =
 pub stack_taken : (f : Forest) (os ns : List Open) (es : List Entry) (h : Option ℕ) (m : FormPointer) (c : Option Open) (r : Option Open) → AreElements f os es h m c → os ≡ ns ++ option_to_list r → AreElements f ns es h m c
 stack_taken f os ns es h m c r all e =
     with_stack f os ns es h m c all (All-pop (λ o. IsElement f o.id) os ns r e all.stack).0 (order_front f ns (option_to_list r) (subst (IsInOrder f) e all.order))
+
+pub stack_cut : (f : Forest) (os ns : List Open) (es : List Entry) (h : Option ℕ) (m : FormPointer) (c : Option Open) (n : ℕ) → AreElements f os es h m c → ns ≡ take n os → AreElements f ns es h m c
+stack_cut f os ns es h m c n all e =
+    let order = order_front f (take n os) (drop n os) (subst (IsInOrder f) (sym (take-append-drop n os)) all.order) in
+    with_stack f os ns es h m c all (All-same (λ (o : Open). IsElement f o.id) ns (take n os) e (All-take (λ (o : Open). IsElement f o.id) n os all.stack)) (subst (IsInOrder f) (sym e) order)
 
 pub entries_removed : (f : Forest) (os : List Open) (es ns : List Entry) (h : Option ℕ) (m : FormPointer) (c : Option Open) (i : ℕ) → AreElements f os es h m c → ns ≡ remove es i → AreElements f os ns h m c
 entries_removed f os es ns h m c i all e = with_entries f os es ns h m c all (all_removed (IsEntry f) es ns i e all.formatting)

@@ -4,3 +4,4 @@ pub mod Framed
 pub mod Elements
 pub mod Placing
 pub mod Popping
+pub mod Sets

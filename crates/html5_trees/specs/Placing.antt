@@ -5,17 +5,12 @@ use Rattle.dom_links.specs.Forest.{Forest, parent}
 use Rattle.dom_links.specs.Sound.{contents_at}
 use Rattle.dom_links.specs.declared.gap.InsertionPoint.{InsertionPoint}
 use Rattle.dom_links.specs.declared.gap.InsertionPoint.TheVariants.{Before, EndOf as TheEndOf}
+use Rattle.html5_trees.specs.Sets.{is_in_html}
 use Rattle.html5_trees.specs.declared.growing.placing.Place.{Place}
 use Rattle.html5_trees.specs.declared.growing.placing.Place.TheVariants.{EndOf, Table}
 use Rattle.html5_trees.specs.declared.name.Name.{Name}
 use Rattle.html5_trees.specs.declared.name.Name.TheVariants.{Table as ATable, Tbody, Template, Tfoot, Thead, Tr}
-use Rattle.html5_trees.specs.declared.stack.ElementNamespace.{ElementNamespace}
-use Rattle.html5_trees.specs.declared.stack.ElementNamespace.TheVariants.{Html}
 use Rattle.html5_trees.specs.declared.stack.Open.{Open}
-
-abbrev pub is_in_html : ElementNamespace → Bool
-is_in_html Html = true
-is_in_html _ = false
 
 abbrev pub names_template : Name → Bool
 names_template Template = true
