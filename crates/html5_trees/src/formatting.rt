@@ -3,6 +3,7 @@
 ghost use Rattle.std.specs.Prelude.{◌≡◌, [], ◌∷◌, ◌++◌, Contains, IfNone, IfSome, OnErr, OnOk};
 ghost use Rattle.std.specs.Prelude.{insert, remove, slice_get, slice_set};
 ghost use Rattle.std.specs.Option.{option_to_list};
+ghost use Rattle.html5_trees.specs.Popping.{before_last, is_a_marker};
 ghost use Rattle.html5_trees.specs.declared.formatting.Entry.TheVariants.{Element as AnEntry};
 
 mod index;
@@ -25,6 +26,17 @@ const MANY: usize = 16;
 pub enum Entry {
     Marker,
     Element(Open),
+}
+
+impl Entry {
+    fn is_marker(&self) -> bool
+        ensures { result ≡ is_a_marker self.now }
+    {
+        match self {
+            Entry::Marker => true,
+            Entry::Element(_) => false,
+        }
+    }
 }
 
 /// The list of active formatting elements, the oldest first.
@@ -187,6 +199,18 @@ impl ActiveFormatting {
         let last = self.entries.len().saturating_sub(1);
         self.forget_entry(last);
         self.entries.pop()
+    }
+
+    /// Clears the list up to the last marker: removes the entries behind it, and the marker. A list
+    /// without a marker is empty then.
+    pub fn clear_to_marker(&mut self)
+        ensures { self.new.entries.items ≡ before_last is_a_marker self.old.entries.items }
+    {
+        while let Some(entry) = self.take() {
+            if entry.is_marker() {
+                return;
+            }
+        }
     }
 
     /// Puts a copy of an element in its place.

@@ -24,7 +24,7 @@ use dom_trees::quirks::QuirksMode;
 use dom_trees::tree::Tree;
 use edits::{cut_out, put_comment, put_copy, put_doctype, put_element, put_text};
 use html5_tokens::token::Tag;
-use late::{LateAttrs, late_place};
+use late::LateTags;
 use placing::gap;
 pub use placing::{Placing, is_foster_target};
 pub use popping::ForeignEnd;
@@ -53,7 +53,7 @@ pub struct GrowingTree {
     /// The context element of a fragment, with the id of the root that represents it.
     context: Option<Open>,
     /// Attributes that are to be added to `html` and to `body`.
-    late: Vec<LateAttrs>,
+    late: LateTags,
 }
 
 impl Model for GrowingTree {
@@ -93,16 +93,14 @@ impl GrowingTree {
             head: None,
             form: FormPointer::None,
             context: None,
-            late: Vec::new(alloc),
+            late: LateTags::new(alloc),
         }
     }
 
     /// The tree, once all is read.
     pub fn into_built(self) -> Result<BuiltTree, PageFault> {
         let mut tree = self.tree;
-        for late in self.late {
-            late.put_into(&mut tree)?;
-        }
+        self.late.put_into(&mut tree)?;
         Ok(BuiltTree {
             tree,
             errors: self.errors,
@@ -293,20 +291,10 @@ impl GrowingTree {
     }
 
     /// Adds the attributes of a tag to the element at a place of the stack, where it lacks them.
+    /// They are in the tree once all is read.
     pub fn add_attrs(&mut self, place: usize, tag: &Tag) -> Result<(), PageFault> {
-        let Some(open) = self.stack.get(place) else {
-            return Ok(());
-        };
-        let at = match late_place(self.late.as_slice(), open.id) {
-            Some(at) => at,
-            None => {
-                self.late.push(LateAttrs::new(&self.tree, open.id)?)?;
-                self.late.len().saturating_sub(1)
-            }
-        };
-        let alloc = self.tree.allocator();
-        match self.late.get_mut(at) {
-            Some(late) => late.add(alloc, tag),
+        match self.stack.get(place) {
+            Some(open) => self.late.add(&self.tree, open.id, tag),
             None => Ok(()),
         }
     }

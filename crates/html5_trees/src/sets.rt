@@ -1,5 +1,9 @@
 //! Sets of elements that the standard names: scopes, special elements and so on.
 
+ghost use Rattle.std.specs.Prelude.{◌≡◌};
+ghost use Rattle.html5_trees.specs.Sets.{ends_context, ends_scope, ends_select, is_a_heading};
+ghost use Rattle.html5_trees.specs.Sets.{is_implied, is_special_element, is_special_name_of_html};
+
 use crate::name::Name;
 use crate::stack::{ElementNamespace, Open};
 
@@ -13,7 +17,9 @@ pub enum Scope {
     Select,
 }
 
-pub fn is_heading(open: &Open) -> bool {
+pub fn is_heading(open: &Open) -> bool
+    ensures { result ≡ is_a_heading open.now }
+{
     open.ns == ElementNamespace::Html
         && matches!(
             open.name,
@@ -21,7 +27,9 @@ pub fn is_heading(open: &Open) -> bool {
         )
 }
 
-pub fn ends_default_scope(open: &Open) -> bool {
+pub fn ends_default_scope(open: &Open) -> bool
+    ensures { result ≡ ends_scope open.now }
+{
     match open.ns {
         ElementNamespace::Html => matches!(
             open.name,
@@ -47,7 +55,9 @@ pub fn ends_default_scope(open: &Open) -> bool {
 }
 
 /// Returns whether the element ends the select scope.
-pub fn ends_select_scope(open: &Open) -> bool {
+pub fn ends_select_scope(open: &Open) -> bool
+    ensures { result ≡ ends_select open.now }
+{
     !(open.ns == ElementNamespace::Html && matches!(open.name, Name::Optgroup | Name::Option))
 }
 
@@ -61,7 +71,9 @@ pub enum TableContext {
 }
 
 impl TableContext {
-    pub(crate) fn ends_at(self, open: &Open) -> bool {
+    pub(crate) fn ends_at(self, open: &Open) -> bool
+        ensures { result ≡ ends_context self open.now }
+    {
         if open.ns != ElementNamespace::Html {
             return false;
         }
@@ -75,7 +87,9 @@ impl TableContext {
     }
 }
 
-pub fn is_special(open: &Open) -> bool {
+pub fn is_special(open: &Open) -> bool
+    ensures { result ≡ is_special_element open.now }
+{
     match open.ns {
         ElementNamespace::Html => is_special_name(open.name),
         _ => ends_default_scope(open),
@@ -83,7 +97,9 @@ pub fn is_special(open: &Open) -> bool {
 }
 
 #[rattlefmt::skip]
-fn is_special_name(name: Name) -> bool {
+fn is_special_name(name: Name) -> bool
+    ensures { result ≡ is_special_name_of_html name }
+{
     matches!(
         name,
         Name::Address | Name::Applet | Name::Area | Name::Article | Name::Aside | Name::Base
@@ -109,7 +125,9 @@ pub fn is_crossed_by_items(open: &Open) -> bool {
 }
 
 /// Returns whether the element's end tag can be implied (13.2.6.3).
-pub fn has_implied_end(open: &Open) -> bool {
+pub fn has_implied_end(open: &Open) -> bool
+    ensures { result ≡ is_implied open.now }
+{
     open.ns == ElementNamespace::Html
         && matches!(
             open.name,

@@ -61,14 +61,55 @@ impl LateAttrs {
     }
 }
 
-/// The place of what is to be added to an element, if something is.
-pub fn late_place(late: &[LateAttrs], id: NodeId) -> Option<usize> {
-    for (at, one) in late.iter().enumerate() {
-        if one.is_of(id) {
-            return Some(at);
+/// The attributes that later tags add to elements of a tree.
+#[derive(Drop)]
+pub struct LateTags {
+    elements: Vec<LateAttrs>,
+}
+
+impl LateTags {
+    /// No element has later tags yet.
+    pub fn new(alloc: Global) -> LateTags {
+        LateTags {
+            elements: Vec::new(alloc),
         }
     }
-    None
+
+    /// Collects the attributes of a later tag of an element.
+    pub fn add(&mut self, tree: &Tree, id: NodeId, tag: &Tag) -> Result<(), PageFault> {
+        let place = self.place_of(tree, id)?;
+        match self.elements.get_mut(place) {
+            Some(late) => late.add(tree.allocator(), tag),
+            None => Ok(()),
+        }
+    }
+
+    /// Returns where an element is in the list. An element that has no place yet gets the last one.
+    fn place_of(&mut self, tree: &Tree, id: NodeId) -> Result<usize, PageFault> {
+        if let Some(place) = self.find(id) {
+            return Ok(place);
+        }
+        let place = self.elements.len();
+        self.elements.push(LateAttrs::new(tree, id)?)?;
+        Ok(place)
+    }
+
+    fn find(&self, id: NodeId) -> Option<usize> {
+        for (place, late) in self.elements.as_slice().iter().enumerate() {
+            if late.is_of(id) {
+                return Some(place);
+            }
+        }
+        None
+    }
+
+    /// Adds the collected attributes to their elements, behind those that the elements have.
+    pub fn put_into(self, tree: &mut Tree) -> Result<(), PageFault> {
+        for late in self.elements {
+            late.put_into(tree)?;
+        }
+        Ok(())
+    }
 }
 
 /// Gives an element these attributes in place of its own. False where memory is refused.

@@ -71,10 +71,10 @@ impl GrowingTree {
     }
 
     /// Pops elements until only the first `count` are open.
-    pub fn truncate(&mut self, count: usize) {
-        for _ in count..self.stack.len() {
-            self.pop();
-        }
+    pub fn truncate(&mut self, count: usize)
+        ensures { self.new ≡ self.old }
+    {
+        self.stack.truncate(count);
     }
 
     /// Brings the search index of the stack up to date.
@@ -131,12 +131,8 @@ impl GrowingTree {
 
     /// Leaves foreign content: pops elements up to one whose content is HTML, which stays.
     pub fn pop_foreign(&mut self) {
-        for _ in 0..self.stack.len() {
-            match self.stack.current() {
-                Some(open) if open.holds_foreign() => self.pop(),
-                _ => return,
-            }
-        }
+        let count = self.stack.depth_of_html();
+        self.truncate(count);
     }
 
     pub fn generate_implied_end_tags(&mut self, except: Option<Name>) {
@@ -150,12 +146,8 @@ impl GrowingTree {
 
     /// Pops elements up to one of the table context, which stays ("clear the stack back to").
     pub fn clear_to(&mut self, context: TableContext) {
-        for _ in 0..self.stack.len() {
-            match self.stack.current() {
-                Some(open) if context.ends_at(&open) => return,
-                _ => self.pop(),
-            }
-        }
+        let count = self.stack.depth_of_context(context);
+        self.truncate(count);
     }
 
     /// Appends the current node to the list of active formatting elements. If three with the same
@@ -190,18 +182,11 @@ impl GrowingTree {
         self.formatting.push(Entry::Marker, 0)
     }
 
-    /// Removes the last entry of the list and returns it.
-    fn take_entry(&mut self) -> Option<Entry> {
-        self.formatting.take()
-    }
-
-    pub fn clear_to_marker(&mut self) {
-        for _ in 0..self.formatting.len() {
-            match self.take_entry() {
-                Some(Entry::Element(_)) => {}
-                _ => return,
-            }
-        }
+    /// Clears the list of active formatting elements up to the last marker.
+    pub fn clear_to_marker(&mut self)
+        ensures { self.new ≡ self.old }
+    {
+        self.formatting.clear_to_marker();
     }
 
     /// Removes the entry at an index of the list.
