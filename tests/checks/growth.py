@@ -12,6 +12,7 @@ GROWTH_N=n sets n, and GROWTH_BY=seconds measures by processor time in any case.
 
 `growth()` is the part of it that runs in `check`: the processor time of every pattern at four times a small size must be less than
 MOST times that at the small size, in one of TRIES measurements."""
+import functools
 import math
 import os
 import re
@@ -250,6 +251,12 @@ def cost(measure, program, words, markup):
         return measure(program, words, given)
 
 
+@functools.lru_cache(None)
+def cost_of_start(measure, program, words):
+    """What an empty page costs."""
+    return cost(measure, program, list(words), b"")
+
+
 def measure_for(program):
     """How the cost is measured: instructions where they can be counted, else seconds. GROWTH_BY=seconds chooses seconds."""
     if os.environ.get("GROWTH_BY") != "seconds":
@@ -263,7 +270,7 @@ def measure_for(program):
 def exponent(measure, program, name, n):
     """The exponent of a pattern from n repetitions to four times as many, and the costs."""
     made, words = PATTERNS[name]
-    begun = cost(measure, program, words, b"")
+    begun = cost_of_start(measure, program, tuple(words))
     costs = [max(cost(measure, program, words, made(n * times)) - begun, 1e-9) for times in (1, 2, 4)]
     return math.log(costs[2] / costs[0], 4), costs
 
