@@ -104,8 +104,8 @@ impl ActiveFormatting {
         self.entries.get(index).copied()
     }
 
-    /// Appends an entry; `likeness` is the number that `likeness_of` returned for its element. Fails
-    /// only when memory runs out.
+    /// Appends an entry. `likeness` is what `likeness_of` returned for its element. Fails only when
+    /// memory runs out.
     pub fn push(&mut self, entry: Entry, likeness: u32) -> Result<(), PageFault>
         ensures ok { let old = self.old.entries.items in
             OnOk result (self.new.entries.items ≡ old ++ entry ∷ []) }
@@ -245,7 +245,8 @@ impl ActiveFormatting {
         }
     }
 
-    /// Inserts an element of that likeness at an index of the list. Fails only when memory runs out.
+    /// Inserts an element of that likeness at an index of the list. Fails only when memory runs
+    /// out.
     pub fn insert(&mut self, index: usize, element: &Open, likeness: u32) -> Result<(), PageFault>
         ensures ok { let old = self.old.entries.items in
             OnOk result (self.new.entries.items ≡ insert old index (AnEntry element.now)) }

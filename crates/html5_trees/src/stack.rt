@@ -2,7 +2,8 @@
 //! with `TooManyNodes` if there are too many names.
 
 ghost use Rattle.std.specs.Prelude.{◌≡◌, [], ◌∷◌, ◌++◌, Contains, IfNone, IfSome, OnErr, OnOk};
-ghost use Rattle.std.specs.Prelude.{◌+◌, ◌-◌, drop, insert, length, remove, slice_get, slice_set, take};
+ghost use Rattle.std.specs.Prelude.{◌+◌, ◌-◌, drop, insert, length, remove, slice_get};
+ghost use Rattle.std.specs.Prelude.{slice_set, take};
 ghost use Rattle.std.specs.Option.{option_to_list};
 ghost use Rattle.html5_trees.specs.Popping.{first_from, up_to_last};
 ghost use Rattle.html5_trees.specs.Sets.{ends_context, has_html_content, is_special_element};

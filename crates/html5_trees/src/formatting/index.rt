@@ -58,7 +58,7 @@ impl FormattingIndex {
         }
     }
 
-    /// Returns the number of a name with attributes. If no element had them yet, it is the next number.
+    /// Returns the number of a name with attributes: the next number, if no element had them yet.
     fn number_of(&mut self, written: String) -> Result<u32, PageFault> {
         if let Some(number) = self.numbers.get(written.as_str()) {
             return Ok(*number);
@@ -162,8 +162,8 @@ impl FormattingIndex {
         self.position(rank)
     }
 
-    /// Returns the position of the third element, from the end, of that likeness, if it is after the
-    /// last marker.
+    /// Returns the position of the third element of that likeness, counted from the end, if it is
+    /// after the last marker.
     pub fn third_alike(&self, likeness: u32) -> Option<usize> {
         let rank = nth_last(&self.by_likeness, likeness, 2)?;
         if !self.is_after_marker(rank) {

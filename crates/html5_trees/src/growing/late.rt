@@ -38,8 +38,8 @@ impl LateAttrs {
         self.id == id
     }
 
-    /// Collects those of a tag's attributes whose names the element doesn't have yet. Fails only when
-    /// memory runs out.
+    /// Collects those of a tag's attributes whose names the element doesn't have yet. Fails only
+    /// when memory runs out.
     pub fn add(&mut self, alloc: Global, tag: &Tag) -> Result<(), PageFault> {
         for attr in tag.attrs.as_slice() {
             if !self.names.contains(attr.name.as_str()) {
@@ -51,7 +51,8 @@ impl LateAttrs {
         Ok(())
     }
 
-    /// Adds the collected attributes to the element, after its own. Fails only when memory runs out.
+    /// Adds the collected attributes to the element, after its own. Fails only when memory runs
+    /// out.
     pub fn put_into(self, tree: &mut Tree) -> Result<(), PageFault> {
         let mut attrs = attrs_at(tree, self.id)?;
         for attr in self.added {
