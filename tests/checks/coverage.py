@@ -18,15 +18,11 @@ import re
 import sys
 
 ROOT = pathlib.Path(__file__).resolve().parents[2]
-ROOTS, SHARED = ("test_calls", "test_queries", "test_times", "test_batch", "examples", "dq", "hq", "hq_pages"), "test_lines"
+ROOTS, SHARED = ("test_calls", "test_queries", "test_times", "test_batch", "test_encodings", "test_clean", "examples", "dq", "hq", "hq_pages"), "test_lines"
 # Public functions that no program calls, with the reason. One that a program calls is a fault here.
 UNCALLED = {
     ("Tree", "move_allowed"): "its caller proves that the move is allowed, which only tree construction (html5_trees) does",
     ("", "plain_trees_are_built"): "a law: it has no body",
-    ("", "declared_encoding"): "no reader of pages in other encodings than UTF-8 yet",
-    ("", "decode_into"): "no reader of pages in other encodings than UTF-8 yet",
-    ("Encoding", "for_bom"): "no reader of pages in other encodings than UTF-8 yet",
-    ("SingleByte", "decode_into"): "no reader of pages in other encodings than UTF-8 yet",
 }
 # Comments, strings, characters, and imports of specs.
 BLANK = re.compile(r'//[^\n]*|"(?:\\.|[^"\\])*"|\'(?:\\[^\']+|[^\'\\])\'|\bghost use [^;]*;', re.S)
@@ -93,7 +89,7 @@ def end_of(text, at, opening="([{", closing=")]}"):
 
 
 def parts_of(text):
-    """What stands between the commas of a list."""
+    """The texts between the commas of a list."""
     parts, depth, start = [], 0, 0
     for place, sign in enumerate(text):
         depth += sign in "([{<"
@@ -128,7 +124,7 @@ def source_of(file):
 
 
 def blocks_of(text):
-    """The blocks that are an `impl` or a trait: where they stand, which, and whose methods they hold."""
+    """The blocks that are an `impl` or a trait: where they are, which of the two, and for which type their methods are."""
     for found in BLOCK.finditer(text):
         head = GENERICS.sub("", re.sub(r"->|=>", "", found[2])).split(" where ")[0]
         owners = tuple(re.findall(r"\b[A-Z]\w*", head))
@@ -136,7 +132,7 @@ def blocks_of(text):
 
 
 def body_at(text, at):
-    """The body that stands there, behind clauses, which have blocks of their own; None where there is none."""
+    """The body that begins there, after clauses, which have blocks of their own; None if there is none."""
     while found := re.compile(r"\b(requires|ensures|ghost)\b|\[[^][{}]*\]|[{;]").search(text, at):
         if found[0].startswith("["):
             at = found.end()
@@ -238,7 +234,7 @@ class Calls:
             self.made.add(("", event["free"]))
 
     def expression(self, at, ends):
-        """What stands there, up to one of these signs outside of brackets."""
+        """The text from there up to one of these signs outside of brackets."""
         place = at
         while place < len(self.body) and self.body[place] not in ends + ")]}":
             place = end_of(self.body, place) if self.body[place] in "([{" else place + 1
@@ -294,7 +290,7 @@ class Calls:
             self.variables.update(dict.fromkeys(re.findall(r"\b[a-z_]\w*\b", pattern)))
 
     def receiver(self, dot):
-        """What stands before a dot: a name or a call, with what follows it by dots."""
+        """The expression before a dot: a name or a call, with what follows it by dots."""
         place = dot
         while True:
             place = len(self.body[:place].rstrip().rstrip("?").rstrip())

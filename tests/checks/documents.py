@@ -6,10 +6,11 @@ A fenced block is checked by the words behind its fence:
   built programs `hq` and `dq` on the PATH. It must end with status 0 (a line may end in `|| true` where it is meant to fail).
 - `sh build`: commands that build something, which aren't run here.
 - `text output`, or another word before `output`: what the `sh` block before it must print, on standard output and standard error.
-- `rust`: part of a file of crates/examples/src, line for line but for its indentation.
+- `rust`: part of a file of crates/examples/src or crates/callers/src, line for line, apart from its indentation.
 - `text`: part of what the program `examples` prints.
-- `python`: run by python3 where the Python package can be loaded (`python output` is compared like `text output`).
-- Any other word (`ebnf`, `c`, `toml`, `html`, `css`): shown, not checked.
+- `python`: run by python3, where the Python package has its library (`python output` is compared like `text output`).
+- `c` and `c output`: built and run by tests/checks/c_and_python.py.
+- Any other word (`ebnf`, `toml`, `html`, `css`): shown, not checked.
 
 A block without a word is a fault, and so is a link to a file or a heading that isn't there."""
 import os
@@ -25,7 +26,8 @@ sys.path.insert(0, str(pathlib.Path(__file__).resolve().parents[1] / "tools"))
 from rows import ROOT, built  # noqa: E402
 
 EXAMPLES = ROOT / "crates" / "examples"
-SHOWN = {"ebnf", "shown", "c", "toml", "html", "css", "json", "yaml", "make", "diff", "markdown", "antt", "contracts"}
+CALLERS = ROOT / "crates" / "callers"
+SHOWN = {"ebnf", "shown", "toml", "html", "css", "json", "yaml", "make", "diff", "markdown", "antt", "contracts"}
 SECONDS = 120
 
 
@@ -48,7 +50,7 @@ def blocks(page):
 
 
 def is_part_of(block, text):
-    """Whether the block's lines stand in the text one after the other, but for their indentation."""
+    """Whether the text contains the block's lines one after the other, apart from their indentation."""
     lines = text.splitlines()
     wanted = textwrap.dedent("\n".join(block))
     pieces = (lines[at : at + len(block)] for at in range(len(lines) - len(block) + 1))
@@ -89,6 +91,8 @@ def faults_of(page, sources, printed_by_examples, counted):
             where, fault = f"{page.relative_to(ROOT)}:{start}", None
             if not words:
                 fault = "this block has no word behind its fence"
+            elif words[0] == "c" or (words[0] == "python" and not has_python()):
+                continue
             elif words[-1] == "output":
                 wanted = "\n".join(block) + "\n"
                 if printed is None:
@@ -99,10 +103,10 @@ def faults_of(page, sources, printed_by_examples, counted):
                     fault = "the command prints nothing"
             elif words == ["sh"]:
                 printed, fault = fault_of_run(block, words, folder)
-            elif words == ["python"] and has_python():
+            elif words == ["python"]:
                 printed, fault = fault_of_run(block, words, folder)
             elif words[0] == "rust":
-                fault = None if any(is_part_of(block, text) for text in sources) else "no file of crates/examples/src has this"
+                fault = None if any(is_part_of(block, text) for text in sources) else "no file of the quoted crates has this"
             elif words == ["text"]:
                 fault = None if is_part_of(block, printed_by_examples) else "the program `examples` doesn't print this"
             elif words[0] not in {"sh", "python", *SHOWN}:
@@ -141,7 +145,8 @@ def broken_links(page, counted):
 
 def documents():
     """Checks all pages, and returns how many blocks and links are right and wrong."""
-    sources = [file.read_text(encoding="utf-8") for file in sorted((EXAMPLES / "src").glob("*.rt"))]
+    files = [file for crate in (EXAMPLES, CALLERS) for file in sorted((crate / "src").glob("*.rt"))]
+    sources = [file.read_text(encoding="utf-8") for file in files]
     printed = (EXAMPLES / "stdout").read_text(encoding="utf-8")
     counted, faults = [0], []
     for page in dict.fromkeys(pages()):

@@ -19,7 +19,7 @@ for folder in ("tools", "second_definitions"):
 import grammars  # noqa: E402
 from rows import SECONDS, built  # noqa: E402
 
-CHANGED = b"<>/\"'=&-!?#; \x00\x80\xff"
+CHANGED = b"<>/\"'=&-!?#; \t\f\r\x00\x80\xff"
 MARKUPS = (
     '<!doctype HTML><p CLASS="a&amp;b" id=\'x\' k = v>1 < 2 &gt;</p>',
     '<!DOCTYPE a PUBLIC "p" \'s\'><ul><li>&#39;&#x27;&nbsp;</li><BR/></ul>',
@@ -281,7 +281,7 @@ PAGES = (
     "<form><form><ul><li>a<li>b<ul><li>c</ul><dl><dt>d<dd>e</dl><h1>g<h2>h</h1></form><button>i<button>j</button><ruby>k<rb>l<rt>m"
     "</ruby><marquee>o</p></marquee><applet>p</applet><image><hr></br><pre>\n q</pre><body x=y><html z=w>",
 )
-PAGE_MARKS = ("", "<", ">", "&", "\0", "/")
+PAGE_MARKS = ("", "<", ">", "&", "\0", "/", " ", "=", "\f", "\r", '"', "'", "-", "!")
 # Bytes with a byte order mark, characters of each length, and what isn't UTF-8.
 PAGE_BYTES = (
     b"",
@@ -343,7 +343,7 @@ def is_text(data):
 def pages():
     """Has pages read whole, with their errors noted, in pieces of some sizes, and with a text behind their bytes; returns how many are one page
     by each way, and how many aren't. Noting errors, tags are read character by character; so, and in pieces, calm pages are read
-    by tree construction."""
+    by tree construction. In pieces of one byte none of the fast ways for runs, tags and references is taken."""
     inputs = list(dict.fromkeys(page_inputs()))
     whole = dict(zip(inputs, asked("test_batch", ["pages", "whole"], [data.hex() for data in inputs])))
     ended = dict(zip(PAGE_BYTES, asked("test_batch", ["pages", "whole"], [(data + "é".encode()).hex() for data in PAGE_BYTES])))

@@ -1,5 +1,6 @@
 """Compares the options that `hq --help` lists with those of the man page, of docs/HQ.md and of the completions for bash and zsh,
-and asks mandoc, where it is installed, whether it accepts the man pages."""
+asks mandoc, where it is installed, whether it accepts the man pages, and looks whether `hq --help` and `hq --version` print every
+text of the source of the command line."""
 import pathlib
 import re
 import shutil
@@ -35,9 +36,26 @@ def missing():
                 yield f"{file}: the option {option} isn't there"
 
 
+def unprinted():
+    """The texts of the command line's source that `--help` doesn't print, and the version, if `--version` doesn't print it."""
+    source = (ROOT / "crates" / "hq_pages" / "src" / "command.rt").read_text(encoding="utf-8")
+    says = lambda option: subprocess.run([built("hq"), option], capture_output=True, check=True, text=True).stdout
+    helped = " ".join(says("--help").split())
+    texts = re.findall(r'(?:\.(?:about|help)\(|const (?:USAGE|AFTER): &str = |^    \("[a-z-]+",.*, )"((?:[^"\\]|\\.)*)"[);]', source, re.M)
+    for text in texts:
+        shown = " ".join(text.replace('\\"', '"').split())
+        if shown and shown not in helped:
+            yield f"hq --help doesn't print {shown!r}"
+    if len(texts) < 20:
+        yield f"command.rt has {len(texts)} texts"
+    version = re.search(r'VERSION: &str = "([^"]*)"', source)[1]
+    if says("--version") != f"hq {version}\n":
+        yield f"hq --version doesn't print {version}"
+
+
 def options():
     """Returns how many comparisons are right and wrong."""
-    faults = list(missing())
+    faults = [*missing(), *unprinted()]
     if shutil.which("mandoc"):
         for name in ("hq", "dq"):
             said = subprocess.run(["mandoc", "-Tlint", ROOT / "docs" / "man" / f"{name}.1"], capture_output=True, text=True).stdout

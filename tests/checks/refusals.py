@@ -29,18 +29,18 @@ MANY = 3_000
 WHOLE = {"first_path", "lines", "selectors"}
 # The line that prints all that the document holds.
 STATE = b"state"
-# The programs, and the files of their rows whose lines are asked.
+# The programs, and the files of their rows whose lines are run.
 FILES = {
     "test_calls": "memory apart changes documents moves pages reading sanitising sinks texts values".split(),
     "test_queries": "cached indexes minis selections selectors several".split(),
     "test_batch": ["lines"],
 }
-# What is asked in small address spaces, over so many paragraphs.
+# What is run in small address spaces, with so many paragraphs.
 LIMITED = [("test_batch", b"texts"), *(("test_calls", line) for line in (b"print", b"clone", b"to-fragment 0", b"htmls 0", b"md 0", b"walk 0"))]
 LIMITED += [("test_calls", b"nodes 1,5,9 append_html " + b"<i>x</i>" * 2_000)]
 LIMITED += [("test_queries", line) for line in (b"places", b"select p b", b"selection p, b", b"step b", b"find 0 p > b")]
 PARAGRAPH, PARAGRAPHS = b"<p class='a'>text that a node keeps apart, for it is long<b>b</b></p>", 1_000
-# Address spaces are told apart by pages. The heap grows by pages too, so that a small request is refused where the space ends.
+# Address spaces differ by whole pages. The heap grows by pages too, so that a small request is refused where the space ends.
 PAGE, BELOW, ABOVE = 4096, 64, 4
 LEAST, MOST = 1 << 20, 1 << 24
 BY_PAGES = {"GLIBC_TUNABLES": "glibc.malloc.top_pad=0"}
@@ -168,7 +168,7 @@ def asked_lines(program):
 
 
 class Asked:
-    """A line that is asked with ample memory: what is printed before it, its answer, the document after it, and the requests that
+    """A line that is run with enough memory: what is printed before it, its answer, the document after it, and the requests that
     it makes, by their numbers."""
 
     def __init__(self, counter, program, markup, before, line):
@@ -190,7 +190,7 @@ class Asked:
         return (lines[:-1], lines[-1]) if lines else ([], None)
 
     def state_after(self, count):
-        """What the document holds where the line is asked of so many of its nodes alone."""
+        """What the document contains if the line is run for so many of its nodes alone."""
         group, ids, rest = self.line.split(b" ", 2)
         line = b" ".join([group, b",".join(ids.split(b",")[:count]), rest])
         ran = subprocess.run(self.words(line), input=self.markup, capture_output=True, timeout=SECONDS)

@@ -7,7 +7,7 @@ attributes, over the clean of its children; any other element becomes the clean 
 A process is asked for many forests, by one allow-list: they stand side by side in one document, each followed by the
 element `hr`, which every list allows. The line is asked twice, and must leave the same.
 
-`clean.py [SEED [COUNT]]` compares so many forests, over the program `dq` that stands built in the workspace."""
+`clean.py [SEED [COUNT]]` compares so many forests, with the program `dq` that was built in the workspace."""
 import pathlib
 import random
 import subprocess
@@ -30,7 +30,7 @@ PLAIN = ["a", " ", "é", "<b>", "&amp;", "</p>", "<!--", '"', "\u00a0"]
 
 
 class Forests:
-    """Random forests, and the texts that spell them. A node is a pair: of 'text', 'comment' or 'doctype' and a text, or of a
+    """Random forests, and the texts of their markup. A node is a pair: of 'text', 'comment' or 'doctype' and a text, or of a
     name and a pair of attributes and children."""
 
     def __init__(self, seed):
@@ -79,7 +79,7 @@ class Forests:
         return f"{self.random.choice([' ', '  '])}{self.mixed(name)}{equals}{quote}{escaped}{quote}"
 
     def spelled(self, nodes):
-        """A text that spells the nodes."""
+        """The markup of the nodes."""
         texts = []
         for kind, held in nodes:
             if kind == "text":

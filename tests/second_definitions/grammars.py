@@ -30,7 +30,7 @@ def folded(name):
 
 
 def character(found):
-    """What a reference stands for: a character, or the reference itself where its number is none."""
+    """The character that a reference stands for, or the reference itself if its number isn't that of a character."""
     name, decimal, hexadecimal = found.groups()
     if name:
         return NAMED[name]
@@ -107,7 +107,7 @@ def item_at(text, at, is_open):
 
 
 def markup(text):
-    """The HTML of the trees that the text spells, or the fault."""
+    """The HTML of the trees that the text is read as, or the fault."""
     out, opened, at = [], [], 0
     while at < len(text):
         run = TEXT.match(text, at)
@@ -128,7 +128,7 @@ def markup(text):
 
 
 class Selector:
-    """A reader of selectors. It says whether a text stands for a list, not what is wrong with it."""
+    """A reader of selectors. It says whether a text is a selector list, not what is wrong with it."""
 
     WITHOUT = set(
         "root scope link any-link empty only-text first-child last-child only-child first-of-type last-of-type"

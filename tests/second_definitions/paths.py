@@ -8,7 +8,7 @@ root is compared too, and below another start it must have all that the path fin
 A process is asked for many forests: each stands in an element `hr-f`, and paths start at the document, at such elements and
 at nodes in them.
 
-`paths.py [SEED [COUNT]]` compares so many forests, over the program `test_queries` that stands built in the workspace."""
+`paths.py [SEED [COUNT]]` compares so many forests, with the program `test_queries` that was built in the workspace."""
 import pathlib
 import random
 import subprocess
@@ -44,7 +44,7 @@ class Node:
 
 
 def related(node, combinator):
-    """The elements that stand to the node as the combinator says."""
+    """The elements that the combinator relates to the node."""
     if combinator == ">":
         found = node.children
     elif combinator == " ":
@@ -70,7 +70,7 @@ def matches(mini, node):
 
 
 class Documents:
-    """Random documents of forests, the texts that spell them, and paths."""
+    """Random documents of forests, the texts of their markup, and paths."""
 
     def __init__(self, seed):
         self.random = random.Random(seed)
@@ -115,7 +115,7 @@ class Documents:
         return (name, marks) if name or marks else ("a", [])
 
     def path(self):
-        """A path, and the text that spells it."""
+        """A path, and its text."""
         steps = [(self.random.choice(COMBINATORS), self.mini()) for _ in range(self.random.choice([1, 2, 2, 3, 3, 4]))]
         spelled = lambda mini: (mini[0] or "") + "".join({"id": "#", "class": "."}[key] + value for key, value in mini[1])
         text = "".join(combinator + spelled(mini) for combinator, mini in steps)

@@ -16,6 +16,8 @@ PIECES = (
     "|<metax |<script>|</script>|a=b |b='c>d' |\x0c|\r|<!doctype html>|<!-->|&|\xe9"
 ).split("|")
 
+XML = " encoding='koi8-r'?>|encoding = \"utf-16\" ?>|encoding|encoding=|encoding='|encoding=big5?>|?>|\nencoding='nosuch'>".split("|")
+
 
 class Ended(Exception):
     """The bytes ended."""
@@ -145,8 +147,33 @@ def step(scan):
     return ""
 
 
+def of_xml(page):
+    """The encoding of an XML declaration at the start ("get an XML encoding")."""
+    blank = bytes(range(0x21))
+    front, end, _ = page.partition(b">")
+    _, word, rest = front.partition(b"encoding")
+    rest = rest.lstrip(blank)
+    if not (front.startswith(b"<?xml") and end and word and rest.startswith(b"=")):
+        return ""
+    rest = rest[1:].lstrip(blank)
+    label, closed, _ = rest[1:].partition(rest[:1] or b"'")
+    if rest[:1] not in (b'"', b"'") or not closed or any(byte in blank for byte in label):
+        return ""
+    found = of_label(label)
+    return "UTF-8" if found in ("UTF-16BE", "UTF-16LE") else found
+
+
 def declared(page):
-    scan = Scan(page[:1024])
+    page = page[:1024]
+    for front, name in ((b"<\0?\0x\0", "UTF-16LE"), (b"\0<\0?\0x", "UTF-16BE")):
+        if page.startswith(front):
+            return name
+    return of_metas(page) or of_xml(page)
+
+
+def of_metas(page):
+    """What the first `meta` declares that declares something."""
+    scan = Scan(page)
     try:
         while scan.at < len(scan.page):
             found = step(scan)
@@ -164,5 +191,7 @@ def soup(random):
         page += "<meta charset=%s>" % random.choice("koi8-r gbk utf-8 x utf-16 iso-8859-2".split())
     if random.random() < 0.3:
         page += '<meta http-equiv=content-type content="a;charset = %s">' % random.choice("koi8-u big5 x".split())
+    if random.random() < 0.2:
+        page = "<?xml version='1.0'" + random.choice(XML) + page
     whole = (page + "\"'>--><p>").encode("latin-1")
     return whole[: random.randrange(len(whole) + 1)] if random.random() < 0.2 else whole

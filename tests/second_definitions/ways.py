@@ -1,7 +1,7 @@
 """Asks random selectors below random roots of random forests in each way: the tables of an index, and the choice between them
 and asking, must select what asking each node does.
 
-`ways.py [SEED [COUNT]]` asks so many, over the program `test_queries` that stands built in the workspace."""
+`ways.py [SEED [COUNT]]` tests so many, with the program `test_queries` that was built in the workspace."""
 import pathlib
 import random
 import subprocess

@@ -52,7 +52,7 @@ def in_list(items):
 
 
 def run_of(chars):
-    """The marks of characters that stand next to one another in an entry."""
+    """The marks of characters next to one another in an entry."""
     if chars[:4] == table.SPACE:
         return ["space", *run_of(chars[4:])]
     if chars == [0]:

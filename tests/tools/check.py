@@ -16,7 +16,8 @@ The fields of a row: `markup` is the standard input; `args` is the list of argum
 and `error` are what the program must write to standard output and standard error; `status` is its exit status, 0 if the field is
 missing. `markup_hex` and `script_hex` hold bytes in hexadecimal, for inputs that are not UTF-8. A text may also be a list of
 pieces, each a text and how often it is repeated, in which {n} is replaced by the number of the repetition; an argument may be
-a list of a text and how often it is repeated.
+a list of a text and how often it is repeated. `entry` names the rule or the entry of a table that the row is for
+(tests/checks/tables.py).
 
 tests/checks/documents.py says how the commands, programs and outputs in the documents are checked.
 
@@ -37,11 +38,13 @@ sys.dont_write_bytecode = True
 TESTS = pathlib.Path(__file__).resolve().parents[1]
 for folder in ("tools", "checks", "second_definitions"):
     sys.path.insert(0, str(TESTS / folder))
+import c_and_python  # noqa: E402
 import clean  # noqa: E402
 import coverage  # noqa: E402
 import depth  # noqa: E402
 import documents  # noqa: E402
 import edits  # noqa: E402
+import encodings_of_pages  # noqa: E402
 import growth  # noqa: E402
 import hostile  # noqa: E402
 import options  # noqa: E402
@@ -51,6 +54,7 @@ import refusals  # noqa: E402
 import standard  # noqa: E402
 import standard_rules  # noqa: E402
 import streams  # noqa: E402
+import tables as entries_of_tables  # noqa: E402
 import ways  # noqa: E402
 from rows import ROOT, SECONDS, built, given, words_of  # noqa: E402
 
@@ -196,6 +200,13 @@ def followed():
     return passed, failed
 
 
+def decoded():
+    """Asks the decoders, the labels and what pages declare."""
+    passed, failed = encodings_of_pages.run()
+    print(f"encodings: {passed} passed, {failed} failed")
+    return passed, failed
+
+
 def wrong_bodies():
     """Looks for each must-fail edit that docs/WRONG_BODIES.md names, and returns how many are there and how many aren't."""
     text = (ROOT / "docs" / "WRONG_BODIES.md").read_text(encoding="utf-8")
@@ -210,7 +221,7 @@ def wrong_bodies():
 
 def front_end(rt, root, name, source):
     """Whether the compiler takes the source as a program that uses that crate, over the libraries that the gate built, and
-    what it says. Nothing is proved: no function has the name that is asked for, so it ends once it has read them all."""
+    what it says. Nothing is proved: no function has the name that is passed, so the compiler ends once it has read them all."""
     caller = root / "crates" / "caller"
     (caller / "src").mkdir(parents=True, exist_ok=True)
     (caller / "src" / "main.rt").write_text(source, encoding="utf-8")
@@ -261,13 +272,13 @@ def main():
     if sys.argv[1:] not in ([], ["--rows"], ["--anew"]):
         print("usage: check [--rows | --anew]; the head of tests/tools/check.py says what it does", file=sys.stderr)
         return 2
-    # (the prover gives its memory back to the system again and again, unless it is told not to: 2 % of its time)
+    # (by default the prover returns its memory to the system again and again, which takes 2 % of its time)
     os.environ.setdefault("MIMALLOC_PURGE_DELAY", "-1")
     clock, rows_alone = Clock(), sys.argv[1:] == ["--rows"]
     counts, edits_left = (None, lambda: (0, 0)) if rows_alone else gate(clock)
     tables = [rows, cleaned, followed, asked_each_way]
-    tables += [documents.documents, reference.reference, options.options, standard.standard, standard_rules.checked]
-    tables += [wrong_bodies, coverage.coverage, hostile.hostile]
+    tables += [c_and_python.c_and_python, documents.documents, reference.reference, options.options, standard.standard]
+    tables += [standard_rules.checked, wrong_bodies, coverage.coverage, entries_of_tables.tables, hostile.hostile, decoded]
     counts = [counts] if counts else []
     with ThreadPoolExecutor() as pool:
         # (what is done beside the edits neither measures the processor time of others nor changes a child before it starts)

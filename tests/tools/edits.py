@@ -2,7 +2,7 @@
 must refuse that function: a function that calls it doesn't count, nor does the crate as a whole.
 
 An edit is a file tests/must-fail/CRATE/NAME.edit, in the form of `rt must-fail`: a line 'file: src/FILE.rt', then pairs
-of lines 'old: TEXT' and 'new: TEXT', where the old text stands in the file once. The edits of different functions are
+of lines 'old: TEXT' and 'new: TEXT', where the file contains the old text once. The edits of different functions are
 put into one copy of the crate, which is checked over the libraries that the gate built. A proof cites the contracts of
 what it calls and no code, so in that copy every other function has an endless loop for a body and a hole for a proof,
 which cost next to nothing; functions of a cycle of calls have one proof, and stay as they are where an edit changes one of
@@ -13,8 +13,8 @@ do, and it is reported as one elsewhere.
 
 `edits.py --control [CRATE ..]` tries the same functions without their edits: the prover must refuse none of them.
 
-`edits.py [CRATE ..]` tries the edits of these crates, or of all, over what stands built in the workspace. As `rt ci` does,
-it keeps on this machine what was refused, by the sum of all that it stands on; `--anew` tries all again."""
+`edits.py [CRATE ..]` tries the edits of these crates, or of all, with the libraries that are built in the workspace. As `rt ci` does,
+it keeps on this machine what was refused, by the checksum of all that it depends on; `--anew` tries all again."""
 import hashlib
 import importlib.machinery
 import importlib.util
@@ -65,7 +65,7 @@ def linked(file, to):
 
 
 def function_at(lines, at):
-    """The function that the line `at` (from 0) stands in: its name, its first line and its last, or None."""
+    """The function that contains the line `at` (from 0): its name, its first line and its last, or None."""
     for first in range(at, -1, -1):
         head = HEAD.match(lines[first])
         if head:
@@ -77,7 +77,7 @@ def function_at(lines, at):
 
 
 def owner_of(lines, first):
-    """The name under which the prover knows the `impl` that the function at that line stands in, or None: the type, and the
+    """The name under which the prover knows the `impl` that contains the function at that line, or None: the type, and the
     trait with its first argument, if that is no parameter of the `impl`."""
     if not lines[first].startswith(" "):
         return None
@@ -165,7 +165,7 @@ class Edit:
             self.fault = "it changes nothing"
 
     def is_of(self, path):
-        """Whether it turns the function of that path: one of its name that stands in the `impl`, or in the module, of that
+        """Whether it changes the function of that path: one of its name in the `impl`, or in the module, of that
         file."""
         module = [it for it in pathlib.Path(self.path).with_suffix("").parts[1:] if it != "lib"]
         return path[-1] in self.owners and (self.owners[path[-1]] or "") in ("", *path) and (
@@ -271,7 +271,7 @@ class Trial:
         self.rt, self.crate, self.jobs, self.is_control, self.wrong = rt, crate, jobs, is_control, []
         self.refusals = refusals
         self.folder = pathlib.Path(crate.folder)
-        # (what is derived may stand in a cycle of calls, but for `from`, and what is handed on has no code here)
+        # (what is derived may be in a cycle of calls, except `from`, and what is re-exported has no code here)
         owners, modules = {}, set()
         for file in (self.folder / "src").rglob("*.rt"):
             lines = file.read_text(encoding="utf-8").split("\n")

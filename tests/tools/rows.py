@@ -11,20 +11,20 @@ def built(name):
 
 
 def written(text):
-    """The bytes of a text, or of one that is given in pieces."""
+    """The bytes of a text, or of a text in pieces."""
     pieces = [(text, 1)] if isinstance(text, str) else text
     return "".join("".join(piece.replace("{n}", str(n)) for n in range(times)) for piece, times in pieces).encode()
 
 
 def given(case, name):
-    """The bytes of a field that is a text, or that is given in hexadecimal."""
+    """The bytes of a field that is a text, or hexadecimal digits."""
     if f"{name}_hex" in case:
         return bytes.fromhex(case[f"{name}_hex"])
     return written(case.get(name, ""))
 
 
 def arguments(words):
-    """The bytes of each argument; one that is given with a number stands so many times."""
+    """The bytes of each argument; one with a number is repeated that many times."""
     repeated = [(word, 1) if isinstance(word, str) else word for word in words]
     return [word.encode() for word, times in repeated for _ in range(times)]
 

@@ -8,23 +8,23 @@ use crate::table::BIG5;
 use decoded_text::{Decoded, ascii_front};
 use std::alloc::AllocError;
 
-/// What the first bytes of a text give.
+/// The first character of a text, and what follows it.
 #[derive(Clone, Copy, Drop)]
 pub(crate) struct Step<'a> {
     character: Option<char>,
-    /// A mark that stands behind the character.
+    /// A combining mark after the character.
     mark: Option<char>,
-    /// The bytes behind.
+    /// The bytes after it.
     rest: &'a [u8],
 }
 
-/// Appends the characters of the bytes, and returns the bytes that are not decoded yet: at most
-/// one, whose character goes on in bytes that follow. Where the bytes are the last ones, all are
+/// Appends the characters of the bytes, and returns the bytes that aren't decoded yet: at most one,
+/// the beginning of a character that the next bytes continue. If `is_last` is true, all bytes are
 /// decoded.
 ///
 /// # Errors
 ///
-/// `AllocError` where memory is short.
+/// Fails with `AllocError` if memory runs out.
 pub fn decode_into<'b>(
     out: &mut Decoded,
     bytes: &'b [u8],
@@ -32,7 +32,8 @@ pub fn decode_into<'b>(
 ) -> Result<&'b [u8], AllocError>
     requires { IsCounted out.old }
     ensures continues { (more : List ℕ) → (IsTrue is_last → more ≡ []) → IfOk result (λ rest.
-        Continues out.old (characters BIG5 (bytes.now ++ more)) out.new (characters BIG5 (rest.now ++ more))) }
+        Continues out.old (characters BIG5 (bytes.now ++ more))
+        out.new (characters BIG5 (rest.now ++ more))) }
     ensures few { IfOk result (λ rest. length rest.now < 2) }
     ensures all { IsTrue is_last → IfOk result (λ rest. rest.now ≡ []) }
     ensures counted { IsCounted out.new }
@@ -70,12 +71,13 @@ fn push_both(out: &mut Decoded, character: Option<char>, mark: char) -> Result<(
     Ok(())
 }
 
-/// The first character and the bytes behind it; none where that takes more bytes than there are.
+/// Returns the first character and the bytes after it; `None` if it is incomplete.
 fn next(bytes: &[u8], is_last: bool) -> Option<Step<'_>>
     ensures none { IfNone result (length bytes.now < 2) }
     ensures last { IsTrue is_last → IfNone result (bytes.now ≡ []) }
     ensures some { (more : List ℕ) → (IsTrue is_last → more ≡ []) → IfSome result (λ step.
-        characters BIG5 (bytes.now ++ more) ≡ marked step.character step.mark ++ characters BIG5 (step.rest.now ++ more)) }
+        characters BIG5 (bytes.now ++ more)
+        ≡ marked step.character step.mark ++ characters BIG5 (step.rest.now ++ more)) }
     ensures less { IfSome result (λ step. length step.rest.now < length bytes.now) }
 {
     let (lead, behind) = bytes.split_first()?;
@@ -89,13 +91,14 @@ fn next(bytes: &[u8], is_last: bool) -> Option<Step<'_>>
     })
 }
 
-/// The character of two bytes, of which the first was read, and the bytes behind it.
+/// Returns the character of two bytes, of which the first was read, and the bytes after it.
 fn pair(lead: u8, behind: &[u8], is_last: bool) -> Option<Step<'_>>
     requires { IsTrue (is_lead lead) }
     ensures none { IfNone result (behind.now ≡ []) }
     ensures last { IfNone result (is_last ≡ false) }
     ensures some { (more : List ℕ) → (IsTrue is_last → more ≡ []) → IfSome result (λ step.
-        characters BIG5 (lead ∷ (behind.now ++ more)) ≡ marked step.character step.mark ++ characters BIG5 (step.rest.now ++ more)) }
+        characters BIG5 (lead ∷ (behind.now ++ more))
+        ≡ marked step.character step.mark ++ characters BIG5 (step.rest.now ++ more)) }
     ensures less { IfSome result (λ step. length step.rest.now ≤ length behind.now) }
 {
     let Some((trail, others)) = behind.split_first() else {
@@ -128,21 +131,21 @@ fn pair(lead: u8, behind: &[u8], is_last: bool) -> Option<Step<'_>>
     }
 }
 
-/// Whether a byte is the first of two.
+/// Returns whether a byte is the first of two.
 fn is_lead(byte: u8) -> bool
     ensures { result ≡ is_lead byte }
 {
     0x81 <= byte && byte <= 0xFE
 }
 
-/// Whether a byte is the second of two.
+/// Returns whether a byte is the second of two.
 fn is_trail(byte: u8) -> bool
     ensures { result ≡ is_trail byte }
 {
     (0x40 <= byte && byte <= 0x7E) || (0xA1 <= byte && byte <= 0xFE)
 }
 
-/// The character of a byte alone.
+/// Returns the character of a byte alone.
 fn alone(byte: u8) -> Option<char>
     ensures { result ≡ alone byte }
 {
@@ -153,7 +156,7 @@ fn alone(byte: u8) -> Option<char>
     }
 }
 
-/// The character of two bytes.
+/// Returns the character of two bytes.
 fn of_two(lead: u8, trail: u8) -> Option<char>
     requires { IsTrue (is_lead lead) }
     ensures { result ≡ of_two BIG5 lead trail }
@@ -164,7 +167,7 @@ fn of_two(lead: u8, trail: u8) -> Option<char>
     None
 }
 
-/// The mark behind the letter of two bytes.
+/// Returns the mark behind the letter of two bytes.
 fn mark_of(lead: u8, trail: u8) -> Option<char>
     requires { IsTrue (is_lead lead) }
     ensures { result ≡ mark_of lead trail }
@@ -175,7 +178,7 @@ fn mark_of(lead: u8, trail: u8) -> Option<char>
     None
 }
 
-/// The pointer of two bytes.
+/// Returns the pointer of two bytes.
 fn pointer_of(lead: u8, trail: u8) -> usize
     requires lead { IsTrue (is_lead lead) }
     requires trail { IsTrue (is_trail trail) }
@@ -185,7 +188,7 @@ fn pointer_of(lead: u8, trail: u8) -> usize
     (usize::from(lead) - 0x81) * 157 + (usize::from(trail) - offset)
 }
 
-/// The mark at a pointer.
+/// Returns the mark at a pointer.
 fn mark_at(pointer: usize) -> Option<char>
     ensures { result ≡ mark_at pointer }
 {
@@ -196,7 +199,7 @@ fn mark_at(pointer: usize) -> Option<char>
     }
 }
 
-/// The character of a pointer.
+/// Returns the character of a pointer.
 #[tactic(auto, unfolding(crate::specs::Decoding::character_at))]
 fn character_at(index: &[u32], pointer: usize) -> Option<char>
     ensures { result ≡ character_at index.now pointer }

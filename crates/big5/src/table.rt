@@ -1,5 +1,5 @@
-//! The index of Big5 in the Encoding Standard; 0 where a pointer has no character. At the four pointers
-//! that stand for a letter and a mark behind it, the letter.
+//! The index of Big5 in the Encoding Standard, with 0 for a pointer without a character. Four
+//! pointers stand for a letter and a combining mark; the index has the letter.
 
 /// Big5.
 #[rattlefmt::skip]

@@ -8,8 +8,9 @@ use std::str::from_utf8_unchecked;
 /// How many bytes are examined together.
 const BLOCK: usize = 16;
 
-/// Splits the bytes behind the blocks of 16 ASCII bytes that they begin with. The front is empty
-/// where one of the first 16 bytes is not ASCII, or where there are fewer than 16 bytes.
+/// Splits the bytes after the blocks of 16 ASCII bytes at their start; returns these blocks as
+/// text, and the other bytes. The text is empty if one of the first 16 bytes isn't ASCII, or if
+/// there are fewer than 16 bytes.
 pub fn ascii_front(bytes: &[u8]) -> (&str, &[u8])
     ensures parts { bytes.now ≡ result.0.now ++ result.1.now }
     ensures ascii { IsAscii result.0.now }
@@ -18,7 +19,7 @@ pub fn ascii_front(bytes: &[u8]) -> (&str, &[u8])
     (unsafe { from_utf8_unchecked(front) }, rest)
 }
 
-/// The length of the blocks of ASCII that the bytes begin with.
+/// Returns the length of the blocks of ASCII bytes at the start.
 fn ascii_len(bytes: &[u8]) -> usize
     ensures within { result ≤ length bytes.now }
     ensures ascii { IsAscii (take result bytes.now) }

@@ -1,12 +1,12 @@
-//! Decoded text, and how many replacements are in it.
+//! Decoded text, and the number of replacements in it.
 
 ghost use Rattle.std.specs.Prelude.{◌≡◌, ◌≤◌, [], ◌∷◌, IfOk, IsAscii, OnOk, Some, chars, map};
 ghost use Rattle.decoded_text.specs.Characters.{Appends, IsCounted, IsDecoded};
 
 use std::alloc::{AllocError, Global};
 
-/// Text that was decoded, and how many times U+FFFD stands in it for bytes that could not be
-/// decoded. A U+FFFD that the bytes themselves encode is not counted.
+/// Text that was decoded, and how many U+FFFD in it replace bytes that couldn't be decoded. A
+/// U+FFFD that the bytes themselves encode isn't counted.
 #[derive(Debug, Drop)]
 pub struct Decoded {
     /// The text.
@@ -16,11 +16,11 @@ pub struct Decoded {
 }
 
 impl Decoded {
-    /// An empty text with room for so many bytes.
+    /// Returns an empty text with room for `capacity` bytes.
     ///
     /// # Errors
     ///
-    /// `AllocError` where memory is short.
+    /// Fails with `AllocError` if memory runs out.
     pub fn with_capacity(alloc: Global, capacity: usize) -> Result<Decoded, AllocError>
         ensures { IfOk result (λ decoded. IsDecoded decoded []) }
     {
@@ -30,11 +30,11 @@ impl Decoded {
         })
     }
 
-    /// Appends a character, or U+FFFD where there is none, which counts as a replacement.
+    /// Appends a character, or for `None` a U+FFFD, which is counted as a replacement.
     ///
     /// # Errors
     ///
-    /// `AllocError` where memory is short.
+    /// Fails with `AllocError` if memory runs out.
     pub fn push(&mut self, character: Option<char>) -> Result<(), AllocError>
         requires { IsCounted self.old }
         ensures appends { OnOk result (Appends self.old self.new (character ∷ [])) }
@@ -71,7 +71,7 @@ impl Decoded {
     ///
     /// # Errors
     ///
-    /// `AllocError` where memory is short.
+    /// Fails with `AllocError` if memory runs out.
     pub fn push_ascii(&mut self, ascii: &str) -> Result<(), AllocError>
         requires ascii { IsAscii ascii.now }
         requires counted { IsCounted self.old }
@@ -86,7 +86,7 @@ impl Decoded {
     ///
     /// # Errors
     ///
-    /// `AllocError` where memory is short.
+    /// Fails with `AllocError` if memory runs out.
     pub fn push_str(&mut self, text: &str) -> Result<(), AllocError>
         requires { IsCounted self.old }
         ensures appends { OnOk result (Appends self.old self.new (map Some (chars text.now))) }

@@ -1,5 +1,5 @@
-//! What decoders of character encodings share: the text that they write, with the number of
-//! replacements in it, and runs of ASCII.
+//! What the decoders of character encodings have in common: the text that they write, with the
+//! number of replacements in it, and fast decoding of runs of ASCII.
 #![tactic(auto)]
 
 mod ascii;

@@ -42,8 +42,8 @@ pub struct SelectionFault {
     pub fault: EditFault,
 }
 
-/// Makes the edit at one node. Whatever the edit is, it fails with `UnknownNode` for an unknown id.
-/// After an error the tree is unchanged.
+/// Makes the edit at one node. It fails with `UnknownNode` for an unknown id, and otherwise as the
+/// method of `Tree` with the name of the edit does. After an error the tree is unchanged.
 pub fn edit_node(tree: &mut Tree, id: NodeId, edit: Edit) -> Result<(), EditFault>
     ensures { Edits result tree.old tree.new (edit_at edit.entry id) }
 {
@@ -83,7 +83,7 @@ fn strip_known(tree: &mut Tree, id: NodeId, names: &[&str]) -> Result<(), EditFa
 }
 
 /// Makes the edit at each of the nodes, one after another. It stops at the first node at which
-/// `edit_node` fails, and returns that fault with the number of nodes that were done.
+/// `edit_node` fails, and returns that fault with the number of nodes at which the edit was made.
 pub fn edit_each(tree: &mut Tree, nodes: &[NodeId], edit: Edit) -> Result<(), SelectionFault>
     ensures { EditsEach result tree.old tree.new nodes.now (edit_at edit.entry) }
 {

@@ -20,8 +20,9 @@ use dom_nodes::node_id::NodeId;
 use dom_trees::tree::Tree;
 
 /// A list of node ids with a mutable borrow of their tree. Each edit is made at every node, in
-/// order. At the first error it stops: the `SelectionFault` says how many nodes were done, and the
-/// rest is unchanged. An id that the tree doesn't have fails with `UnknownNode`.
+/// order. At the first error it stops: the `SelectionFault` says at how many nodes the edit was
+/// made, and the other nodes are unchanged. An id that the tree doesn't have fails with
+/// `UnknownNode`.
 #[derive(Drop)]
 pub struct SelectionMut<'a> {
     pub tree: &'a mut Tree,

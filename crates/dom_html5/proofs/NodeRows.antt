@@ -1,6 +1,6 @@
 -- The nodes of a read document are its rows.
 use Rattle.std.proofs.Common.{◌≡◌, ℕ, zero, suc, ◌+◌, ◌<◌, ◌≤◌, true, false, Bool, List, [], ◌∷◌, ◌++◌, length, get_or, Option, Some, None, refl, sym, ap, ◌∙◌, subst, arith, drop, take, slice_get, length-drop, ◌-◌, inl, inr, add-zero}
-use Rattle.std.specs.Prelude.{◌⊎◌}
+use Rattle.std.specs.Prelude.{◌⊎◌, ◌==◌}
 use Rattle.std.specs.Option.{option_and_then, option_map, option_map_or}
 use Rattle.std.proofs.lemmas.Bool.{cases_lt, eq-eqb, eqb-true, true≢false}
 use Rattle.std.proofs.lemmas.List.{length-map, take_all}
@@ -15,7 +15,7 @@ use Rattle.dom_markup.specs.ValueTrees.{ValueTrees}
 use Rattle.dom_markup.proofs.plain.PlainRows.{contents_in, document_rows}
 use Rattle.dom_markup.proofs.rows.DocumentSound.{document_sound}
 use Rattle.dom_markup.proofs.rows.RowsForest.{parent_at, parent_from, row_at, stands-children}
-use Rattle.dom_html5.specs.Scopes.{next_scope, scope_below}
+use Rattle.dom_html5.specs.Scopes.{next_scope, scope_at, scope_below}
 use Rattle.dom_html5.specs.declared.calm.nesting.Scope.{Scope}
 use Rattle.dom_html5.proofs.ScopeLemmas.{all_fit, fits_next, fits_none}
 
@@ -93,7 +93,7 @@ same_scope trees scopes n row content is few = elim (cases_Option (parent (docum
       | inl low ↦ absurd (no_some some.0 (sym none ∙ node_of_row trees n some.0 row is some.1 low))
       | inr high ↦
           let past : slice_get scopes some.0 ≡ None = slice_get_past scopes some.0 (omega (arith, high, few)) in
-          ap (λ o. next_scope scopes o content) none ∙ sym (ap (λ o. next_scope scopes o content) some.1 ∙ ap (option_and_then (λ scope. scope_below scope content)) past)
+          ap (λ o. next_scope scopes o content) none ∙ sym (ap (λ o. next_scope scopes o content) some.1 ∙ ap (option_and_then (λ scope. scope_below (scope_at (some.0 + 1 == length scopes) scope) content)) past)
     ]
   ]
 ]

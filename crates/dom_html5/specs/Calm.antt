@@ -68,12 +68,22 @@ abbrev pub begins_line : List ℕ → Bool
 begins_line [] = false
 begins_line (b ∷ rest) = b == line_feed
 
--- whether such an element may have this text as a child: only whitespace in elements whose text tree construction would move
+-- whether such an element may have this text as a child: only whitespace in elements whose text tree construction would move;
+-- in a `pre`, no text that begins with a line feed, which a reader drops right after the start tag
 abbrev pub may_hold_text : ElementCategory → List ℕ → Bool
 may_hold_text Html contents = list_all is_whitespace contents
 may_hold_text Verbatim contents = not (has_close contents)
 may_hold_text Pre contents = not (begins_line contents)
 may_hold_text parent contents = if holds_parts parent then list_all is_whitespace contents else holds_flow parent
+
+-- what an element may hold after its first child: a `pre` is then like any block
+abbrev pub behind_first : ElementCategory → ElementCategory
+behind_first Pre = Block
+behind_first kind = kind
+
+-- the scope of the later siblings of a node
+abbrev pub behind : Scope → Scope
+behind scope = record scope { parent = behind_first scope.parent }
 
 abbrev pub may_hold_comment : ElementCategory → List ℕ → Bool
 may_hold_comment parent contents = holds_comments parent && list_all (λ b. not (b == greater_than)) contents
@@ -81,11 +91,11 @@ may_hold_comment parent contents = holds_comments parent && list_all (λ b. not 
 -- the trees may be in this scope, and so may their descendants be in theirs
 abbrev pub are_calm : Scope → ValueTrees → Bool
 are_calm scope no_trees = true
-are_calm scope (text_node contents later) = may_hold_text scope.parent contents && are_calm scope later
-are_calm scope (comment_node contents later) = may_hold_comment scope.parent contents && are_calm scope later
-are_calm scope (doctype_node name public system later) = holds_doctype scope.parent && are_calm scope later
+are_calm scope (text_node contents later) = may_hold_text scope.parent contents && are_calm (behind scope) later
+are_calm scope (comment_node contents later) = may_hold_comment scope.parent contents && are_calm (behind scope) later
+are_calm scope (doctype_node name public system later) = holds_doctype scope.parent && are_calm (behind scope) later
 are_calm scope (element_node name attributes children later) =
-    (admits scope (kind_of name) && are_calm (inside scope (kind_of name)) children) && are_calm scope later
+    (admits scope (kind_of name) && are_calm (inside scope (kind_of name)) children) && are_calm (behind scope) later
 
 -- the trees after this text, or the trees alone if the text is empty
 abbrev pub behind_text : List ℕ → ValueTrees → ValueTrees

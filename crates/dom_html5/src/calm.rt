@@ -1,5 +1,5 @@
 //! The fast path for calm pages. A page is calm if it is explicit markup that tree construction
-//! leaves as it is; then `Document::parse` gives the same tree.
+//! leaves as it is; then `Document::parse` returns the same tree.
 
 ghost use Rattle.std.specs.Prelude.{◌≡◌, IfErr, IfOk, IfSome, MatchOption, MatchResult, true};
 ghost use Rattle.dom_html5.specs.Calm.{IsCalmDocument, IsCalmPage, are_calm, top};
@@ -11,7 +11,7 @@ ghost use Rattle.dom_markup.specs.FaultKinds.{IsLimitFault};
 ghost use Rattle.dom_markup.specs.Numbered.{document_of};
 ghost use Rattle.dom_markup.specs.ValueTrees.{ValueTrees};
 
-mod nesting;
+pub mod nesting;
 mod texts;
 
 use crate::calm::nesting::{TOP, next_scope};
@@ -25,8 +25,8 @@ use dom_trees::tree::Tree;
 use html5_trees::{PageFault, is_page};
 use std::alloc::Global;
 
-/// Returns the document of a calm page, or `None` if the page isn't calm. Fails only with a limit:
-/// `Memory` or `TooManyNodes`.
+/// Returns the document of a calm page, or `None` if the page isn't calm. Fails only with `Memory`
+/// or `TooManyNodes`.
 pub fn read_calm(alloc: Global, source: &str) -> Result<Option<Document>, PageFault>
     ensures page { IfOk result (λ found. IfSome found (λ document. IsPage document.tree)) }
     ensures calm { (trees : ValueTrees) → IsCalmPage source.now trees → IfOk result (λ found.

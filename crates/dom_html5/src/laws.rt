@@ -27,8 +27,8 @@ pub fn pages_have_parts()
         ⊎ IsFound page (codes "frameset") (page_part page (codes "frameset")) }
 {}
 
-/// The HTML of a document that is plain and calm is a calm page of the same tree, so `parse_page`
-/// reads it back.
+/// The HTML of a document that is plain (see `IsPlain` in dom_markup) and calm (see `calm`) is a
+/// calm page with the same tree, so `parse_page` returns this tree for it.
 pub fn calm_documents_are_pages()
     ensures { (forest : Forest) → IsForest forest → IsPlain forest → IsCalmForest forest
         → SpellsCalmPage (html_of forest 0) forest }

@@ -5,8 +5,13 @@
 #![tactic(auto)]
 
 mod calm;
+mod charset;
 pub mod laws;
 mod reading;
 
+pub use calm::nesting::{Scope, TOP, holds_text};
+pub use calm::read_calm;
+pub use charset::{ReadPage, read_page};
 pub use html5_trees::{Context, Options, PageFault, make_page};
 pub use reading::{PageParser, parse_page, parse_page_bytes, parse_page_fragment};
+pub use text_decoding::{Charset, Confidence, Encoding, Fallback, PageText, decode_page};

@@ -23,7 +23,7 @@ pub struct PageParser {
 }
 
 /// Parses a page and returns its document, which always has the shape of a page. Malformed markup
-/// is no error: the HTML Standard says what becomes of it. Fails only with a limit: `Memory` or
+/// is not an error: it is repaired by the rules of the HTML Standard. Fails only with `Memory` or
 /// `TooManyNodes`.
 ///
 /// A calm page, which is explicit markup that tree construction would leave as it is, is parsed as
@@ -61,7 +61,7 @@ fn parse_any_page(alloc: Global, source: &str, options: Options) -> Result<Docum
 
 /// Parses a page in UTF-8 like `parse_page`, and fails as it does. A byte order mark at the start
 /// is removed, and bytes that are not UTF-8 become U+FFFD. A page in another encoding has to be
-/// converted before: neither a `meta` element nor an HTTP header is considered.
+/// converted first: the encoding that a `meta` element or an HTTP header names is ignored.
 pub fn parse_page_bytes(
     alloc: Global,
     source: &[u8],
@@ -114,7 +114,8 @@ impl PageParser {
         })
     }
 
-    /// Returns a parser for the content of the context element. Fails only when memory runs out.
+    /// Returns a parser for a fragment, the content of the context element. Fails only when memory
+    /// runs out.
     pub fn for_fragment(
         alloc: Global,
         context: Context<'_>,
@@ -144,8 +145,8 @@ impl PageParser {
         self.reader.feed(piece)
     }
 
-    /// Parses the next bytes of a page in UTF-8, such as a file or a connection delivers them. The
-    /// page may be split anywhere, even inside a character. A byte order mark at the start is
+    /// Parses the next bytes of a page in UTF-8, in pieces as a file or a connection delivers them.
+    /// The page may be split anywhere, even inside a character. A byte order mark at the start is
     /// removed, and bytes that are not UTF-8 become U+FFFD. Fails as `feed` does.
     pub fn feed_bytes(&mut self, piece: &[u8]) -> Result<(), PageFault>
         ensures { ReadsPage self.old → ReadsPage self.new }

@@ -42,7 +42,7 @@ impl<'s> Chain<'s> {
     }
 }
 
-/// Returns the combinator of the first step; without steps, any combinator will do.
+/// Returns the combinator of the first step; without steps, the result doesn't matter.
 pub(crate) fn way_of(steps: &[Step]) -> Combinator
     ensures { result ≡ way_of steps.now }
 {
@@ -62,7 +62,8 @@ fn push_test<'s>(tests: &mut Vec<NodeTest<'s>>, test: NodeTest<'s>) -> Result<()
     }
 }
 
-/// Prepares selectors for the nodes of a tree. The combinators of each all have to go the same way.
+/// Prepares selectors for the nodes of a tree. The combinators of a selector must all lead to
+/// ancestors, or all to previous siblings.
 pub(crate) fn prepare_all<'s>(
     selectors: &'s [Selector],
     tree: &Tree,

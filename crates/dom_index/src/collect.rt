@@ -72,8 +72,8 @@ fn is_element_in(preorder: &Preorder<'_>, table: &[bool], id: NodeId) -> bool
     is_element_at(preorder, n)
 }
 
-/// States that a traversal visits nodes of the tree. It does nothing and is called for its
-/// contract.
+/// States that a traversal visits nodes of the tree. It does nothing at run time; a call of it
+/// brings its `ensures` clauses into the caller's proof.
 pub(crate) fn walk_laws(tree: &Tree)
     ensures { (n m : ℕ) → is_member m (descendants_in_order tree.now n) ≡ true
         → m < length tree.now.content }

@@ -1,5 +1,5 @@
-//! Sets of nodes across a combinator: the right operands for a set of left operands, and the other
-//! way round.
+//! Sets of nodes across a combinator: the right operands for a set of left operands, and the left
+//! operands for a set of right ones.
 
 ghost use Rattle.std.specs.Prelude.{◌≡◌, ◌<◌, ◌+◌, length, IfOk, IfSome};
 ghost use Rattle.dom_selectors.specs.declared.syntax.Combinator.TheVariants.{Descendant};

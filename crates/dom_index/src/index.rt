@@ -1,4 +1,4 @@
-//! `TreeIndex`: an index of a tree's nodes, for repeated selections and for questions about order.
+//! `TreeIndex`: an index of a tree's nodes, for repeated selections and for the positions of nodes.
 
 ghost use Rattle.std.specs.Prelude.{◌≡◌, ◌≤◌, ◌*◌, length, slice_get, IfOk};
 ghost use Rattle.std.specs.Iterator.{YieldsFirst, item_count};
@@ -24,9 +24,9 @@ use dom_trees::tree::Tree;
 use std::marker::Model;
 
 /// An index of a tree: its nodes in preorder, and their indexes among siblings. Detached lists of
-/// siblings come in the order of the ids of their first nodes. The index borrows the tree, so no
-/// edit can come between two calls. A contract sees the tree, and the number of tests of the last
-/// selection.
+/// siblings come in the order of the ids of their first nodes. The index borrows the tree, so the
+/// tree can't change while the index is in use. A contract sees the tree, and the number of tests
+/// of the last selection.
 #[derive(Drop)]
 pub struct TreeIndex<'a> {
     preorder: Preorder<'a>,
@@ -58,17 +58,20 @@ impl<'a> TreeIndex<'a> {
         })
     }
 
-    /// The number of tests of the last `select`: of one compound at one node each; 0 before one.
+    /// Returns the number of tests that the last call of `select` made, or 0 before the first call.
+    /// One test matches one compound selector against one node.
     pub fn tests(&self) -> u128
         ensures { result ≡ self.now.tests }
     {
         self.tests
     }
 
-    /// The elements below the roots that match one of the matcher's selectors, each once, in the
-    /// order of the traversals. Each compound is tested at each node once at most: at the nodes
-    /// that its combinator reaches, and in a nested list where the compound around it can still
-    /// match. After a refusal the index is as it was, but for the number of tests.
+    /// Returns the elements below the roots that match one of the matcher's selectors, each once:
+    /// those below the first root in document order, then those below the second, and so on. Each
+    /// compound selector is tested at most once at each node, and only at nodes that its combinator
+    /// reaches; one in a nested list is tested only where the compound selector around the list can
+    /// still match. It fails with `OutOfMemory` when memory is refused; only the number of tests
+    /// has then changed.
     pub fn select(
         &mut self,
         matcher: &Matcher,
@@ -82,7 +85,7 @@ impl<'a> TreeIndex<'a> {
         nodes_of(self.preorder.tree, &ids)
     }
 
-    /// The numbers of what `select` returns.
+    /// Returns the ids of the nodes that `select` returns. It fails as `select` does.
     pub(crate) fn select_ids(
         &mut self,
         matcher: &Matcher,
@@ -126,8 +129,8 @@ impl<'a> TreeIndex<'a> {
     }
 
     /// Returns the index of a node among its siblings, counted from 1, or `None` if the tree has no
-    /// such node. The first call for a kind makes a cache for that kind, if there is memory, and
-    /// each call stores in it what it counts.
+    /// such node. The first call for a kind makes a cache for that kind, if there is memory for it,
+    /// and each call stores the indexes that it finds there.
     pub fn index_at(&mut self, id: &NodeId, kind: IndexKind) -> Option<u64>
         ensures is { GivesIndex kind self.old.tree.now id.now result }
         ensures kept { self.new ≡ self.old }

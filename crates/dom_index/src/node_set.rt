@@ -19,7 +19,7 @@ use crate::type_filter::{
 };
 use dom_nodes::fault::OutOfMemory;
 use dom_select::matcher::caches::SelectorCaches;
-use dom_select::matcher::compounds::test_compound;
+use dom_select::matcher::compounds::{CompoundTest, indexes_for};
 use dom_selectors::syntax::{Combinator, Compound};
 use dom_trees::node_ref::NodeRef;
 
@@ -85,7 +85,10 @@ fn compound_holds(
         return answer;
     }
     let node = NodeRef::new(numbered(preorder.tree, n), preorder.tree);
-    test_compound(prepared.compound, &node, &prepared.answers, caches, asked)
+    let indexes = indexes_for(prepared.compound, &node, caches);
+    prepared
+        .compound
+        .test(&node, &prepared.answers, indexes, asked)
 }
 
 /// Returns the set of elements. Fails only when memory runs out.
@@ -120,8 +123,8 @@ pub(crate) fn intersect(table: &mut Vec<bool>, other: &[bool])
 }
 
 /// Removes the nodes that can't have the type of the compound selector. Returns `true` only if all
-/// remaining nodes match it: it is a type selector alone, and the names of these nodes have
-/// numbers.
+/// remaining nodes match it: it is a type selector alone, and the names of these nodes are in the
+/// table of known names.
 pub(crate) fn filter_by_type(
     preorder: &Preorder<'_>,
     compound: &Compound,

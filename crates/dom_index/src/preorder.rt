@@ -40,7 +40,7 @@ pub(crate) struct Preorder<'a> {
 }
 
 /// States that a tree is a well-formed forest with no more nodes than there are ids. It does
-/// nothing and is called for its contract.
+/// nothing at run time; a call of it brings its `ensures` clauses into the caller's proof.
 pub(crate) fn forest_laws(tree: &Tree)
     ensures forest { IsForest tree.now }
     ensures lines { AreLines tree.now }
@@ -164,14 +164,15 @@ fn visit_tree(tree: &Tree) -> Result<Traversal, OutOfMemory>
 }
 
 /// States that a node that was visited with an earlier list of siblings is not the first of one
-/// itself. It does nothing and is called for its contract.
+/// itself. It does nothing at run time; a call of it brings its `ensures` clauses into the caller's
+/// proof.
 fn started_laws(tree: &Tree)
     ensures { VisitedStartNoRun tree.now }
 {
     forest_laws(tree);
 }
 
-/// Returns the node id for a number.
+/// Returns the node id with this value.
 pub(crate) fn numbered(tree: &Tree, n: usize) -> NodeId
     requires { n < length tree.now.content }
     ensures { result ≡ n }
@@ -246,8 +247,8 @@ impl<'a> Preorder<'a> {
     }
 }
 
-/// States that the preorder contains each node once. It does nothing and is called for its
-/// contract.
+/// States that the preorder contains each node once. It does nothing at run time; a call of it
+/// brings its `ensures` clauses into the caller's proof.
 fn order_laws(tree: &Tree)
     ensures long { length (preorder tree.now) ≡ length tree.now.content }
     ensures once { IsDistinct (preorder tree.now) }
@@ -274,8 +275,8 @@ pub(crate) fn below<'i>(preorder: &'i Preorder<'_>, id: NodeId) -> &'i [NodeId]
     &preorder.order[first..end]
 }
 
-/// States that a node that the tree doesn't have has no descendants. It does nothing and is called
-/// for its contract.
+/// States that a node that the tree doesn't have has no descendants. It does nothing at run time; a
+/// call of it brings its `ensures` clauses into the caller's proof.
 fn none_below_law(tree: &Tree, id: NodeId)
     ensures { length tree.now.content ≤ id → descendants_in_order tree.now id ≡ [] }
 {

@@ -16,13 +16,12 @@ use dom_select::matcher::several::select_below_all;
 use dom_trees::node_ref::NodeRef;
 use dom_trees::tree::Tree;
 
-/// The numbers of the elements below the roots that match one of the matcher's selectors, each
-/// once, in the order of the traversals. How they are found depends on the structure of the list,
-/// and on how much is below the roots. Each candidate is asked where it has one node for each
-/// compound at most, or where few nodes in all are above the candidates and, for `~`, beside them
-/// and these. Else flags of the next node to the left, in one traversal, state which compounds are
-/// reached, where the combinators of each selector are whitespace and `>`, or are `+` and `~`. For
-/// other lists an index is made. `TreeIndex::select` counts tests; this call doesn't.
+/// Returns the ids of the elements below the roots that match one of the matcher's selectors, each
+/// once: those below the first root in document order, then those below the second, and so on. The
+/// structure of the selectors, and how many nodes are around those below the roots, decide how they
+/// are found (see `strategies`): each node below the roots is tested by itself; or one traversal
+/// tests all of them; or an index of the tree is made. The tests aren't counted;
+/// `TreeIndex::select` counts them. It fails with `OutOfMemory` when memory is refused.
 pub fn select_ids(
     tree: &Tree,
     roots: &[NodeId],

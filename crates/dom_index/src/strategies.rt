@@ -10,11 +10,11 @@ use dom_nodes::node_id::NodeId;
 use dom_selectors::syntax::{Combinator, Compound, Nested, Selector, Step};
 use dom_trees::tree::Tree;
 
-/// How many compounds a list may have to be selected in one traversal, which keeps for each node a
-/// flag for each selector and one for each combinator.
+/// The largest number of compound selectors with which a list is selected in one traversal. The
+/// traversal keeps, for each node, a flag for each selector and one for each combinator.
 const MOST_COMPOUNDS: usize = 32;
 
-/// The number of nodes of which one counts as few.
+/// The largest number of nodes that counts as few.
 const FEW: usize = 32;
 
 /// Returns whether each candidate, which is a node below the roots, is matched by itself. Nested
@@ -120,7 +120,7 @@ fn has_has(compound: &Compound) -> bool {
         .any(|list| matches!(list, Nested::Has(_)))
 }
 
-/// Whether a compound but the last has a list `:has`.
+/// Returns whether a compound selector other than the last one has a list `:has`.
 fn has_has_before(first: &Compound, steps: &[Step]) -> bool {
     match steps.split_last() {
         None => false,
@@ -184,8 +184,8 @@ pub(crate) fn are_traversed(selectors: &[Selector]) -> bool
     are_plain(selectors)
 }
 
-/// How many compounds the selectors have, but for those of nested lists. No clause: nothing but
-/// time depends on it.
+/// Returns how many compound selectors the selectors have, without those of nested lists. There is
+/// no `ensures` clause, because only the time depends on it.
 fn count_compounds(selectors: &[Selector]) -> usize {
     let mut count: usize = 0;
     for selector in selectors {
@@ -194,7 +194,7 @@ fn count_compounds(selectors: &[Selector]) -> usize {
     count
 }
 
-/// Whether nested lists are near.
+/// Returns whether nested lists are near.
 fn has_near_lists(selector: &Selector) -> bool {
     is_near(&selector.first) && selector.rest.iter().all(|step| is_near(&step.compound))
 }

@@ -1,6 +1,6 @@
-//! Selection below some nodes in one traversal. Where the last compound selector of a selector
-//! matches a node, a row of flags is needed: that of the next node to its left, which is its parent
-//! or its previous sibling.
+//! Selection below some nodes in one traversal. Each node has a row of flags. Where the last
+//! compound selector of a selector matches a node, the row of the next node to its left is needed:
+//! that of its parent or of its previous sibling.
 
 ghost use Rattle.std.specs.Prelude.{◌≡◌, ◌<◌, ◌+◌, ◌∷◌, ◌++◌, [], length, true, IfOk, OnOk};
 ghost use Rattle.std.specs.Prelude.{not};
@@ -376,7 +376,9 @@ fn select_along(
     select_among(tree, ids, chains, rows, shared)
 }
 
-/// The elements below the roots that one of the plain selectors matches, each once.
+/// Returns the elements below the roots that one of the selectors matches, each once. The selectors
+/// must be plain (`ArePlain`): the combinators of each are only whitespace and `>`, or only `+` and
+/// `~`. It fails with `OutOfMemory` when memory is refused.
 pub(crate) fn select_plain(
     tree: &Tree,
     roots: &[NodeId],

@@ -12,13 +12,14 @@ use dom_nodes::node_data::NodeData;
 use dom_selectors::selector_name::SelectorName;
 use dom_selectors::syntax::{Compound, Part};
 
-/// The byte of an element whose name has no number.
+/// The byte of an element whose name isn't in the table of known names.
 pub(crate) const UNKNOWN: u8 = 254;
 
 /// The byte of a node that is no element.
 pub(crate) const NO_ELEMENT: u8 = 255;
 
-/// Returns the type byte of a node: the number of its name, if it has one.
+/// Returns the type byte of a node: the index of its name in the table of known names, if it is
+/// there, and otherwise `UNKNOWN` or `NO_ELEMENT`.
 pub(crate) fn type_byte(node: &NodeData) -> u8
     ensures { is_type_byte node.now result ≡ true }
 {
@@ -39,7 +40,7 @@ pub(crate) fn is_element_at(preorder: &Preorder<'_>, n: usize) -> bool
     preorder.type_bytes[n] != NO_ELEMENT
 }
 
-/// The number of the name in a compound selector's type selector, and whether the compound selector
+/// The index of the name in a compound selector's type selector, and whether the compound selector
 /// has no other part.
 #[derive(Clone, Copy)]
 pub(crate) struct TypeFilter {
@@ -59,8 +60,8 @@ fn type_number(name: &SelectorName) -> Option<u8>
     folded.number()
 }
 
-/// Returns the filter for the type selector with which the compound selector starts, if its name
-/// has a number.
+/// Returns the filter for the type selector with which the compound selector starts, if its name is
+/// in the table of known names.
 pub(crate) fn type_filter_of(compound: &Compound) -> Option<TypeFilter>
     ensures { IfSome result (IsTypeFilterOf (read_compound compound.now)) }
 {
@@ -82,7 +83,7 @@ fn is_one_part(compound: &Compound) -> bool
     compound.parts.len() == 1
 }
 
-/// Removes the nodes whose byte is neither this number nor that of a name without a number.
+/// Removes the nodes whose byte is neither this index nor `UNKNOWN`.
 pub(crate) fn intersect_type(table: &mut Vec<bool>, bytes: &[u8], number: u8)
     requires { length bytes.now ≡ length table.old.items }
     ensures { IsFilteredByType bytes.now number table.new.items table.old.items }
@@ -94,7 +95,7 @@ pub(crate) fn intersect_type(table: &mut Vec<bool>, bytes: &[u8], number: u8)
     }
 }
 
-/// Returns whether the names of all nodes in the set have numbers.
+/// Returns whether the names of all nodes in the set are in the table of known names.
 pub(crate) fn have_known_types(table: &[bool], bytes: &[u8]) -> bool
     requires { length bytes.now ≡ length table.now }
     ensures { result ≡ true → HaveKnownTypes bytes.now table.now (length table.now) }

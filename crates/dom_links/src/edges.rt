@@ -24,8 +24,8 @@ use std::marker::{Model, PhantomData};
 /// afterwards.
 #[derive(Clone, Copy)]
 pub enum Edge {
-    /// The traversal enters the node. `marked` is what `Descent::mark` says of its parent; it is
-    /// false for a node without a parent.
+    /// The traversal enters the node. `marked` is what `Descent::mark` returns for its parent; it
+    /// is false for a node without a parent.
     Open { id: NodeId, marked: bool },
     /// The traversal leaves the node.
     Close { id: NodeId },
@@ -40,7 +40,7 @@ pub enum Entered {
     All,
 }
 
-/// Decides what a traversal visits inside a node, and which mark it hands to the node's children.
+/// Decides what a traversal visits inside a node, and which mark it passes to the node's children.
 pub trait Descent {
     ghost use Rattle.dom_links.specs.Edges.{Descending};
 
@@ -175,7 +175,8 @@ fn begin<D: Descent>(
     }
 }
 
-/// Returns the mark of a node: what `Descent::mark` says of its parent, or false without a parent.
+/// Returns the mark of a node: what `Descent::mark` returns for its parent, or false without a
+/// parent.
 fn mark_of<D: Descent>(nodes: &[TreeNode], id: NodeId) -> bool
     requires { IsSoundArena nodes.now }
     ensures { result ≡ mark_of D.descending (forest_of nodes.now) id }

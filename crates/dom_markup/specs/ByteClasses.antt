@@ -21,12 +21,12 @@ abbrev pub begins_space : List ℕ → Bool
 begins_space [] = false
 begins_space (b ∷ bs) = is_whitespace b
 
--- the attribute that this name and value in the source mean: the name in lower case, the character references of the value
+-- the attribute that this name and value in the source represent: the name in lower case, the character references of the value
 -- resolved
 abbrev pub attribute_of : List ℕ → List ℕ → Attribute
 attribute_of name value = record { name = folded name; value = decoded value }
 
--- the attribute that a `Written` means, which holds both
+-- the attribute that a `Written` represents, which holds both
 abbrev pub attribute_in : Written → Attribute
 attribute_in written = attribute_of written.name.now written.value.now
 
@@ -40,7 +40,7 @@ pub record Splits (p : ℕ → Bool) (text front behind : List ℕ) : Type 0 whe
   pub passes : list_all p front ≡ true
   pub fails : Fails p behind
 
--- `text` and `rest` end the same tags: `rest` is what is left of `text` after some of its attributes.
+-- `rest` is what is left of `text` after some of its attributes, so that both end a tag with the same text after it.
 pub record SameEnd (text rest : List ℕ) : Type 0 where
   pub back : (slash : Bool) (all : List Attribute) (r : List ℕ) → EndsTag slash rest all r → (more : List Attribute) × EndsTag slash text more r
   pub forth : (slash : Bool) (all : List Attribute) (r : List ℕ) → EndsTag slash text all r → (more : List Attribute) × EndsTag slash rest more r

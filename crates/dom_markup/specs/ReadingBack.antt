@@ -1,4 +1,4 @@
--- Parsing the HTML of a document gives the document back.
+-- Parsing the HTML of a document yields the document again.
 use Rattle.std.specs.Prelude.{◌≡◌, ℕ, Bool, false, List, [], Some, String, slice_get, string_bytes}
 use Rattle.dom_nodes.specs.declared.node_data.NodeData.TheVariants.{Doctype, Document}
 use Rattle.dom_links.specs.Forest.{Forest, children_of}
@@ -26,7 +26,7 @@ SpellsPlainRoot forest n text = n ≡ 0 → IsPlain forest → SpellsDocument (s
 
 -- ---- forests, and the value trees that their nodes are
 
--- the HTML of nodes is the HTML of the value trees that they are
+-- the HTML of nodes is the HTML of the value trees that they represent
 abbrev pub NodesAreWrittenAsTrees : Forest → Type 0
 NodesAreWrittenAsTrees forest =
     (raw : Bool) (ns : List ℕ) (values : ValueTrees) → Represents forest ns values → trees_text forest raw (trees_of forest ns) ≡ text_of_trees raw values
@@ -36,7 +36,7 @@ abbrev pub DocumentIsWrittenAsTrees : Forest → Type 0
 DocumentIsWrittenAsTrees forest =
     slice_get forest.content 0 ≡ Some Document → (values : ValueTrees) → Represents forest (children_of forest 0) values → html_of forest 0 ≡ text_of_trees false values
 
--- the nodes below the root are value trees, and the HTML of the root is markup for them
+-- the nodes below the root represent value trees, and the HTML of the root is markup for these
 abbrev pub SpellsItsTrees : Forest → Type 0
 SpellsItsTrees forest = (trees : ValueTrees) × Represents forest (children_of forest 0) trees × Spells (html_of forest 0) trees
 

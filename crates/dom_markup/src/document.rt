@@ -66,9 +66,9 @@ impl Document {
     /// returns the document. Node ids follow the order in which the nodes start in the text; the
     /// contents of a template come right after the template.
     ///
-    /// The text is read as a grammar says, not as a browser would repair it, so a text that is not
-    /// markup is an error. `fault.at` is the byte offset of the error, and `fault.kind` says what
-    /// is wrong there:
+    /// The text must follow the grammar of explicit markup. Nothing is repaired, as a browser would
+    /// do it: a text that doesn't follow the grammar is an error. `fault.at` is the byte offset of
+    /// the error, and `fault.kind` says what is wrong there:
     ///
     /// - `BadTag`: a tag is malformed;
     /// - `SlashOnOpen`: a start tag ends in `/>`, and its element is not void;
@@ -210,10 +210,10 @@ impl Document {
         self.tree.base_uri()
     }
 
-    /// Returns the document as HTML. If the document is plain, `parse` reads the HTML as the same
-    /// tree. A document is plain if, among other things, no text is empty or next to another text,
-    /// names are in lower case, and no doctype has an identifier (`IsPlain` has the whole list).
-    /// Fails only when memory runs out.
+    /// Returns the document as HTML. If the document is plain, `parse` turns the HTML into the same
+    /// tree again. A document is plain if, among other things, no text is empty or next to another
+    /// text, names are in lower case, and no doctype has an identifier (`IsPlain` has the whole
+    /// list). Fails only when memory runs out.
     pub fn html(&self) -> Result<String, OutOfMemory>
         ensures { IfOk result (IsHtml self.now.tree (html_of self.now.tree 0)) }
     {

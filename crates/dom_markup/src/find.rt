@@ -47,8 +47,8 @@ fn find_at_end(byte: u8, bytes: &[u8], at: usize) -> Option<usize>
     None
 }
 
-/// Returns the first position of the byte. Sixteen bytes are tested at once, and there is no call,
-/// so this is fast for short texts.
+/// Returns the first position of the byte, or `None` if it doesn't occur. Sixteen bytes are tested
+/// at once, and there is no call, so this is fast for short texts.
 #[inline(always)]
 pub fn find_byte(byte: u8, bytes: &[u8]) -> Option<usize>
     ensures { IsFirstByte (is_byte byte) bytes.now result }
@@ -63,8 +63,9 @@ pub fn find_byte(byte: u8, bytes: &[u8]) -> Option<usize>
     find_at_end(byte, bytes, at)
 }
 
-/// Returns the first position of the byte, if the other byte doesn't occur before it. The last
-/// bytes, when fewer than sixteen are left, are not searched, so `None` says nothing.
+/// Returns the first position of the byte, if the other byte doesn't occur before it. Otherwise the
+/// result is `None`. The last bytes, when fewer than sixteen are left, are not searched, so `None`
+/// doesn't say that the byte is missing.
 #[inline(always)]
 pub fn find_before(byte: u8, other: u8, bytes: &[u8]) -> Option<usize>
     ensures first { IfSome result (λ at. IsFirstByte (is_byte byte) bytes.now (Some at)) }

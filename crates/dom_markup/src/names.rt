@@ -28,7 +28,8 @@ pub(crate) const RAW_NAMES: [&str; 7] = [
 /// The escapable raw text elements, whose content is one text in which references are resolved.
 pub(crate) const TEXT_NAMES: [&str; 2] = ["title", "textarea"];
 
-/// How each known element name is treated, indexed by the name's number; 0 for most elements.
+/// How each known element name is treated, indexed by the name's index in the table of known names;
+/// 0 for most elements.
 #[rattlefmt::skip]
 static TREATED: [u8; 247] = [
     0, 0, 0, 0, 0, 0, 0, 0, 0, 1, 0, 0, 0, 0, 0, 0, 0, 0, 0, 0, 1, 0, 0, 0, 0, 0, 0, 0, 0, 0,
@@ -48,7 +49,8 @@ const IS_VOID: u8 = 1;
 /// The entry in `TREATED` of each name in `RAW_NAMES`.
 const IS_RAW: u8 = 2;
 
-/// Returns whether an element of that name is void. Known names are looked up by number.
+/// Returns whether an element with this name is void. A known name is looked up by its index in the
+/// table of known names.
 pub(crate) fn is_void_name(name: &LocalRef<'_>) -> bool
     ensures { result ≡ is_among name.now void_names }
 {
@@ -58,7 +60,7 @@ pub(crate) fn is_void_name(name: &LocalRef<'_>) -> bool
     }
 }
 
-/// Returns whether an element of that name is a raw text element.
+/// Returns whether an element with this name is a raw text element.
 pub(crate) fn is_raw_name(name: &LocalRef<'_>) -> bool
     ensures { result ≡ is_among name.now raw_names }
 {

@@ -39,8 +39,8 @@ fn decode_references(alloc: Global, text: &str, first: usize) -> Result<Text, Ou
     Ok(Text::from(read))
 }
 
-/// A text that is split at a reference: the text before it, the character that it means, and the
-/// text after it.
+/// A text that is split at a character reference: the text before it, the character that it stands
+/// for, and the text after it.
 #[derive(Clone, Copy)]
 struct Referred<'a> {
     before: &'a str,
@@ -69,7 +69,7 @@ fn cut_at(text: &str, at: usize) -> Referred<'_>
     }
 }
 
-/// A character reference: the character that it means, and its length in bytes after the `&`.
+/// A character reference: the character that it stands for, and its length in bytes after the `&`.
 #[derive(Clone, Copy)]
 struct Reference {
     character: char,
@@ -107,8 +107,9 @@ fn reference_at(after: &str) -> Option<Reference>
     }
 }
 
-/// Returns the numeric reference that these digits and a semicolon make, or `None`. `before` is the
-/// number of bytes between the `&` and the digits.
+/// Returns the numeric reference whose digits and semicolon these bytes start with, or `None` if
+/// they start with none that is allowed. `before` is the number of bytes between the `&` and the
+/// digits.
 fn numeral(bytes: &[u8], base: u32, before: usize) -> Option<Reference>
     requires digits { 2 ≤ base }
     requires base { base ≤ 16 }
@@ -133,7 +134,8 @@ fn numeral(bytes: &[u8], base: u32, before: usize) -> Option<Reference>
     None
 }
 
-/// Returns the character of a code point, or `None` if a numeric reference may not name it.
+/// Returns the character with this code point, or `None` if a numeric reference to it isn't
+/// allowed.
 fn numbered(number: u32) -> Option<char>
     ensures { result ≡ (if is_numbered number then Some number else None) }
 {

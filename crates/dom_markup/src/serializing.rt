@@ -106,8 +106,8 @@ impl<'a> NodeMarkup for NodeRef<'a> {
     }
 }
 
-/// The HTML of a plain document is markup for the same tree. The calls below are made for their
-/// contracts alone, and the function does nothing.
+/// The HTML of a plain document is markup for the same tree. The function does nothing at run time:
+/// the calls in it bring the `ensures` clauses of laws into its proof.
 fn plain_html_spells(tree: &Tree)
     ensures root { IsPlain tree.now → SpellsDocument (html_of tree.now 0) tree.now }
     ensures children { IsPlain tree.now → SpellsDocument (inner_html_of tree.now 0) tree.now }

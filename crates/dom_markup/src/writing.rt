@@ -7,7 +7,7 @@ ghost use Rattle.dom_markup.specs.Writing.{Writes};
 use dom_nodes::fault::OutOfMemory;
 use std::io::Write;
 
-/// Why a text was not written whole.
+/// Why a text wasn't written completely.
 #[derive(Clone, Copy, PartialEq, Eq, Debug, Drop, thiserror::Error)]
 pub enum WriteFault {
     /// The writer failed, or accepted no bytes.

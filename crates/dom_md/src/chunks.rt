@@ -39,7 +39,7 @@ pub fn push_escaped_chunk(
     Ok(text.push_str(escaped.as_str())?)
 }
 
-/// Whether the chunk can be appended as it is because nothing in it needs a backslash.
+/// Returns whether the chunk can be appended as it is because nothing in it needs a backslash.
 fn is_plain(chunk: &str, line_start: bool) -> bool
     ensures { result ≡ true → escaped line_start chunk.now ≡ chunk.now }
 {
@@ -132,7 +132,7 @@ fn find_mark(bytes: &[u8]) -> Option<usize>
     None
 }
 
-/// Whether the byte at this index needs a backslash wherever it is in a line.
+/// Returns whether the byte at this index needs a backslash wherever it is in a line.
 pub(crate) fn is_marked(bytes: &[u8], at: usize) -> bool
     requires { at < length bytes.now }
     ensures { result ≡ is_marked (slice_index_or bytes.now at 0) (drop (at + 1) bytes.now) }

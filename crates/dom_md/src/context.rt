@@ -45,7 +45,7 @@ impl EmphasisScope {
         }
     }
 
-    /// Whether this scope includes each kind of emphasis of the other.
+    /// Returns whether this scope includes each kind of emphasis of the other.
     pub const fn contains(self, other: EmphasisScope) -> bool
         ensures { result ≡ has_scope self other }
     {
@@ -63,7 +63,7 @@ impl EmphasisScope {
     }
 }
 
-/// The emphasis of a marker: italic for `*`, and bold for any other marker.
+/// Converts a marker to its emphasis: italic for `*`, and bold for any other marker.
 impl From<&str> for EmphasisScope {
     ghost use Rattle.std.specs.Prelude.{◌≡◌};
     ghost use Rattle.dom_md.specs.Scopes.{scope_of};
@@ -201,8 +201,8 @@ pub enum ListKind {
 }
 
 impl ListKind {
-    /// By how many columns the text of an item is indented relative to its list: at least 4, and at
-    /// least two more than the number has digits.
+    /// Returns how many columns the text of an item is indented relative to its list: at least 4,
+    /// and at least two more than the number has digits.
     fn offset(self) -> usize
         ensures { result ≡ kind_offset self }
     {

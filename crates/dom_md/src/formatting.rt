@@ -14,7 +14,8 @@ mod names;
 mod steps;
 
 /// Returns the formatted text of what is below the node, without whitespace at its end. If the node
-/// may have children, this is its text apart from whitespace. Fails only when memory runs out.
+/// may have children, the result differs from its text in whitespace only. Fails only when memory
+/// runs out.
 pub(crate) fn formatted_text(node: &NodeRef<'_>) -> Result<String, OutOfMemory>
     ensures text { IfOk result
         (λ t. string_bytes t ≡ formatted_below node.now.tree.now node.now.id) }

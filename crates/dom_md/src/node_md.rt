@@ -21,8 +21,8 @@ pub trait NodeMd {
     ghost number: { Self → ℕ };
 
     /// Returns the text of what is below the node with line feeds at the ends of blocks, without
-    /// whitespace at its end; an empty string for an unknown id. If the node may have children,
-    /// this is its `text` apart from whitespace.
+    /// whitespace at its end; an empty string for an unknown id. If the node may have children, the
+    /// result differs from its `text` in whitespace only. Fails only when memory runs out.
     fn formatted_text(&self) -> Result<String, OutOfMemory>
         ensures text { IfOk result (λ t. string_bytes t ≡ formatted_below (forest self.now)
             (number self.now)) }
@@ -32,7 +32,8 @@ pub trait NodeMd {
     /// Returns the Markdown of what is below the node; an empty string for an unknown id. Elements
     /// whose names are in `skip_tags` are left out; with `None` these are `script`, `style`, `meta`
     /// and `head`. If all children of the node are texts, the Markdown, with its backslash escapes
-    /// resolved, is the words of the node's text, joined by single spaces.
+    /// resolved, is the words of the node's text, joined by single spaces. Fails only when memory
+    /// runs out.
     fn md(&self, skip_tags: Option<&[&str]>) -> Result<String, OutOfMemory>
         ensures { IfOk result (ReadsAsWords (forest self.now) (number self.now)) };
 }

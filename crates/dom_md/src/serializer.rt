@@ -1,5 +1,5 @@
-//! Writes a tree as Markdown. A stack of tasks holds what remains to be written, so the writer
-//! needs no recursion. Start at `serialize_md`; `Writer::step` runs a task.
+//! Writes a tree as Markdown. A stack of tasks says what remains to be written, so the writer needs
+//! no recursion. Start at `serialize_md`; `Writer::step` runs a task.
 
 ghost use Rattle.std.specs.Prelude.{◌≡◌, IfOk, OnOk, [], false, string_bytes, true};
 ghost use Rattle.dom_md.specs.Resolved.{resolved};
@@ -263,7 +263,7 @@ impl<'a> Writer<'a> {
         }
     }
 
-    /// Whether a task may look further back than to the last letter of the text.
+    /// Returns whether a task may look further back than to the last letter of the text.
     fn looks_at_front(&self, task: &Task) -> bool {
         match task {
             Task::EndEmphasis { .. } => false,
@@ -283,7 +283,7 @@ impl<'a> Writer<'a> {
         Ok(())
     }
 
-    /// Whether elements with that name are left out.
+    /// Returns whether elements with that name are left out.
     fn is_skipped(&self, name: &LocalRef<'_>) -> bool {
         match self.skip_tags {
             Some(names) => names.iter().any(|skipped| *skipped == name.as_str()),

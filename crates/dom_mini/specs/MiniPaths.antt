@@ -46,7 +46,7 @@ pub record AreLedTo (minis : List Mini) (forest : Forest) (x : ℕ) (found : Lis
 abbrev pub AreRefsByNames : List (List ℕ) → Bor Forest → ℕ → List NodeRef → Type 0
 AreRefsByNames names tree x found = (ids : List ℕ) × IsFoundByNames names tree.now x ids × (found ≡ refs_to tree ids)
 
--- references to the nodes that a path given as text reaches
+-- references to the nodes that a path in a text reaches
 pub record AreRefsFound (path : List ℕ) (tree : Bor Forest) (n : ℕ) (found : List NodeRef) : Type 0 where
   pub minis : List Mini
   pub rest : List ℕ

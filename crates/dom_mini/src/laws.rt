@@ -8,7 +8,7 @@ ghost use Rattle.dom_selectors.specs.MiniSyntax.{Mini};
 
 use dom_links::laws::{lines_of_a_forest, trees_of_a_forest};
 
-/// What is found from a node are exactly the nodes that the path reaches, each once.
+/// A path finds exactly the nodes that it reaches from the node, each once.
 pub fn found_exactly()
     ensures { (minis : List Mini) (forest : Forest) (x : ℕ) (found : List ℕ) → IsForest forest
         → x < length forest.content → IsFound minis forest x found

@@ -156,8 +156,8 @@ impl TreeNode {
     }
 }
 
-/// Appends a copy of one node. Texts and elements, which most nodes are, have quick ways of their
-/// own.
+/// Appends a copy of one node. Most nodes are texts and elements, so these have a quick way of
+/// their own.
 #[inline(always)]
 fn push_copy(made: &mut Vec<TreeNode>, node: &TreeNode) -> Result<(), OutOfMemory>
     ensures { OnOk result (made.new.items ≡ made.old.items ++ node.now ∷ []) }

@@ -22,7 +22,7 @@ impl<T: Drop> From<AllocFailed<T>> for OutOfMemory {
     }
 }
 
-/// What is wrong with markup, as the strict reader `Document::parse` reports it.
+/// What is wrong with explicit markup, as `Document::parse` reports it.
 #[derive(Clone, Copy, PartialEq, Eq, Debug, Drop, thiserror::Error)]
 pub enum MarkupFaultKind {
     /// A tag that doesn't follow the grammar.

@@ -48,7 +48,8 @@ pub fn values_after_changes()
         → attr_of (without_name name attrs) name ≡ None }
 {}
 
-/// The classes after words are added or removed, for a text of words that isn't blank.
+/// Which classes an element has after words are added to its classes or removed from them, if the
+/// text with these words isn't blank.
 pub fn classes_after_changes()
     ensures added { (text : List ℕ) (attrs : List Attr) → is_blank text ≡ false
         → class_words (with_classes text attrs) ≡ words_with (class_words attrs) (words_of text) }

@@ -28,7 +28,7 @@ impl Model for Link {
     ghost inverse_ok = { link_same };
 }
 
-/// The value that is stored for `None`. It is no valid node id.
+/// The value that is stored for `None`. It isn't a valid node id.
 const NOWHERE: u32 = 4294967295;
 
 impl Link {

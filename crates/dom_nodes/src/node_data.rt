@@ -93,8 +93,8 @@ impl Attrs {
 
     /// Returns a copy of the attributes of `list` from index `from` up to, but not including, index
     /// `to`; indexes past the end are ignored. One or two attributes are shared with `list` through
-    /// its reference count (as long as `from` fits the storage form), and more are copied. It fails
-    /// with `OutOfMemory` when memory is refused or the reference count is full.
+    /// its reference count (as long as `from` isn't too large for that), and more are copied. It
+    /// fails with `OutOfMemory` when memory is refused or the reference count is full.
     pub fn part(
         alloc: Global,
         list: &Rc<Vec<Attr>>,
@@ -130,7 +130,7 @@ impl Attrs {
     }
 
     /// Makes room for `additional` more attributes. A refusal of memory is ignored: the list is the
-    /// same, and a later `push` asks again.
+    /// same, and a later `push` requests memory again.
     pub fn reserve(&mut self, additional: usize)
         ensures { self.new ≡ self.old }
     {
@@ -153,8 +153,8 @@ impl Attrs {
         }
     }
 
-    /// Releases unused memory behind the last attribute where the storage form can. The list stays
-    /// the same.
+    /// Releases unused memory behind the last attribute, if the way in which the list is stored
+    /// allows it. The list stays the same.
     pub fn shrink_to_fit(&mut self)
         ensures { self.new ≡ self.old }
     {

@@ -1,4 +1,4 @@
-//! Text with line breaks, and Markdown, for documents.
+//! Formatted text and Markdown of documents.
 
 use dom_markup::document::Document;
 use dom_md::node_md::NodeMd;
@@ -15,9 +15,9 @@ pub trait DocumentMd {
     // The forest of the document.
     ghost forest: { Self → Forest };
 
-    /// Returns the text below the root, laid out in lines and paragraphs as the elements ask for,
-    /// without white space at its end. Without all white space it is the text of the document
-    /// without white space. It fails with `OutOfMemory` when memory is refused.
+    /// Returns the text below the root, laid out in lines and paragraphs by the kinds of its
+    /// elements, without white space at its end. It differs from the text of the document in white
+    /// space only. It fails with `OutOfMemory` when memory is refused.
     fn formatted_text(&self) -> Result<String, OutOfMemory>
         ensures text { IfOk result (λ text. string_bytes text
             ≡ formatted_below (forest self.now) 0) }

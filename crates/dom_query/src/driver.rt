@@ -1,4 +1,4 @@
-//! The work of the program `dq`, over any streams.
+//! The work of the program `dq`, with any readers and writers.
 
 ghost use Rattle.std.specs.Prelude.{◌≡◌, ◌⊎◌, None, Some, IfOk, IfErr, IfSome, MatchOption, OnOk};
 ghost use Rattle.dom_query.specs.Drive.{AsksFor, AsksForNothing, words_of};
@@ -82,11 +82,12 @@ fn run_words<R: Read, W: Write>(
     }
 }
 
-/// The program `dq`. The one argument is a script, which is run over the markup from `input` and
-/// writes to `out`; or it is `--md`, and the Markdown of the markup and a line feed are written.
-/// Returns the exit status: 0 when everything was done; 64 when there isn't exactly one argument; 2
-/// for a bad script; 3 for bad markup; 4 when an edit failed or no node id was left; 5 when memory
-/// was refused or the reader or the writer failed. When it isn't 0, one line on `err` says why.
+/// Does the work of the program `dq`. Its one argument is a script, which is run over the markup
+/// from `input` and writes to `out`; or it is `--md`, and then the Markdown of the markup and a
+/// line feed are written to `out`. Returns the exit status: 0 when everything was done; 64 when
+/// there isn't exactly one argument; 2 for a bad script; 3 for bad markup; 4 when an edit failed or
+/// no node id was left; 5 when memory was refused or the reader or the writer failed. When it isn't
+/// 0, one line on `err` says why.
 pub fn drive<R: Read, W: Write, E: Write>(
     alloc: Global,
     args: &[String],

@@ -6,7 +6,8 @@ ghost use Rattle.dom_query.specs.Out.{HasOneOutput};
 ghost use Rattle.dom_query.specs.ReadBack.{EndReadsBack, ReadsBack};
 ghost use Rattle.dom_script.specs.declared.script.Command.{Command};
 
-/// A script and a markup determine the text that `run` writes and how it ends.
+/// The script and the markup determine the text that `run` writes and whether it succeeds or with
+/// which error it ends.
 pub fn one_output()
     ensures { (markup script : List ℕ) → HasOneOutput markup script }
 {
@@ -40,8 +41,8 @@ pub fn last_document_reads_back()
     dom_markup::laws::plain::plain_documents_are_spelled();
 }
 
-/// The status that `drive` returns says how it ended: 0, everything was done; 2, the script is bad;
-/// 3, the markup is bad; 64, there isn't exactly one argument.
+/// What the status that `drive` returns says: with 0 everything was done; with 2 the script is bad;
+/// with 3 the markup is bad; with 64 there isn't exactly one argument.
 pub fn status_determines_ending()
     ensures { (words : List (List ℕ)) (known old new err reported : Option (List ℕ)) (status : ℕ)
         → Drove words known old new err reported status → StatusMeans words known old new status }

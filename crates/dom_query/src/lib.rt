@@ -1,9 +1,9 @@
 //! HTML documents: parse, select, edit, sanitize and write them, with proved contracts.
 //!
-//! Most programs begin with `use dom_query::prelude::*;`. This crate hands on the public names of
-//! the crates below, under the module names of the Rust crate dom_query, and adds three things of
-//! its own: `run`, which runs a script of lines over markup; `drive`, the program `dq`; and the
-//! Markdown and formatted text of documents and selections.
+//! Most programs begin with `use dom_query::prelude::*;`. This crate re-exports the public names of
+//! the crates below, under the module names of the Rust crate dom_query, and adds three things:
+//! `run`, which runs a script of lines over markup; `drive`, the program `dq`; and the Markdown and
+//! formatted text of documents and selections.
 #![tactic(auto)]
 
 mod document_md;
@@ -20,15 +20,29 @@ mod selector_places;
 pub mod serializing;
 
 pub use document_md::DocumentMd;
+pub use dom_clean::Policy;
+pub use dom_clean::PolicyFault;
+pub use dom_clean::Rules;
+pub use dom_clean::clean;
+pub use dom_clean::clean_page;
+pub use dom_clean::clean_tree;
 pub use dom_edits::edit::SelectionFault;
 pub use dom_edits::selection_mut::SelectionMut;
+pub use dom_html5::Charset;
+pub use dom_html5::Confidence;
 pub use dom_html5::Context;
+pub use dom_html5::Encoding;
+pub use dom_html5::Fallback;
 pub use dom_html5::Options;
 pub use dom_html5::PageFault;
 pub use dom_html5::PageParser;
+pub use dom_html5::PageText;
+pub use dom_html5::ReadPage;
+pub use dom_html5::decode_page;
 pub use dom_html5::parse_page;
 pub use dom_html5::parse_page_bytes;
 pub use dom_html5::parse_page_fragment;
+pub use dom_html5::read_page;
 pub use dom_index::index::IndexedNodes;
 pub use dom_index::index::TreeIndex;
 pub use dom_links::gap::Place;

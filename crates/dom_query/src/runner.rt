@@ -32,7 +32,7 @@ pub enum RunFault {
     /// script isn't UTF-8.
     #[error("bad script at line {0}")]
     BadScript(usize),
-    /// The markup isn't UTF-8, or doesn't follow the grammar of markup.
+    /// The markup isn't UTF-8, or isn't explicit markup as `Document::parse` reads it.
     #[error("bad markup")]
     BadMarkup,
     /// The edit in this line, counted from 1, failed.

@@ -1,4 +1,4 @@
-//! Text with line breaks for selections.
+//! Formatted text of selections.
 
 use dom_md::formatting::formatted_node;
 use dom_nodes::fault::OutOfMemory;
@@ -15,8 +15,8 @@ pub trait SelectionMd {
     ghost nodes: { Self → List NodeRef };
 
     /// Returns the formatted texts of the nodes, joined. Each node is formatted as an element of
-    /// its own, and white space at the ends stays. A document or a fragment gives nothing. It fails
-    /// with `OutOfMemory` when memory is refused.
+    /// its own, and white space at the ends stays. For a document or a fragment it is empty. It
+    /// fails with `OutOfMemory` when memory is refused.
     fn formatted_text(&self) -> Result<String, OutOfMemory>
         ensures { IfOk result (λ text. string_bytes text
             ≡ joined formatted_node (nodes self.now)) };

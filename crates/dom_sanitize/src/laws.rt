@@ -1,6 +1,6 @@
 //! Facts about every sanitized tree, which the crates above use in their proofs. Each function does
 //! nothing at run time: a call of it brings its `ensures` clauses into the caller's proof. The
-//! calls in the bodies are of the same kind.
+//! calls in their bodies are calls of such functions.
 
 ghost use Rattle.std.specs.Prelude.{◌≡◌, []};
 ghost use Rattle.dom_links.specs.Forest.{Forest};

@@ -25,7 +25,7 @@ use std::marker::Model;
 pub(crate) enum Fate {
     /// It stays, with what is left of its children.
     Stay,
-    /// It is removed, and what is left of its children takes its place.
+    /// It is removed, and those of its children that are left take its place.
     Unwrap,
     /// It is removed with everything below it.
     Vanish,

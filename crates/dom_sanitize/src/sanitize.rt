@@ -24,8 +24,8 @@ pub struct Allow<'a> {
 
 /// Sanitizes the document below its root. Texts stay. Allowed elements stay, with their allowed
 /// attributes only. Comments, doctypes, processing instructions, dropped elements and templates are
-/// detached with everything below them. Any other element is detached, and what is left of its
-/// children takes its place. Attribute values aren't looked at.
+/// detached with everything below them. Any other element is detached, and those of its children
+/// that are left take its place. Attribute values aren't looked at.
 ///
 /// Nodes that are detached still exist in the tree. The call is idempotent. It fails with
 /// `OutOfMemory` when memory is refused, and then nothing has changed.

@@ -5,6 +5,7 @@ pub mod EndLemmas
 pub mod FilterLemmas
 pub mod FollowLemmas
 pub mod HasLemmas
+pub mod IndexLemmas
 pub mod JoinedLemmas
 pub mod MatchLemmas
 pub mod MeaningLemmas

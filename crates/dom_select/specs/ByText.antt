@@ -1,4 +1,4 @@
--- Selectors given as text.
+-- Selectors that are passed as text.
 use Rattle.std.specs.Prelude.{ℕ, List, Bool, MatchBool, chars}
 use Rattle.dom_selectors.specs.Grammar.{StandsFor}
 use Rattle.dom_selectors.specs.Syntax.{SelectorList}

@@ -87,6 +87,11 @@ PartHolds Root forest n = root_element_at forest n ≡ true
 PartHolds Link forest n = passes_at Link forest n
 PartHolds Never forest n = passes_at Never forest n
 
+-- whether the simple selector asks for an index among siblings
+abbrev pub asks_for_index : Part → Bool
+asks_for_index (Position position) = true
+asks_for_index _ = false
+
 -- each of the simple selectors matches the node
 abbrev pub EachHolds : List Part → Forest → ℕ → Type 0
 EachHolds [] forest n = Unit {0}

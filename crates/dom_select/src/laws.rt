@@ -5,7 +5,7 @@ ghost use Rattle.dom_select.specs.Selected.{SelectsExactly, SelectsOneList};
 
 pub use dom_selectors::laws::{one_mini_reading, one_reading, printed_string};
 
-/// A selector selects at most one list of nodes.
+/// What a selector selects is determined: the definition allows one list of nodes only.
 pub fn one_selection()
     ensures { SelectsOneList }
 {}

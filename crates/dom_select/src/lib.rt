@@ -1,5 +1,5 @@
 //! Matching of selectors against the nodes of a tree. Start at `matcher::Matcher`, or at
-//! `node_select::NodeSelect` for questions to one node.
+//! `node_select::NodeSelect` to test one node.
 #![tactic(auto)]
 
 pub use dom_selectors::{css, fault, pseudo_class};

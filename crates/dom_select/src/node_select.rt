@@ -1,4 +1,4 @@
-//! Questions to one node: whether a selector matches it, and other tests of the crate dom_query.
+//! Tests of one node: whether a selector matches it, and other tests of the crate dom_query.
 
 ghost use Rattle.std.specs.Prelude.{◌≡◌, ℕ, false, IfOk, MatchBool};
 ghost use Rattle.std.specs.List.{list_any};

@@ -177,7 +177,7 @@ impl<'a> Selection<'a> {
     }
 
     /// Returns the allocator of the selection. There is no `ensures` clause, because a contract
-    /// sees the selection as a list of nodes and an allocator says nothing about that.
+    /// sees the selection as a list of nodes, which has no allocator.
     pub fn allocator(&self) -> Global {
         match &self.nodes {
             Nodes::One(node) => node.tree.allocator(),

@@ -107,7 +107,7 @@ fn after_space(text: &[char]) -> &[char]
     }
 }
 
-/// Parses what follows a `\`; returns the character that it means, and the rest.
+/// Parses what follows a `\`; returns the character that the escape stands for, and the rest.
 pub(crate) fn take_escape(text: &[char]) -> Option<(char, &[char])>
     ensures { TakesSome result SpellsEscape text.now }
 {

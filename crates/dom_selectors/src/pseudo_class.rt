@@ -1,6 +1,6 @@
-//! Pseudo-classes as values of their own, and pseudo-elements, of which there are none.
-//! `:only-text`, `:has-text(..)` and `:contains(..)` come from the crate dom_query; the others are
-//! those of Selectors Level 4.
+//! Pseudo-classes as values, and pseudo-elements, of which there are none. `:only-text`,
+//! `:has-text(..)` and `:contains(..)` come from the crate dom_query; the others are those of
+//! Selectors Level 4.
 
 ghost use Rattle.std.specs.Prelude.{◌≡◌, ◌++◌, IfOk, OnOk, string_bytes};
 ghost use Rattle.dom_selectors.specs.PseudoTexts.{pseudo_css, pseudo_name, pseudo_rest};

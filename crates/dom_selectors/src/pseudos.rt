@@ -1,4 +1,4 @@
-//! The pseudo-classes by name, and the simple selectors that they are.
+//! The pseudo-classes by name, and the simple selectors that they stand for.
 
 ghost use Rattle.std.specs.Prelude.{◌≡◌, ◌||◌};
 ghost use Rattle.dom_selectors.specs.Pseudos.{bare_item, bare_of, first_of, index_kind_of};
@@ -161,7 +161,7 @@ fn first_of(kind: IndexKind) -> Part
     Part::Position(Position { kind, nth })
 }
 
-/// Returns what a pseudo-class without parentheses means.
+/// Returns the simple selector that a pseudo-class without parentheses stands for.
 pub(crate) fn bare_item(bare: Bare) -> Item
     ensures { read_item result ≡ bare_item bare }
 {

@@ -10,7 +10,8 @@ use std::alloc::Global;
 use std::marker::Model;
 
 /// A name as in the source, and the same name in lower case, so that it can be compared with a
-/// known name by number. A contract sees it as the bytes of the name in the source.
+/// known name by its index in the table of known names. A contract sees it as the bytes of the name
+/// in the source.
 #[derive(Drop)]
 pub struct SelectorName {
     written: Text,

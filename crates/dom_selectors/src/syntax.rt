@@ -89,7 +89,7 @@ pub enum Part {
     Root,
     /// `:link` and `:any-link`: an element that is a hyperlink.
     Link,
-    /// `:hover` and other states that no node of a tree has, so nothing matches.
+    /// `:hover` and other states that no node of a tree has; it matches nothing.
     Never,
     /// `:empty`: an element without child elements and without a text that isn't blank.
     Empty,

@@ -162,7 +162,8 @@ pub(crate) fn check_reparent(
     check_moved(nodes, t, &MovedNodes::WithLater(first))
 }
 
-/// Tests that `x` may be wrapped in `w`.
+/// Tests that `x` may be wrapped in `w`. It fails with `UnknownNode`, `NoChildrenHere`,
+/// `RootOrFragment` or `Cycle`.
 pub(crate) fn check_wrap(nodes: &[TreeNode], x: NodeId, w: NodeId) -> Result<(), EditFault>
     requires { IsSoundArena nodes.now }
     ensures { MatchResult result (λ _. MayWrap (forest_of nodes.now) x w)

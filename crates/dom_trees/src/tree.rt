@@ -55,7 +55,7 @@ impl Model for Tree {
     ghost invariant = { λ tree. IsSoundArena tree.nodes.items };
 }
 
-/// Prints `Tree` alone.
+/// Prints the word `Tree` and nothing of the nodes.
 impl fmt::Debug for Tree {
     fn fmt<W: fmt::Write>(&self, f: &mut fmt::Formatter<W>) -> fmt::Result {
         f.write_str("Tree")
@@ -85,8 +85,8 @@ impl Tree {
     }
 
     /// Returns the tree with these nodes, if they are linked as a forest and each node's id is its
-    /// index. Otherwise, or when memory for the check is refused, it fails and returns the vector
-    /// unchanged, with the fault that was found first.
+    /// index. It fails when they aren't, or when memory for the check is refused; the error holds
+    /// the unchanged vector and the fault that was found first.
     pub fn from_nodes(nodes: Vec<TreeNode>) -> Result<Tree, (Vec<TreeNode>, ValidateFault)>
         ensures sound { IfOk result (λ _. IsSoundArena nodes.items) }
         ensures ok { IfOk result (λ tree. tree ≡ forest_of nodes.items) }
@@ -123,7 +123,7 @@ impl Tree {
     }
 
     /// Returns the allocator of the tree. There is no `ensures` clause, because a contract sees the
-    /// tree as a forest and an allocator says nothing about that.
+    /// tree as a forest, which has no allocator.
     pub fn allocator(&self) -> Global {
         *self.nodes.allocator()
     }

@@ -13,9 +13,9 @@ use crate::single_byte::SingleByte;
 pub enum Encoding {
     /// UTF-8.
     Utf8,
-    /// UTF-16, the byte of the upper bits first.
+    /// UTF-16, big-endian.
     Utf16Be,
-    /// UTF-16, the byte of the lower bits first.
+    /// UTF-16, little-endian.
     Utf16Le,
     /// GBK: simplified Chinese. It is decoded as gb18030 is.
     Gbk,
@@ -31,26 +31,36 @@ pub enum Encoding {
     ShiftJis,
     /// EUC-KR: Korean.
     EucKr,
-    /// What labels stand for that are dangerous to decode, such as `iso-2022-kr`: the text of any
-    /// bytes is one U+FFFD.
+    /// The encoding of labels such as `iso-2022-kr`, whose bytes would be dangerous to decode. Any
+    /// bytes are decoded as one U+FFFD.
     Replacement,
     /// An encoding in which each byte is a character.
     SingleByte(SingleByte),
 }
 
 impl Encoding {
-    /// The encoding that a label names, as `charset` of a `meta` or of an HTTP header has it. White
-    /// space around the label and the case of its letters do not matter: ` UTF-8 `, `latin1` and
-    /// `ISO-8859-1` are labels, and the last two name windows-1252. None where the Encoding Standard
-    /// has no such label.
+    /// Returns the encoding that a label names, such as the value of `charset` in a `meta` element
+    /// or an HTTP header, or `None` if the Encoding Standard doesn't have the label. White space
+    /// around the label and the case of its letters don't matter: ` UTF-8 `, `latin1` and
+    /// `ISO-8859-1` are labels, and the last two name windows-1252.
     pub fn for_label(label: &[u8]) -> Option<Encoding>
         ensures { (trimmed : List ℕ) × IsTrimAscii label.now trimmed
-            × (result ≡ labelled (λ row. row.0.now) (λ row. row.1) LABELS (map to_ascii_lowercase trimmed)) }
+            × (result ≡ labelled (λ row. row.0.now) (λ row. row.1) LABELS
+            (map to_ascii_lowercase trimmed)) }
     {
         find(&LABELS, label.trim_ascii())
     }
 
-    /// The name of the encoding, which is one of its labels: `windows-1252`, `Shift_JIS`, `UTF-8`.
+    /// Each label in lower case, and the encoding that it names: the table that `for_label` reads.
+    pub fn labels() -> &'static [(&'static str, Encoding)]
+        ensures { (label : List ℕ) → labelled (λ row. row.0.now) (λ row. row.1) result.now label
+            ≡ labelled (λ row. row.0.now) (λ row. row.1) LABELS label }
+    {
+        &LABELS
+    }
+
+    /// Returns the name of the encoding, which is one of its labels, such as `windows-1252`,
+    /// `Shift_JIS` or `UTF-8`.
     pub fn name(self) -> &'static str {
         match self {
             Encoding::Utf8 => "UTF-8",
@@ -68,7 +78,8 @@ impl Encoding {
         }
     }
 
-    /// The encoding whose byte order mark the bytes begin with, and how many bytes the mark has.
+    /// Returns the encoding whose byte order mark is at the start of the bytes, and how many bytes
+    /// the mark has; `None` if no mark is there.
     pub fn for_bom(bytes: &[u8]) -> Option<(Encoding, usize)>
         ensures { result ≡ for_bom bytes.now }
     {
@@ -84,8 +95,9 @@ impl Encoding {
         None
     }
 
-    /// What a page means that declares this encoding in its markup. Markup that can be read is not
-    /// in UTF-16, so that means UTF-8; `x-user-defined` means windows-1252.
+    /// Returns the encoding of a page that declares this encoding in its markup. A page in UTF-16
+    /// could not be read as far as its declaration, so UTF-16 means UTF-8 there; and
+    /// `x-user-defined` means windows-1252.
     pub(crate) fn of_markup(self) -> Encoding {
         match self {
             Encoding::Utf16Be | Encoding::Utf16Le => Encoding::Utf8,
@@ -97,9 +109,10 @@ impl Encoding {
     }
 }
 
-/// The encoding of a label in the rows.
+/// Returns the encoding of a label in the rows.
 fn find(rows: &[(&str, Encoding)], label: &[u8]) -> Option<Encoding>
-    ensures { result ≡ labelled (λ row. row.0.now) (λ row. row.1) rows.now (map to_ascii_lowercase label.now) }
+    ensures { result ≡ labelled (λ row. row.0.now) (λ row. row.1) rows.now
+        (map to_ascii_lowercase label.now) }
 {
     for (name, encoding) in rows {
         if is_same(name.as_bytes(), label) {
@@ -109,9 +122,10 @@ fn find(rows: &[(&str, Encoding)], label: &[u8]) -> Option<Encoding>
     None
 }
 
-/// Whether two labels are the same but for the case of letters.
+/// Returns whether two labels are equal, apart from the case of letters.
 fn is_same(name: &[u8], label: &[u8]) -> bool
-    ensures { result ≡ bytes_eq (map to_ascii_lowercase name.now) (map to_ascii_lowercase label.now) }
+    ensures { result ≡ bytes_eq (map to_ascii_lowercase name.now)
+        (map to_ascii_lowercase label.now) }
 {
     name.eq_ignore_ascii_case(label)
 }

@@ -1,5 +1,5 @@
-//! Encodings of the Encoding Standard: their labels and names, which one a page declares, and the
-//! decoders of those that need no index of many thousand characters.
+//! Encodings of the Encoding Standard: their labels and names, the search for the encoding that a
+//! page declares, and the decoders that need no large table (UTF-16 and the single-byte encodings).
 #![tactic(auto)]
 
 mod encoding;
@@ -10,5 +10,5 @@ mod tables;
 pub mod utf16;
 
 pub use encoding::Encoding;
-pub use prescan::declared_encoding;
+pub use prescan::{declared_encoding, label_in_content};
 pub use single_byte::SingleByte;

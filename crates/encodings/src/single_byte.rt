@@ -13,8 +13,8 @@ use crate::tables::{
 use decoded_text::{Decoded, ascii_front};
 use std::alloc::AllocError;
 
-/// An encoding in which each byte is a character: ASCII below 128, and an index of characters from
-/// there on.
+/// An encoding in which each byte is a character: bytes below 128 are ASCII, and a table has the
+/// characters of the others.
 #[derive(Clone, Copy, Debug, PartialEq, Eq)]
 pub enum SingleByte {
     Ibm866,
@@ -49,7 +49,7 @@ pub enum SingleByte {
 }
 
 impl SingleByte {
-    /// The characters of the bytes from 128 on.
+    /// Returns the characters of the bytes from 128 on.
     fn index(self) -> &'static [u16; 128]
         ensures { result.now ≡ index_of self }
     {
@@ -86,7 +86,7 @@ impl SingleByte {
         }
     }
 
-    /// The name of the encoding.
+    /// Returns the name of the encoding.
     pub fn name(self) -> &'static str {
         match self {
             SingleByte::Ibm866 => "IBM866",
@@ -121,21 +121,23 @@ impl SingleByte {
         }
     }
 
-    /// Appends the characters of the bytes.
+    /// Appends the characters of the bytes. A byte without a character becomes U+FFFD, which is
+    /// counted.
     ///
     /// # Errors
     ///
-    /// `AllocError` where memory is short.
+    /// Fails with `AllocError` if memory runs out.
     pub fn decode_into(self, out: &mut Decoded, bytes: &[u8]) -> Result<(), AllocError>
         requires { IsCounted out.old }
-        ensures appends { OnOk result (Appends out.old out.new (characters (index_of self) bytes.now)) }
+        ensures appends { OnOk result (Appends out.old
+            out.new (characters (index_of self) bytes.now)) }
         ensures counted { IsCounted out.new }
     {
         decode_by(self.index(), out, bytes)
     }
 }
 
-/// How many bytes are decoded one by one before a run of ASCII is looked for again.
+/// How many bytes are decoded one by one before the next search for a run of ASCII.
 const FEW: usize = 16;
 
 /// Appends the characters of the bytes, by the index of those from 128 on.
@@ -167,7 +169,7 @@ fn push_each(out: &mut Decoded, index: &[u16; 128], bytes: &[u8]) -> Result<(), 
     Ok(())
 }
 
-/// The character of a byte.
+/// Returns the character of a byte.
 #[inline(always)]
 #[tactic(auto, unfolding(crate::specs::SingleByte::character_of))]
 fn character_of(index: &[u16; 128], byte: u8) -> Option<char>

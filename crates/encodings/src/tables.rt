@@ -1,5 +1,5 @@
-//! The indexes of the single-byte encodings of the Encoding Standard: the characters of the bytes from
-//! 128 on; 0 where a byte has no character.
+//! The indexes of the single-byte encodings of the Encoding Standard: the characters of the bytes
+//! from 128 on, with 0 for a byte without a character.
 
 /// IBM866.
 #[rattlefmt::skip]

@@ -1,4 +1,4 @@
-//! UTF-16, in either order of bytes.
+//! UTF-16, in either byte order.
 
 ghost use Rattle.std.specs.Prelude.{◌≡◌, ◌<◌, ◌≤◌, [], ◌∷◌, false, ◌++◌, IfNone, IfOk, IfSome, IsTrue, List, length, ℕ};
 ghost use Rattle.decoded_text.specs.Characters.{Continues, IsCounted};
@@ -7,22 +7,22 @@ ghost use Rattle.encodings.specs.Utf16.{character, characters, is_high, is_low, 
 use decoded_text::Decoded;
 use std::alloc::AllocError;
 
-/// Which byte of a code unit comes first.
+/// The byte order of the code units.
 #[derive(Clone, Copy, Debug, Drop, PartialEq, Eq)]
 pub enum ByteOrder {
-    /// The byte of the upper bits.
+    /// The byte with the upper bits comes first.
     BigEndian,
-    /// The byte of the lower bits.
+    /// The byte with the lower bits comes first.
     LittleEndian,
 }
 
-/// Appends the characters of the bytes, and returns the bytes that are not decoded yet: at most
-/// three, whose character goes on in bytes that follow. Where the bytes are the last ones, all are
-/// decoded.
+/// Appends the characters of the bytes, and returns the bytes that aren't decoded yet: at most
+/// three, the beginning of a character that the next bytes continue. If `is_last` is true, all
+/// bytes are decoded.
 ///
 /// # Errors
 ///
-/// `AllocError` where memory is short.
+/// Fails with `AllocError` if memory runs out.
 pub fn decode_into<'b>(
     order: ByteOrder,
     out: &mut Decoded,
@@ -31,7 +31,8 @@ pub fn decode_into<'b>(
 ) -> Result<&'b [u8], AllocError>
     requires { IsCounted out.old }
     ensures continues { (more : List ℕ) → (IsTrue is_last → more ≡ []) → IfOk result (λ rest.
-        Continues out.old (characters order (bytes.now ++ more)) out.new (characters order (rest.now ++ more))) }
+        Continues out.old (characters order (bytes.now ++ more))
+        out.new (characters order (rest.now ++ more))) }
     ensures few { IfOk result (λ rest. length rest.now < 4) }
     ensures all { IsTrue is_last → IfOk result (λ rest. rest.now ≡ []) }
     ensures counted { IsCounted out.new }
@@ -44,7 +45,7 @@ pub fn decode_into<'b>(
     Ok(rest)
 }
 
-/// The first character and the bytes behind it; none where that takes more bytes than there are.
+/// Returns the first character and the bytes after it; `None` if it is incomplete.
 fn next(order: ByteOrder, bytes: &[u8], is_last: bool) -> Option<(Option<char>, &[u8])>
     ensures none { IfNone result (length bytes.now < 4) }
     ensures last { IsTrue is_last → IfNone result (bytes.now ≡ []) }
@@ -63,7 +64,7 @@ fn next(order: ByteOrder, bytes: &[u8], is_last: bool) -> Option<(Option<char>, 
     Some((character(u32::from(unit)), behind))
 }
 
-/// The character of two code units, of which the first was read, and the bytes behind it.
+/// Returns the character of two code units, of which the first was read, and the bytes after it.
 fn pair(
     order: ByteOrder,
     first: u8,
@@ -75,7 +76,8 @@ fn pair(
     ensures none { IfNone result (length behind.now < 2) }
     ensures last { IfNone result (is_last ≡ false) }
     ensures some { (more : List ℕ) → (IsTrue is_last → more ≡ []) → IfSome result (λ next.
-        characters order (first ∷ second ∷ (behind.now ++ more)) ≡ next.0 ∷ characters order (next.1.now ++ more)) }
+        characters order (first ∷ second ∷ (behind.now ++ more))
+        ≡ next.0 ∷ characters order (next.1.now ++ more)) }
     ensures less { IfSome result (λ next. length next.1.now ≤ length behind.now) }
 {
     let Some((third, others)) = behind.split_first() else {
@@ -92,7 +94,7 @@ fn pair(
     Some((None, behind))
 }
 
-/// The code unit of two bytes.
+/// Returns the code unit of two bytes.
 fn unit_of(order: ByteOrder, first: u8, second: u8) -> u16
     ensures { result ≡ unit_of order first second }
 {
@@ -102,21 +104,21 @@ fn unit_of(order: ByteOrder, first: u8, second: u8) -> u16
     }
 }
 
-/// Whether a unit is the first of a pair.
+/// Returns whether a unit is the first of a pair.
 fn is_high(unit: u16) -> bool
     ensures { result ≡ is_high unit }
 {
     0xD800 <= unit && unit < 0xDC00
 }
 
-/// Whether a unit is the second of a pair.
+/// Returns whether a unit is the second of a pair.
 fn is_low(unit: u16) -> bool
     ensures { result ≡ is_low unit }
 {
     0xDC00 <= unit && unit < 0xE000
 }
 
-/// The code of a pair.
+/// Returns the code of a pair.
 fn pair_code(high: u16, low: u16) -> u32
     requires high { IsTrue (is_high high) }
     requires low { IsTrue (is_low low) }
@@ -125,7 +127,7 @@ fn pair_code(high: u16, low: u16) -> u32
     0x10000 + (u32::from(high) - 0xD800) * 0x400 + (u32::from(low) - 0xDC00)
 }
 
-/// The character of a code; none for a surrogate.
+/// Returns the character of a code; none for a surrogate.
 #[tactic(auto, unfolding(crate::specs::Utf16::character))]
 fn character(code: u32) -> Option<char>
     ensures { result ≡ character code }

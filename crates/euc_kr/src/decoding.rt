@@ -8,13 +8,13 @@ use crate::table::EUC_KR;
 use decoded_text::{Decoded, ascii_front};
 use std::alloc::AllocError;
 
-/// Appends the characters of the bytes, and returns the bytes that are not decoded yet: at most
-/// one, whose character goes on in bytes that follow. Where the bytes are the last ones, all are
+/// Appends the characters of the bytes, and returns the bytes that aren't decoded yet: at most one,
+/// the beginning of a character that the next bytes continue. If `is_last` is true, all bytes are
 /// decoded.
 ///
 /// # Errors
 ///
-/// `AllocError` where memory is short.
+/// Fails with `AllocError` if memory runs out.
 pub fn decode_into<'b>(
     out: &mut Decoded,
     bytes: &'b [u8],
@@ -22,7 +22,8 @@ pub fn decode_into<'b>(
 ) -> Result<&'b [u8], AllocError>
     requires { IsCounted out.old }
     ensures continues { (more : List ℕ) → (IsTrue is_last → more ≡ []) → IfOk result (λ rest.
-        Continues out.old (characters EUC_KR (bytes.now ++ more)) out.new (characters EUC_KR (rest.now ++ more))) }
+        Continues out.old (characters EUC_KR (bytes.now ++ more))
+        out.new (characters EUC_KR (rest.now ++ more))) }
     ensures few { IfOk result (λ rest. length rest.now < 2) }
     ensures all { IsTrue is_last → IfOk result (λ rest. rest.now ≡ []) }
     ensures counted { IsCounted out.new }
@@ -37,7 +38,7 @@ pub fn decode_into<'b>(
     Ok(rest)
 }
 
-/// The first character and the bytes behind it; none where that takes more bytes than there are.
+/// Returns the first character and the bytes after it; `None` if it is incomplete.
 fn next(bytes: &[u8], is_last: bool) -> Option<(Option<char>, &[u8])>
     ensures none { IfNone result (length bytes.now < 2) }
     ensures last { IsTrue is_last → IfNone result (bytes.now ≡ []) }
@@ -52,13 +53,14 @@ fn next(bytes: &[u8], is_last: bool) -> Option<(Option<char>, &[u8])>
     Some((alone(*lead), behind))
 }
 
-/// The character of two bytes, of which the first was read, and the bytes behind it.
+/// Returns the character of two bytes, of which the first was read, and the bytes after it.
 fn pair(lead: u8, behind: &[u8], is_last: bool) -> Option<(Option<char>, &[u8])>
     requires { IsTrue (is_lead lead) }
     ensures none { IfNone result (behind.now ≡ []) }
     ensures last { IfNone result (is_last ≡ false) }
     ensures some { (more : List ℕ) → (IsTrue is_last → more ≡ []) → IfSome result (λ next.
-        characters EUC_KR (lead ∷ (behind.now ++ more)) ≡ next.0 ∷ characters EUC_KR (next.1.now ++ more)) }
+        characters EUC_KR (lead ∷ (behind.now ++ more))
+        ≡ next.0 ∷ characters EUC_KR (next.1.now ++ more)) }
     ensures less { IfSome result (λ next. length next.1.now ≤ length behind.now) }
 {
     let Some((trail, others)) = behind.split_first() else {
@@ -71,14 +73,14 @@ fn pair(lead: u8, behind: &[u8], is_last: bool) -> Option<(Option<char>, &[u8])>
     }
 }
 
-/// Whether a byte is the first of two.
+/// Returns whether a byte is the first of two.
 fn is_lead(byte: u8) -> bool
     ensures { result ≡ is_lead byte }
 {
     0x81 <= byte && byte <= 0xFE
 }
 
-/// The character of a byte alone.
+/// Returns the character of a byte alone.
 fn alone(byte: u8) -> Option<char>
     ensures { result ≡ alone byte }
 {
@@ -89,7 +91,7 @@ fn alone(byte: u8) -> Option<char>
     }
 }
 
-/// The character of two bytes.
+/// Returns the character of two bytes.
 fn of_two(lead: u8, trail: u8) -> Option<char>
     requires lead { IsTrue (is_lead lead) }
     ensures { result ≡ of_two EUC_KR lead trail }
@@ -103,7 +105,7 @@ fn of_two(lead: u8, trail: u8) -> Option<char>
     )
 }
 
-/// The character of a pointer.
+/// Returns the character of a pointer.
 #[tactic(auto, unfolding(crate::specs::Decoding::character_at))]
 fn character_at(index: &[u16], pointer: usize) -> Option<char>
     ensures { result ≡ character_at index.now pointer }

@@ -12,7 +12,7 @@ pub const PAGE: &str = "<!doctype html><title>Tea | tea.example</title>\
     <p>Pour, wait three minutes, and <em>drink</em>.</div>\
     <div id=foot><p>&copy; Tea &amp; co</div>";
 
-/// Prints the title of the page and, as Markdown, the part that has most to read.
+/// Prints the title of the page and, as Markdown, the block with the longest text.
 pub fn print_article<W: Write>(alloc: Global, html: &str, out: &mut W) -> Result<(), Fault> {
     let document = parse_page(alloc, html, Options::default())?;
     print_title(&document, out)?;
@@ -25,7 +25,7 @@ fn print_title<W: Write>(document: &Document, out: &mut W) -> Result<(), Fault> 
     Ok(())
 }
 
-/// Prints the block with most to read, as Markdown.
+/// Prints the block with the longest text, as Markdown.
 fn print_longest<W: Write>(document: &Document, out: &mut W) -> Result<(), Fault> {
     let Some(id) = longest(document)? else {
         writeln!(out, "no article")?;
@@ -40,7 +40,7 @@ fn print_markdown<W: Write>(article: &NodeRef<'_>, out: &mut W) -> Result<(), Fa
     Ok(())
 }
 
-/// Returns the block with most to read in its own paragraphs.
+/// Returns the block whose own paragraphs have the most characters, or `None` if none has any.
 fn longest(document: &Document) -> Result<Option<NodeId>, Fault> {
     let blocks = document.select("article, main, section, div")?;
     let mut best = None;

@@ -24,7 +24,7 @@ pub fn print_comments<W: Write>(
     Ok(())
 }
 
-/// Reads a comment as what could be inside a `div`, and prints what is left of it.
+/// Parses a comment as the content of a `div`, and prints what is left of it.
 fn print_comment<W: Write>(alloc: Global, comment: &str, out: &mut W) -> Result<(), Fault> {
     let context = Context::Html("div");
     let mut document = parse_page_fragment(alloc, comment, context, Options::default())?;

@@ -7,6 +7,7 @@ mod article;
 mod changing;
 mod comments;
 mod copying;
+mod counts;
 mod fault;
 mod finding;
 mod links;
@@ -31,6 +32,7 @@ use std::process::ExitCode;
 fn print_reading<W: Write>(alloc: Global, out: &mut W) -> Result<(), Fault> {
     reading::print_read(alloc, out)?;
     reading::print_pieces(alloc, out)?;
+    reading::print_received(alloc, out)?;
     reading::print_fragment(alloc, out)?;
     reading::print_errors(alloc, out)?;
     reading::print_fault(alloc, out)
@@ -66,17 +68,19 @@ fn print_programs<W: Write>(alloc: Global, out: &mut W) -> Result<(), Fault> {
     parens::print_read(alloc, out)
 }
 
-/// Prints what all of them print.
-fn print_all<W: Write>(alloc: Global, out: &mut W) -> Result<(), Fault> {
-    print_reading(alloc, out)?;
-    print_finding(alloc, out)?;
-    print_changing(alloc, out)?;
-    print_programs(alloc, out)
+/// Prints what all of them print. The program is run without names of files, so `print_counts` prints
+/// nothing here.
+fn print_all<W: Write>(rt: &HostRuntime, out: &mut W) -> Result<(), Fault> {
+    print_reading(rt.alloc(), out)?;
+    print_finding(rt.alloc(), out)?;
+    print_changing(rt.alloc(), out)?;
+    print_programs(rt.alloc(), out)?;
+    counts::print_counts(rt, out)
 }
 
 fn main(rt: HostRuntime) -> ExitCode {
     let mut out = rt.stdout();
-    match print_all(rt.alloc(), &mut out) {
+    match print_all(&rt, &mut out) {
         Ok(()) => ExitCode::from(0),
         Err(_) => ExitCode::from(1),
     }

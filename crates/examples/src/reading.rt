@@ -29,7 +29,23 @@ fn read_pieces(alloc: Global, pieces: &[&[u8]]) -> Result<Document, Fault> {
     Ok(parser.finish()?)
 }
 
-/// Prints a fragment: what could be the rows of a table.
+/// Prints a page that came with a label of its encoding.
+pub fn print_received<W: Write>(alloc: Global, out: &mut W) -> Result<(), Fault> {
+    let page = read_received(alloc, b"<p>\xFE\xC1\xCA", b"koi8-r")?;
+    writeln!(out, "{}: {}", page.encoding.name(), page.document.text()?)?;
+    Ok(())
+}
+
+/// Reads a page that came with this label, as in `Content-Type: text/html; charset=koi8-r`.
+fn read_received(alloc: Global, bytes: &[u8], label: &[u8]) -> Result<ReadPage, Fault> {
+    let charset = match Encoding::for_label(label) {
+        Some(encoding) => Charset::of_transport(encoding),
+        None => Charset::unknown(),
+    };
+    Ok(read_page(alloc, bytes, charset, Options::default())?)
+}
+
+/// Prints a fragment that is parsed as the rows of a table.
 pub fn print_fragment<W: Write>(alloc: Global, out: &mut W) -> Result<(), Fault> {
     let context = Context::Html("tbody");
     let rows = parse_page_fragment(alloc, "<tr><td>1<td>2", context, Options::default())?;

@@ -8,7 +8,7 @@ use std::io::Write;
 pub const PAGE: &str = "<!doctype html><title>Tea</title><p><a href=/green>Green</a>\
     <a href=https://tea.example/black>Black</a> <a href=HTTPS://mate.example/>Mate</a>";
 
-/// The links with an address of their own that isn't on tea.example.
+/// The links with an absolute address that isn't on tea.example.
 const OUTSIDE: &str = "a:is([href^='http:' i], [href^='https:' i], [href^='//'])\
     :not([href^='https://tea.example/' i])";
 

@@ -9,13 +9,13 @@ use crate::table::{CODES, FIRSTS, GB18030};
 use decoded_text::{Decoded, ascii_front};
 use std::alloc::AllocError;
 
-/// Appends the characters of the bytes, and returns the bytes that are not decoded yet: at most
-/// three, whose character goes on in bytes that follow. Where the bytes are the last ones, all are
-/// decoded.
+/// Appends the characters of the bytes, and returns the bytes that aren't decoded yet: at most
+/// three, the beginning of a character that the next bytes continue. If `is_last` is true, all
+/// bytes are decoded.
 ///
 /// # Errors
 ///
-/// `AllocError` where memory is short.
+/// Fails with `AllocError` if memory runs out.
 pub fn decode_into<'b>(
     out: &mut Decoded,
     bytes: &'b [u8],
@@ -23,7 +23,8 @@ pub fn decode_into<'b>(
 ) -> Result<&'b [u8], AllocError>
     requires { IsCounted out.old }
     ensures continues { (more : List ℕ) → (IsTrue is_last → more ≡ []) → IfOk result (λ rest.
-        Continues out.old (characters GB18030 FIRSTS CODES (bytes.now ++ more)) out.new (characters GB18030 FIRSTS CODES (rest.now ++ more))) }
+        Continues out.old (characters GB18030 FIRSTS CODES (bytes.now ++ more))
+        out.new (characters GB18030 FIRSTS CODES (rest.now ++ more))) }
     ensures few { IfOk result (λ rest. length rest.now < 4) }
     ensures all { IsTrue is_last → IfOk result (λ rest. rest.now ≡ []) }
     ensures counted { IsCounted out.new }
@@ -38,12 +39,13 @@ pub fn decode_into<'b>(
     Ok(rest)
 }
 
-/// The first character and the bytes behind it; none where that takes more bytes than there are.
+/// Returns the first character and the bytes after it; `None` if it is incomplete.
 fn next(bytes: &[u8], is_last: bool) -> Option<(Option<char>, &[u8])>
     ensures none { IfNone result (length bytes.now < 4) }
     ensures last { IsTrue is_last → IfNone result (bytes.now ≡ []) }
     ensures some { (more : List ℕ) → (IsTrue is_last → more ≡ []) → IfSome result (λ next.
-        characters GB18030 FIRSTS CODES (bytes.now ++ more) ≡ next.0 ∷ characters GB18030 FIRSTS CODES (next.1.now ++ more)) }
+        characters GB18030 FIRSTS CODES (bytes.now ++ more)
+        ≡ next.0 ∷ characters GB18030 FIRSTS CODES (next.1.now ++ more)) }
     ensures less { IfSome result (λ next. length next.1.now < length bytes.now) }
 {
     let (first, behind) = bytes.split_first()?;
@@ -53,13 +55,14 @@ fn next(bytes: &[u8], is_last: bool) -> Option<(Option<char>, &[u8])>
     Some((alone(*first), behind))
 }
 
-/// The character of two or four bytes, of which the first was read, and the bytes behind it.
+/// Returns the character of two or four bytes, of which the first was read, and the bytes after it.
 fn pair(first: u8, behind: &[u8], is_last: bool) -> Option<(Option<char>, &[u8])>
     requires { IsTrue (is_lead first) }
     ensures none { IfNone result (length behind.now < 3) }
     ensures last { IfNone result (is_last ≡ false) }
     ensures some { (more : List ℕ) → (IsTrue is_last → more ≡ []) → IfSome result (λ next.
-        characters GB18030 FIRSTS CODES (first ∷ (behind.now ++ more)) ≡ next.0 ∷ characters GB18030 FIRSTS CODES (next.1.now ++ more)) }
+        characters GB18030 FIRSTS CODES (first ∷ (behind.now ++ more))
+        ≡ next.0 ∷ characters GB18030 FIRSTS CODES (next.1.now ++ more)) }
     ensures less { IfSome result (λ next. length next.1.now ≤ length behind.now) }
 {
     let Some((second, others)) = behind.split_first() else {
@@ -75,7 +78,7 @@ fn pair(first: u8, behind: &[u8], is_last: bool) -> Option<(Option<char>, &[u8])
     }
 }
 
-/// The character of four bytes, of which two were read, and the bytes behind it.
+/// Returns the character of four bytes, of which two were read, and the bytes after it.
 fn four<'b>(
     first: u8,
     second: u8,
@@ -89,7 +92,8 @@ fn four<'b>(
     ensures none { IfNone result (length others.now < 2) }
     ensures last { IfNone result (is_last ≡ false) }
     ensures some { (more : List ℕ) → (IsTrue is_last → more ≡ []) → IfSome result (λ next.
-        characters GB18030 FIRSTS CODES (first ∷ (behind.now ++ more)) ≡ next.0 ∷ characters GB18030 FIRSTS CODES (next.1.now ++ more)) }
+        characters GB18030 FIRSTS CODES (first ∷ (behind.now ++ more))
+        ≡ next.0 ∷ characters GB18030 FIRSTS CODES (next.1.now ++ more)) }
     ensures less { IfSome result (λ next. length next.1.now ≤ length behind.now) }
 {
     let Some((third, from_fourth)) = others.split_first() else {
@@ -111,21 +115,21 @@ fn four<'b>(
     Some((of_four(first, second, *third, *fourth), rest))
 }
 
-/// Whether a byte is the first of two or four, or the third of four.
+/// Returns whether a byte is the first of two or four, or the third of four.
 fn is_lead(byte: u8) -> bool
     ensures { result ≡ is_lead byte }
 {
     0x81 <= byte && byte <= 0xFE
 }
 
-/// Whether a byte is the second or the fourth of four.
+/// Returns whether a byte is the second or the fourth of four.
 fn is_digit(byte: u8) -> bool
     ensures { result ≡ is_digit byte }
 {
     0x30 <= byte && byte <= 0x39
 }
 
-/// The character of a byte alone.
+/// Returns the character of a byte alone.
 fn alone(byte: u8) -> Option<char>
     ensures { result ≡ alone byte }
 {
@@ -136,7 +140,7 @@ fn alone(byte: u8) -> Option<char>
     }
 }
 
-/// The character of two bytes.
+/// Returns the character of two bytes.
 fn of_two(first: u8, second: u8) -> Option<char>
     requires { IsTrue (is_lead first) }
     ensures { result ≡ of_two GB18030 first second }
@@ -151,7 +155,7 @@ fn of_two(first: u8, second: u8) -> Option<char>
     )
 }
 
-/// The character of a pointer.
+/// Returns the character of a pointer.
 #[tactic(auto, unfolding(crate::specs::Decoding::character_at))]
 fn character_at(index: &[u16], pointer: usize) -> Option<char>
     ensures { result ≡ character_at index.now pointer }
@@ -162,7 +166,7 @@ fn character_at(index: &[u16], pointer: usize) -> Option<char>
     char::from_u32(u32::from(index[pointer]))
 }
 
-/// The character of four bytes.
+/// Returns the character of four bytes.
 fn of_four(first: u8, second: u8, third: u8, fourth: u8) -> Option<char>
     requires first { IsTrue (is_lead first) }
     requires second { IsTrue (is_digit second) }

@@ -1,5 +1,5 @@
-//! gb18030, the encoding of Chinese pages in simplified characters, as the Encoding Standard decodes
-//! it. GBK is decoded by the same rules.
+//! gb18030, the encoding of Chinese pages in simplified characters, as the Encoding Standard
+//! decodes it. GBK is decoded by the same rules.
 #![tactic(auto)]
 
 mod decoding;

@@ -21,7 +21,7 @@ const MATCHED: u8 = 0;
 /// The status where nothing matched.
 const UNMATCHED: u8 = 1;
 
-/// The status where something is at fault.
+/// The status where something failed.
 const FAULTY: u8 = 2;
 
 fn main(rt: HostRuntime) -> ExitCode {
@@ -31,7 +31,7 @@ fn main(rt: HostRuntime) -> ExitCode {
     }
 }
 
-/// Does what the command line asks for, and gives the status.
+/// Does what the command line asks for, and returns the exit status.
 fn obey(rt: &HostRuntime) -> Result<u8, Fault> {
     let words = words_of(rt)?;
     match command(rt.alloc())?.try_get_matches_from(words.as_slice()) {
@@ -43,7 +43,8 @@ fn obey(rt: &HostRuntime) -> Result<u8, Fault> {
     }
 }
 
-/// Shows a fault of usage, or the text of --help or --version, and gives the status.
+/// Prints what is wrong with the command line, or the text of --help or --version, and returns the
+/// exit status.
 fn show(rt: &HostRuntime, refused: &Error) -> u8 {
     if refused.print(rt).is_err() || refused.use_stderr() {
         return FAULTY;
@@ -51,7 +52,7 @@ fn show(rt: &HostRuntime, refused: &Error) -> u8 {
     MATCHED
 }
 
-/// Prints what is asked for of each file, and gives the status.
+/// Prints what is asked for of each file, and returns the exit status.
 fn do_files(rt: &HostRuntime, options: &Options<'_>) -> Result<u8, Fault> {
     let mut out = BufWriter::new(rt.alloc(), rt.stdout())?;
     if options.stream.jsonl {
@@ -67,7 +68,7 @@ fn do_files(rt: &HostRuntime, options: &Options<'_>) -> Result<u8, Fault> {
     Ok(status)
 }
 
-/// The status of two files together.
+/// Returns the exit status for two files from that of each.
 fn joined_status(status: u8, another: u8) -> u8 {
     if status == FAULTY || another == FAULTY {
         return FAULTY;
@@ -75,8 +76,8 @@ fn joined_status(status: u8, another: u8) -> u8 {
     status.min(another)
 }
 
-/// Prints what is asked for of a file, and gives its status. One at fault is reported, and another
-/// may be read then.
+/// Prints what is asked for of a file, and returns its status. If the file can't be read or parsed,
+/// that is reported, and the next file can be read.
 fn do_or_report<W: Write>(
     rt: &HostRuntime,
     name: &str,
@@ -90,7 +91,7 @@ fn do_or_report<W: Write>(
             if !fault.is_of_a_file() {
                 return Err(fault);
             }
-            // What was printed before stands before the report.
+            // The output so far is written first, so that it comes before the report.
             out.flush()?;
             report_in(rt, name, &fault);
             Ok(FAULTY)
@@ -98,7 +99,8 @@ fn do_or_report<W: Write>(
     }
 }
 
-/// Reports a fault that ends the program, and gives the status. That nobody reads on is no fault.
+/// Reports a fault that ends the program, and returns the exit status. If the reader of the output
+/// has closed it, nothing is reported.
 fn failed(rt: &HostRuntime, fault: &Fault) -> u8 {
     if fault.is_broken_pipe() {
         return MATCHED;

@@ -25,7 +25,8 @@ pub fn print_matches<W: Write>(
     Ok(found.exists())
 }
 
-/// Prints the answer that shows a match, if there is one.
+/// Prints what is asked for of a match. Nothing is printed for a match without the attribute that
+/// is asked for.
 fn print_match<W: Write>(
     page: &Page<'_>,
     node: &NodeRef<'_>,
@@ -40,8 +41,8 @@ fn print_match<W: Write>(
     }
 }
 
-/// Prints an answer and the byte that ends it, behind the name of the file where that is asked. An
-/// object of JSON has the name in it.
+/// Prints an answer and the byte that ends it, after the name of the file if that is asked for. A
+/// JSON object contains the name instead.
 fn print_answer<W: Write>(
     page: &Page<'_>,
     answer: &str,
@@ -63,7 +64,7 @@ fn print_name<W: Write>(page: &Page<'_>, options: &Options<'_>, out: &mut W) -> 
     Ok(())
 }
 
-/// What a selector matches in a document, or only the first match.
+/// Returns what a selector matches in a document, or only the first match.
 fn found_in<'a>(
     document: &'a Document,
     selector: &Matcher,
@@ -75,7 +76,7 @@ fn found_in<'a>(
     Ok(document.select_matcher(selector)?)
 }
 
-/// Prints how many matches there are, behind the name of the file where there are several files.
+/// Prints how many matches there are, after the name of the file if there are several files.
 fn print_count<W: Write>(
     page: &Page<'_>,
     count: usize,

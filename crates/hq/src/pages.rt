@@ -1,9 +1,10 @@
-//! What is done with each file: it is read, changed, and printed or written back.
+//! What is done with each file: it is read and changed, and then printed or written back.
 
 use crate::output::print_matches;
 use crate::rewriting::{print_document, write_back};
 use dom_query::{Document, DocumentSelect, SelectionMut, run_commands};
 use hq_pages::addresses::make_whole;
+use hq_pages::charset::{declare_utf8, report_found};
 use hq_pages::cleaning::sanitize_page;
 use hq_pages::faults::Fault;
 use hq_pages::options::{Job, Options};
@@ -11,22 +12,25 @@ use hq_pages::pages::{read_document, top_of};
 use hq_pages::tree::tree_text;
 use std::io::Write;
 
-/// What was read of a file.
+/// A file that was read.
 #[derive(Drop)]
 pub struct Page<'a> {
     pub name: &'a str,
     pub document: Document,
 }
 
-/// Does with a file what the options ask for, and returns whether something matched; without a
-/// selector that is always so.
+/// Does with a file what the options ask for, and returns whether something matched; `true` if the
+/// options have no selector.
 pub fn do_file<W: Write>(
     rt: &HostRuntime,
     name: &str,
     options: &Options<'_>,
     out: &mut W,
 ) -> Result<bool, Fault> {
-    let document = read_document(rt, name, options.reading)?;
+    let (document, found) = read_document(rt, name, options.reading)?;
+    if let Some(found) = found {
+        report_found(rt, name, found, options.verbose, options.printing.json)?;
+    }
     let mut page = Page { name, document };
     change(&mut page.document, options)?;
     let matched = do_job(&mut page, options, out)?;
@@ -62,8 +66,8 @@ fn do_job<W: Write>(
     }
 }
 
-/// Changes a document as the options say, before anything is printed: elements are taken out, it is
-/// sanitised, and its addresses are made whole.
+/// Changes a document as the options say, before anything is printed: elements are removed, the
+/// document is sanitised, and its addresses are made absolute.
 pub fn change(document: &mut Document, options: &Options<'_>) -> Result<(), Fault> {
     for selector in options.removed.as_slice() {
         let ids = document.select_matcher(selector)?.ids()?;
@@ -73,6 +77,9 @@ pub fn change(document: &mut Document, options: &Options<'_>) -> Result<(), Faul
     }
     if options.sanitizes {
         sanitize_page(document)?;
+    }
+    if options.declares_utf8() {
+        declare_utf8(document)?;
     }
     make_whole(document, options)
 }

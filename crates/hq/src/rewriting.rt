@@ -21,8 +21,8 @@ pub fn print_document<W: Write>(document: &Document, out: &mut W) -> Result<(), 
     }
 }
 
-/// Writes a document back to its file. It is written to a new file beside it, which then takes its
-/// place, so the old contents are there until the new ones are complete.
+/// Writes a document back to its file. It is written to a new file in the same folder, which then
+/// replaces the old one, so the old contents stay until the new ones are complete.
 pub fn write_back(rt: &HostRuntime, page: &Page<'_>) -> Result<(), Fault> {
     let mut beside = String::from_str(rt.alloc(), page.name)?;
     beside.push_str(".hq-new")?;

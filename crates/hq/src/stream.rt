@@ -1,15 +1,14 @@
-//! Streams of pages: a line of JSON is read, and a line of JSON answers it.
+//! Streams of pages: for each line of JSON that is read, a line of JSON is written.
 
 use crate::pages::change;
-use dom_query::{
-    Command, Document, DocumentSelect, Matcher, NodeMarkup, NodeRef, parse_page_bytes, run_commands,
-};
+use dom_query::{Command, Document, DocumentSelect, Matcher, NodeMarkup, NodeRef, run_commands};
 use hq_pages::addresses::make_whole_at;
+use hq_pages::charset::{Found, put_found};
 use hq_pages::faults::Fault;
 use hq_pages::json::summary_value;
 use hq_pages::options::{Job, Options, Printing, Show};
 use hq_pages::page_lines::{PageLine, address_of, put, put_error, read_line};
-use hq_pages::pages::page_options;
+use hq_pages::pages::read_line_page;
 use hq_pages::showing::text_of;
 use serde_json::{Map, Value};
 use std::alloc::Global;
@@ -17,7 +16,7 @@ use std::fs;
 use std::io::{BufRead, BufReader, Write};
 use std::time::Instant;
 
-/// What has been read and answered so far.
+/// How much was read and written so far.
 #[derive(Clone, Copy, Drop)]
 pub struct Counts {
     pub pages: u64,
@@ -38,8 +37,8 @@ impl Counts {
     }
 }
 
-/// Answers the lines of all files, and returns whether something matched. A file that can't be read
-/// ends the run.
+/// Writes the answers to the lines of all files, and returns whether something matched. A file that
+/// can't be read ends the run.
 pub fn answer_files<W: Write>(
     rt: &HostRuntime,
     options: &Options<'_>,
@@ -78,7 +77,7 @@ fn answer_file<W: Write>(
     }
 }
 
-/// Answers each line of a reader.
+/// Writes the answer to each line of a reader.
 fn answer_lines<R: BufRead, W: Write>(
     alloc: Global,
     reader: &mut R,
@@ -98,7 +97,7 @@ fn answer_lines<R: BufRead, W: Write>(
     Ok(())
 }
 
-/// Answers a line; an empty one has no answer.
+/// Writes the answer to a line. An empty line has no answer.
 fn answer_line<W: Write>(
     alloc: Global,
     line: &[u8],
@@ -120,14 +119,18 @@ fn answer_line<W: Write>(
     Ok(())
 }
 
-/// The members of the answer to a line.
+/// Returns the members of the answer to a line.
 fn answer_of(
     alloc: Global,
     line: &[u8],
     options: &Options<'_>,
     counts: &mut Counts,
 ) -> Result<Map<String, Value>, Fault> {
-    let PageLine { page, mut members } = match read_line(alloc, line) {
+    let PageLine {
+        page,
+        is_text,
+        mut members,
+    } = match read_line(alloc, line) {
         Ok(read) => read,
         Err(fault) => {
             counts.faults = counts.faults.saturating_add(1);
@@ -136,7 +139,8 @@ fn answer_of(
             return Ok(members);
         }
     };
-    if let Err(fault) = answer_page(alloc, &page, options, counts, &mut members) {
+    let read = read_line_page(alloc, &page, is_text, options.reading);
+    if let Err(fault) = answer_page(alloc, read, options, counts, &mut members) {
         counts.faults = counts.faults.saturating_add(1);
         let why = format!(in alloc; "{fault}")?;
         put_error(alloc, &mut members, why.as_str())?;
@@ -144,15 +148,18 @@ fn answer_of(
     Ok(members)
 }
 
-/// Puts the answer to a page into the members of its line.
+/// Adds the answer to a page to the members of its line.
 fn answer_page(
     alloc: Global,
-    page: &[u8],
+    read: Result<(Document, Found), Fault>,
     options: &Options<'_>,
     counts: &mut Counts,
     members: &mut Map<String, Value>,
 ) -> Result<(), Fault> {
-    let mut document = parse_page_bytes(alloc, page, page_options(options.reading))?;
+    let (mut document, found) = read?;
+    if options.verbose || found.replaced > 0 {
+        put_found(alloc, members, found)?;
+    }
     change(&mut document, options)?;
     if let Some(address) = address_of(members) {
         make_whole_at(&mut document, address)?;
@@ -170,7 +177,7 @@ fn answer_page(
     }
 }
 
-/// Puts what a selector matches into the members, or how many matches there are.
+/// Adds what a selector matches to the members, or how many matches there are.
 fn put_matches(
     alloc: Global,
     document: &Document,
@@ -195,7 +202,8 @@ fn put_matches(
     put(alloc, members, "matches", Value::Array(values))
 }
 
-/// What shows a match: an object, a text, or null where it lacks the attribute.
+/// Returns the JSON value for a match: an object, a text, or null if the match doesn't have the
+/// attribute that is asked for.
 fn value_of(alloc: Global, node: &NodeRef<'_>, printing: Printing<'_>) -> Result<Value, Fault> {
     if let Show::All = printing.show {
         return summary_value(alloc, node, None);
@@ -206,7 +214,7 @@ fn value_of(alloc: Global, node: &NodeRef<'_>, printing: Printing<'_>) -> Result
     }
 }
 
-/// What the commands of a script print over a page.
+/// Returns what the commands of a script print for a page.
 fn output_of(
     alloc: Global,
     document: &mut Document,

@@ -1,4 +1,5 @@
-//! Attributes that hold addresses, and how these are made whole.
+//! The attributes whose values are addresses, and making these addresses absolute. A call that
+//! returns a `Result` fails only when memory runs out.
 
 use crate::faults::Fault;
 use crate::options::Options;
@@ -22,9 +23,10 @@ static ADDRESSES: [&str; 11] = [
     "src",
 ];
 
-/// Makes the addresses of a document whole: each is resolved against the page's own base, which is
-/// itself resolved against the base of the options. Nothing changes where the options have no base;
-/// an address that can't be resolved stays as it is, and so does the `base` element's own.
+/// Makes the addresses of a document absolute: each is resolved against the address of the page's
+/// `base` element, which is itself resolved against the base of the options. Nothing changes if the
+/// options have no base. An address that can't be resolved stays as it is, and so does the address
+/// of the `base` element.
 pub fn make_whole(document: &mut Document, options: &Options<'_>) -> Result<(), Fault> {
     match &options.base {
         Some(given) => make_whole_by(document, given),
@@ -48,8 +50,8 @@ fn make_whole_by(document: &mut Document, given: &Url) -> Result<(), Fault> {
     Ok(())
 }
 
-/// Makes the addresses of a document whole, relative to the address that it was read from. Nothing
-/// changes where that isn't a whole address.
+/// Makes the addresses of a document absolute, with the address that it was read from as the base.
+/// Nothing changes if that isn't an absolute address.
 pub fn make_whole_at(document: &mut Document, address: &str) -> Result<(), Fault> {
     match Url::parse(document.tree.allocator(), address) {
         Ok(given) => make_whole_by(document, &given),
@@ -58,7 +60,7 @@ pub fn make_whole_at(document: &mut Document, address: &str) -> Result<(), Fault
     }
 }
 
-/// The base of the page's addresses.
+/// Returns the URL against which the page's addresses are resolved.
 fn base_of(document: &Document, given: &Url) -> Result<Url, Fault> {
     let own = document.base_uri().unwrap_or("");
     if let Some(base) = joined(given, own)? {
@@ -70,7 +72,8 @@ fn base_of(document: &Document, given: &Url) -> Result<Url, Fault> {
     }
 }
 
-/// The elements with an attribute of that name, each with the whole address.
+/// Returns the elements with an attribute of that name whose value can be resolved, each with the
+/// absolute address.
 fn whole_values(
     document: &Document,
     name: &str,
@@ -86,7 +89,8 @@ fn whole_values(
     Ok(found)
 }
 
-/// The whole address of an element's attribute, if it has one that can be resolved.
+/// Returns the absolute address of an element's attribute; `None` if the element doesn't have the
+/// attribute, or if the value can't be resolved.
 fn whole_value(
     alloc: Global,
     node: &NodeRef<'_>,
@@ -105,7 +109,7 @@ fn whole_value(
     }
 }
 
-/// An address resolved against a base, if it can be.
+/// Returns an address resolved against a base, or `None` if it can't be resolved.
 fn joined(base: &Url, address: &str) -> Result<Option<Url>, Fault> {
     match base.join(address) {
         Ok(url) => Ok(Some(url)),
@@ -114,7 +118,7 @@ fn joined(base: &Url, address: &str) -> Result<Option<Url>, Fault> {
     }
 }
 
-/// Whether an address is relative, or of a scheme that sanitising leaves.
+/// Returns whether an address is relative, or has a scheme that `--sanitize` keeps.
 pub fn is_harmless(alloc: Global, address: &str) -> Result<bool, Fault> {
     match Url::parse(alloc, address) {
         Ok(url) => Ok(is_harmless_scheme(url.scheme())),

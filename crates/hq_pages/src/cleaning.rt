@@ -1,11 +1,12 @@
-//! What sanitising takes out of a page.
+//! What `--sanitize` keeps of a page. A call that returns a `Result` fails only when memory runs
+//! out.
 
 use crate::addresses::is_harmless;
 use crate::faults::Fault;
 use dom_nodes::node_data::Change;
 use dom_query::{Allow, Document, NodeId, NodeRef, sanitize};
 
-/// The elements that sanitising leaves.
+/// The elements that are kept.
 static ELEMENTS: [&str; 76] = [
     "a",
     "abbr",
@@ -85,7 +86,7 @@ static ELEMENTS: [&str; 76] = [
     "wbr",
 ];
 
-/// The attributes that it leaves.
+/// The attributes that are kept.
 static ATTRS: [&str; 26] = [
     "align",
     "alt",
@@ -115,7 +116,7 @@ static ATTRS: [&str; 26] = [
     "width",
 ];
 
-/// The elements that it drops with all that is below them.
+/// The elements that are removed with everything below them.
 static DROPPED: [&str; 25] = [
     "applet",
     "audio",
@@ -147,7 +148,7 @@ static DROPPED: [&str; 25] = [
 /// The attributes whose values are addresses.
 static ADDRESSES: [&str; 3] = ["href", "src", "cite"];
 
-/// Leaves only harmless elements, attributes and addresses.
+/// Removes everything but harmless elements, attributes and addresses.
 pub fn sanitize_page(document: &mut Document) -> Result<(), Fault> {
     let allow = Allow {
         elements: ELEMENTS.as_slice(),
@@ -158,7 +159,7 @@ pub fn sanitize_page(document: &mut Document) -> Result<(), Fault> {
     drop_addresses(document)
 }
 
-/// Removes the addresses of other schemes than those of the web and of mail.
+/// Removes the attributes whose values are addresses with other schemes than those that are kept.
 fn drop_addresses(document: &mut Document) -> Result<(), Fault> {
     for name in &ADDRESSES {
         for id in harmful(document, name)?.as_slice() {
@@ -168,7 +169,7 @@ fn drop_addresses(document: &mut Document) -> Result<(), Fault> {
     Ok(())
 }
 
-/// The nodes with such an address in an attribute of that local name.
+/// Returns the nodes that have an address with another scheme in an attribute of that local name.
 fn harmful(document: &Document, name: &str) -> Result<Vec<NodeId>, Fault> {
     let mut found = Vec::new(document.tree.allocator());
     for node in document.root().descendants_it() {
@@ -179,7 +180,7 @@ fn harmful(document: &Document, name: &str) -> Result<Vec<NodeId>, Fault> {
     Ok(found)
 }
 
-/// Whether an attribute of that local name is such an address.
+/// Returns whether an attribute of that local name is an address with another scheme.
 fn is_harmful(node: &NodeRef<'_>, name: &str) -> Result<bool, Fault> {
     let alloc = node.tree.allocator();
     for attr in node.attrs() {

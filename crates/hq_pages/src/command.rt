@@ -23,7 +23,7 @@ Without a FILE, or where it is -, standard input is read. The status is 0 where 
 1 where nothing did, and 2 where something failed.";
 
 /// An option: its name, its short name or a space, what its value is called (empty for an option
-/// without a value), another option that it excludes (empty where there is none), and its help.
+/// without a value), another option that it excludes (or an empty text), and its help.
 type Choice = (&'static str, char, &'static str, &'static str, &'static str);
 
 /// The short name of an option that has none.
@@ -31,7 +31,7 @@ const NONE: char = ' ';
 
 /// All options, in the order in which `--help` lists them.
 #[rattlefmt::skip]
-static OPTIONS: [Choice; 28] = [
+static OPTIONS: [Choice; 30] = [
     ("html", NONE, "", "", "Print each match as HTML (the default)"),
     ("inner", NONE, "", "", "Print what is inside each match: HTML, or with --md Markdown"),
     ("text", 't', "", "", "Print the text of each match"),
@@ -53,6 +53,8 @@ static OPTIONS: [Choice; 28] = [
     ("remove", 'r', "SELECTOR", "", "First take out what this matches; may be repeated"),
     ("sanitize", NONE, "", "", "Then keep only harmless elements, attributes and addresses"),
     ("in-place", 'i', "", "", "Write the document back to its file; with --document or --script"),
+    ("keep-charset", NONE, "", "", "Leave the encoding that a written document declares"),
+    ("charset", NONE, "LABEL", "explicit", "Read pages in this encoding, as an HTTP header names it"),
     ("explicit", NONE, "", "", "Accept only explicit markup, in which every element is closed"),
     ("context", NONE, "NAME", "explicit", "Read a fragment as in this element: tr, \"svg path\""),
     ("scripting", NONE, "", "explicit", "Read as if scripts ran: noscript holds text"),
@@ -62,12 +64,13 @@ static OPTIONS: [Choice; 28] = [
     ("verbose", 'v', "", "", "Report how each page was read on standard error"),
 ];
 
-/// The options that say what is printed, of which one can be given.
+/// The options that say what is printed, of which at most one can be used.
 static SHOWS: [&str; 9] = [
     "html", "text", "md", "attr", "count", "csv", "document", "tree", "script",
 ];
 
-/// The words of the command line, the program's name first.
+/// Returns the words of the command line; the first is the program's name. Fails if one of them
+/// isn't UTF-8, or when memory runs out.
 pub fn words_of(rt: &HostRuntime) -> Result<Vec<String>, Fault> {
     match env::args(rt) {
         Ok(words) => Ok(words.collect(rt.alloc())?),
@@ -76,7 +79,8 @@ pub fn words_of(rt: &HostRuntime) -> Result<Vec<String>, Fault> {
     }
 }
 
-/// The command line that the program takes.
+/// Returns the definition of the command line for the parser of arguments. Fails only when memory
+/// runs out.
 pub fn command<'a>(alloc: Global) -> Result<Command<'a>, AllocError> {
     let mut command = Command::new(alloc, "hq")
         .version(VERSION)
@@ -125,7 +129,7 @@ fn option<'a>(alloc: Global, choice: &Choice) -> Result<Arg<'a>, AllocError> {
     Ok(option)
 }
 
-/// What an option does where it is given.
+/// Returns what the parser of arguments does with an option.
 fn action(name: &str, value: &str) -> ArgAction {
     if value.is_empty() {
         ArgAction::SetTrue
@@ -136,7 +140,7 @@ fn action(name: &str, value: &str) -> ArgAction {
     }
 }
 
-/// The group of options of which one can be given.
+/// Returns the group of options of which at most one can be used.
 fn shows<'a>(alloc: Global) -> Result<ArgGroup<'a>, AllocError> {
     let mut group = ArgGroup::new(alloc, "show");
     for name in &SHOWS {

@@ -1,4 +1,4 @@
-//! Files that are compressed, told by their first bytes.
+//! Recognising compressed files by their first bytes.
 
 /// The first bytes of compressed files, and the command that decompresses each.
 static FORMATS: [(&[u8], &str); 4] = [
@@ -8,8 +8,8 @@ static FORMATS: [(&[u8], &str); 4] = [
     (b"BZh", "bzip2 -dc"),
 ];
 
-/// Returns the command that decompresses a file with these first bytes, or `None` where they are
-/// not those of a compressed file.
+/// Returns the command that decompresses a file with these first bytes, or `None` if they aren't
+/// those of a compressed file.
 pub fn command_for(front: &[u8]) -> Option<&'static str> {
     for (first, command) in &FORMATS {
         if front.starts_with(first) {

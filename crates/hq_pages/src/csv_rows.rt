@@ -1,4 +1,4 @@
-//! The rows of a table as CSV.
+//! The rows of a table as CSV. A call that returns a `Result` fails only when memory runs out.
 
 use crate::faults::Fault;
 use crate::showing::joined_words;
@@ -6,24 +6,24 @@ use csv::{Writer, WriterBuilder};
 use dom_query::NodeRef;
 use std::alloc::Global;
 
-/// A row has at most so many fields; what comes behind them is left out.
+/// The largest number of fields in a row. Further cells are left out.
 const MOST_COLUMNS: usize = 4096;
 
-/// A cell spans at most so many rows, as the HTML Standard says.
+/// The largest number of rows that a cell spans, by the HTML Standard.
 const MOST_ROWS: usize = 65_534;
 
-/// A cell spans at most so many columns, as the HTML Standard says.
+/// The largest number of columns that a cell spans, by the HTML Standard.
 const MOST_SPAN: usize = 1000;
 
-/// A cell of an earlier row that reaches into the rows below.
+/// A cell of an earlier row that also covers rows below it.
 #[derive(Drop)]
 struct Reaching {
     text: String,
-    /// In how many more rows it stands; where it is 0, the column is free.
+    /// How many more rows it covers; if that is 0, the column is free.
     rows: usize,
 }
 
-/// The rows of one table, as they are written.
+/// The rows of one table, while they are written.
 #[derive(Drop)]
 struct Rows {
     alloc: Global,
@@ -32,9 +32,9 @@ struct Rows {
     above: Vec<Reaching>,
 }
 
-/// Returns the rows in an element as CSV, each ended by a line feed but the last: those of its own
-/// table, not those of tables inside it. A field is the text of a cell with its whitespace joined.
-/// The text of a cell with `colspan` or `rowspan` stands in every field that the cell covers.
+/// Returns the rows in an element as CSV, without the rows of nested tables. A line feed follows
+/// each row but the last. A field is the text of a cell with whitespace collapsed. The text of a
+/// cell with `colspan` or `rowspan` is repeated in every field that the cell covers.
 pub fn csv_of(node: &NodeRef<'_>) -> Result<String, Fault> {
     let alloc = node.tree.allocator();
     let mut rows = Rows {
@@ -52,7 +52,7 @@ pub fn csv_of(node: &NodeRef<'_>) -> Result<String, Fault> {
     rows.finish()
 }
 
-/// Whether no table lies between an element and a row in it.
+/// Returns whether there is no table between an element and a row in it.
 fn is_own_row(node: &NodeRef<'_>, row: &NodeRef<'_>) -> bool {
     for above in row.ancestors_it(None) {
         if above.id == node.id {
@@ -77,7 +77,7 @@ impl Rows {
         Ok(self.writer.end_record()?)
     }
 
-    /// Writes a cell at the next free column, and returns the column behind it.
+    /// Writes a cell at the next free column, and returns the column after it.
     fn write_cell(&mut self, column: usize, cell: &NodeRef<'_>) -> Result<usize, Fault> {
         let text = joined_words(self.alloc, cell.text()?.as_str())?;
         let rows = span_of(cell, "rowspan", MOST_ROWS).saturating_sub(1);
@@ -94,7 +94,7 @@ impl Rows {
     }
 
     /// Writes the cells of earlier rows from this column on, up to the first free column, or to the
-    /// last column where `all` is true. Returns the column behind them.
+    /// last column where `all` is true. Returns the column after them.
     fn write_above(&mut self, column: usize, all: bool) -> Result<usize, Fault> {
         let mut column = column;
         for _ in 0..self.above.len() {
@@ -106,8 +106,8 @@ impl Rows {
         Ok(column)
     }
 
-    /// Writes the cell of an earlier row at a column, if one reaches there, or else an empty field
-    /// where `all` is true. Returns whether something was written.
+    /// Writes the text of the cell of an earlier row that covers this column; if there is none and
+    /// `all` is true, it writes an empty field. Returns whether something was written.
     fn write_reaching(&mut self, column: usize, all: bool) -> Result<bool, Fault> {
         let Some(cell) = self.above.get_mut(column) else {
             return Ok(false);
@@ -123,7 +123,7 @@ impl Rows {
         Ok(true)
     }
 
-    /// Notes that a cell reaches into so many rows below, at a column.
+    /// Records that a cell at this column covers so many of the rows below.
     fn reach(&mut self, column: usize, text: &str, rows: usize) -> Result<(), Fault> {
         let text = String::from_str(self.alloc, if rows == 0 { "" } else { text })?;
         let cell = Reaching { text, rows };
@@ -134,7 +134,7 @@ impl Rows {
         Ok(())
     }
 
-    /// The text of all rows, without the last line feed.
+    /// Returns the text of all rows, without the last line feed.
     fn finish(self) -> Result<String, Fault> {
         let Ok(mut bytes) = self.writer.into_inner() else {
             return Err(Fault::Memory);
@@ -149,7 +149,8 @@ impl Rows {
     }
 }
 
-/// How many rows or columns a cell spans; 0 rows reach to the end of the table.
+/// Returns how many rows or columns a cell spans, at most `most`. 0 rows mean that it spans all
+/// rows to the end of the table.
 fn span_of(cell: &NodeRef<'_>, name: &str, most: usize) -> usize {
     let Some(written) = cell.attr(name) else {
         return 1;

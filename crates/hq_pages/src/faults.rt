@@ -17,15 +17,21 @@ pub enum Fault {
     TooManyNodes,
     /// A word of the command line isn't UTF-8.
     Argument,
-    /// Options of the command line don't fit each other, or a value is none of those that there are.
+    /// Options of the command line can't be combined, or a value isn't one of those that its option
+    /// takes.
     Usage(&'static str),
-    /// The text at this place of the command line isn't a selector.
+    /// No encoding has this label; another label is the nearest.
+    Charset {
+        label: String,
+        nearest: &'static str,
+    },
+    /// The text of this argument isn't a selector.
     Selector {
         place: &'static str,
         fault: SelectorFault,
         text: String,
     },
-    /// This line of the script, counted from 1, isn't one that there is.
+    /// This line of the script, counted from 1, isn't a valid command.
     Script(usize),
     /// An edit of the script was refused on the page, at this line.
     Edit {
@@ -34,12 +40,12 @@ pub enum Fault {
     },
     /// A file is compressed; this command decompresses it.
     Compressed(&'static str),
-    /// The base is no address.
+    /// The base isn't a URL.
     Base(ParseError),
     /// A file can't be read.
     File(io::Error),
-    /// Explicit markup is refused at this line and column; where there is no kind, it isn't UTF-8
-    /// from there on.
+    /// Explicit markup is refused at this line and column. Without a kind, the bytes from there on
+    /// aren't UTF-8.
     Markup {
         kind: Option<MarkupFaultKind>,
         line: usize,
@@ -55,6 +61,10 @@ impl fmt::Display for Fault {
             Fault::TooManyNodes => f.write_str("too many nodes"),
             Fault::Argument => f.write_str("an argument isn't UTF-8"),
             Fault::Usage(why) => f.write_str(why),
+            Fault::Charset { label, nearest } => write!(
+                f,
+                "--charset: no encoding has the label \"{label}\"; the nearest is \"{nearest}\""
+            ),
             Fault::Selector { place, fault, .. } => write!(f, "{place}: {fault}"),
             Fault::Script(line) => write!(f, "--script: line {line} isn't a line of a script"),
             Fault::Edit { line, fault } => write!(f, "--script: line {line}: {fault}"),
@@ -72,7 +82,7 @@ impl fmt::Display for Fault {
 }
 
 impl Fault {
-    /// Whether other files may still be read.
+    /// Returns whether the fault concerns one file only, so that other files can still be read.
     pub fn is_of_a_file(&self) -> bool {
         matches!(
             self,
@@ -84,7 +94,7 @@ impl Fault {
         )
     }
 
-    /// Whether what is printed isn't read any more.
+    /// Returns whether the fault is that the reader of the output has closed it.
     pub fn is_broken_pipe(&self) -> bool {
         match self {
             Fault::Output(fault) => fault.kind() == ErrorKind::BrokenPipe,
@@ -137,7 +147,7 @@ impl From<EditFault> for Fault {
 }
 
 impl From<csv::Error> for Fault {
-    /// CSV is written into memory, so nothing else can go wrong.
+    /// CSV is written into memory, so the only possible fault is that memory runs out.
     fn from(_refused: csv::Error) -> Fault {
         Fault::Memory
     }
@@ -158,8 +168,8 @@ impl From<RunFault> for Fault {
     }
 }
 
-/// Reports a fault. Below a selector that isn't one, a caret shows where it goes wrong, and a hint
-/// says what to write instead, if the mistake is a common one.
+/// Reports a fault. For a bad selector, a caret below it shows where the error begins, and for a
+/// common mistake a hint says what to write instead.
 pub fn report(rt: &HostRuntime, fault: &Fault) {
     let _ = eprintln!(rt; "hq: {fault}");
     if let Fault::Selector { text, .. } = fault {
@@ -167,7 +177,7 @@ pub fn report(rt: &HostRuntime, fault: &Fault) {
     }
 }
 
-/// How many characters a text has.
+/// Returns how many characters a text has.
 fn characters(text: &str) -> usize {
     let mut count: usize = 0;
     for _ in text.chars() {
@@ -176,7 +186,7 @@ fn characters(text: &str) -> usize {
     count
 }
 
-/// Shows where a text stops being a selector.
+/// Prints a caret below the place where a text stops being a selector.
 fn show_place(rt: &HostRuntime, text: &str) {
     let at = valid_selector_prefix(rt.alloc(), text);
     let column = match text.get(..at) {
@@ -200,7 +210,7 @@ pub fn report_in(rt: &HostRuntime, name: &str, fault: &Fault) {
     };
 }
 
-/// The name of a file as it is printed.
+/// Returns the name of a file as it is printed.
 pub fn shown(name: &str) -> &str {
     if name == "-" {
         "(standard input)"

@@ -1,7 +1,7 @@
-//! What people type that isn't a selector here, and what to write instead.
+//! Common mistakes in selectors, and what to write instead.
 
-/// Parts of texts that aren't selectors, and what to write instead. The first that a text contains
-/// is the hint.
+/// Parts of texts that aren't selectors, and for each what to write instead. The first part that a
+/// text contains decides the hint.
 static HINTS: [(&str, &str); 12] = [
     ("::text", "to print the text of each match, use --text"),
     (
@@ -35,7 +35,8 @@ static HINTS: [(&str, &str); 12] = [
     ),
 ];
 
-/// Returns what to write in place of a text that isn't a selector, if its mistake is a common one.
+/// Returns what to write in place of a text that isn't a selector, if its mistake is a common one;
+/// otherwise `None`.
 pub fn hint_of(text: &str) -> Option<&'static str> {
     for (part, hint) in &HINTS {
         if text.contains(*part) {

@@ -1,11 +1,11 @@
-//! Matches as JSON.
+//! Matches as JSON. A call that returns a `Result` fails only when memory runs out.
 
 use crate::faults::Fault;
 use dom_query::{Attr, NodeMarkup, NodeRef, QualName};
 use serde_json::{Map, Value};
 use std::alloc::Global;
 
-/// A text as it is, or as JSON.
+/// Returns the text unchanged, or as a JSON string if `json` is true.
 pub fn shown_as(alloc: Global, text: String, json: bool) -> Result<String, Fault> {
     if json {
         return string_json(alloc, text.as_str());
@@ -13,12 +13,13 @@ pub fn shown_as(alloc: Global, text: String, json: bool) -> Result<String, Fault
     Ok(text)
 }
 
-/// A text as JSON.
+/// Returns a text as a JSON string.
 fn string_json(alloc: Global, text: &str) -> Result<String, Fault> {
     Ok(Value::try_from_str(alloc, text)?.to_string(alloc)?)
 }
 
-/// An element's name, attributes, text and HTML as JSON, and the name of its file, if that is asked.
+/// Returns a JSON object with an element's name, attributes, text and HTML, and with the name of
+/// its file if `file` has one.
 pub fn summary_json(
     alloc: Global,
     node: &NodeRef<'_>,
@@ -27,8 +28,8 @@ pub fn summary_json(
     Ok(summary_value(alloc, node, file)?.to_string(alloc)?)
 }
 
-/// An element's name, attributes, text and HTML as a value, and the name of its file, if that is
-/// asked.
+/// Returns a value with an element's name, attributes, text and HTML, and with the name of its file
+/// if `file` has one.
 pub fn summary_value(
     alloc: Global,
     node: &NodeRef<'_>,
@@ -59,7 +60,7 @@ fn add_parts(
     add(alloc, members, "html", Value::String(node.html()?))
 }
 
-/// An object of attributes.
+/// Returns the attributes as a JSON object.
 fn attrs_value(alloc: Global, attrs: &[Attr]) -> Result<Value, Fault> {
     let mut members = Map::new(alloc);
     for attr in attrs {
@@ -74,7 +75,7 @@ fn add_attr(alloc: Global, members: &mut Map<String, Value>, attr: &Attr) -> Res
     Ok(())
 }
 
-/// A name as it is written: behind its prefix, if it has one.
+/// Returns a name as it is written, with its prefix if it has one.
 fn name_of(alloc: Global, name: &QualName) -> Result<String, Fault> {
     let mut written = String::new(alloc);
     if let Some(prefix) = name.prefix() {

@@ -1,8 +1,9 @@
-//! What `hq` is asked to do, and the parts that it does it with: pages that are read, cleaned and
-//! rewritten, and matches that are shown as texts, Markdown, JSON and CSV.
+//! The parts of `hq`: its command line, reading, sanitising and rewriting pages, and printing
+//! matches as text, Markdown, JSON and CSV.
 #![tactic(auto)]
 
 pub mod addresses;
+pub mod charset;
 pub mod cleaning;
 pub mod command;
 pub mod compressed;

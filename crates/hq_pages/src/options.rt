@@ -1,8 +1,9 @@
 //! What the command line asks for.
 
+use crate::charset::charset_of;
 use crate::faults::Fault;
 use clap::ArgMatches;
-use dom_query::{Command, Context, Matcher, ScriptFault, SelectorFault, read_script};
+use dom_query::{Charset, Command, Context, Matcher, ScriptFault, SelectorFault, read_script};
 use std::alloc::Global;
 use url::{ParseError, Url};
 
@@ -10,17 +11,19 @@ use url::{ParseError, Url};
 #[derive(Drop)]
 pub struct Options<'a> {
     pub reading: Reading<'a>,
-    /// What is taken out of a page first.
+    /// What is removed from a page first.
     pub removed: Vec<Matcher>,
     /// Whether a page is sanitised before anything is printed.
     pub sanitizes: bool,
-    /// What relative addresses are made whole with.
+    /// The URL against which relative addresses are resolved.
     pub base: Option<Url>,
     pub job: Job,
     pub printing: Printing<'a>,
     /// Whether the document is written back to its file.
     pub in_place: bool,
-    /// Whether it is reported how each page was read.
+    /// Whether the encoding that a document declares is left where the document is written.
+    pub keeps_charset: bool,
+    /// Whether a report says how each page was read.
     pub verbose: bool,
     pub stream: Stream,
     pub files: Vec<&'a str>,
@@ -49,24 +52,24 @@ pub struct Printing<'a> {
     pub first: bool,
     /// Whether each answer is JSON.
     pub json: bool,
-    /// Whether whitespace is joined in texts and attributes.
+    /// Whether whitespace in texts and attributes is collapsed.
     pub trims: bool,
     /// The byte that ends each answer.
     pub end: u8,
-    /// Whether the name of the file stands in front of each answer.
+    /// Whether the name of the file is printed before each answer.
     pub names: bool,
     /// Whether names of files are coloured.
     pub colored: bool,
 }
 
-/// How a stream of JSON lines is answered.
+/// How a stream of JSON lines is processed.
 #[derive(Clone, Copy, Drop)]
 pub struct Stream {
     /// Whether the input is a stream of JSON lines.
     pub jsonl: bool,
     /// Whether every line is flushed.
     pub line_buffered: bool,
-    /// Whether pages, bytes and faults are counted on standard error.
+    /// Whether the numbers of pages, bytes and faults are reported on standard error.
     pub progress: bool,
 }
 
@@ -76,6 +79,8 @@ pub enum Reading<'a> {
     Explicit,
     Page {
         context: Option<Context<'a>>,
+        /// What is known of the encoding of pages besides their bytes.
+        charset: Charset,
         scripting: bool,
         max_depth: Option<usize>,
     },
@@ -97,23 +102,25 @@ pub enum Show<'a> {
 }
 
 impl<'a> Options<'a> {
-    /// Returns the options of a command line. `terminal` says whether standard output is one.
+    /// Returns the options of a command line. `terminal` says whether standard output is a
+    /// terminal.
     ///
-    /// Fails where a value is not what its option takes (a selector, an address, a number), where
-    /// options don't fit each other, and where memory runs out.
+    /// Fails if a value isn't what its option takes (a selector, a URL, a number), if options can't
+    /// be combined, and if memory runs out.
     pub fn new(
         alloc: Global,
         matches: &ArgMatches<'a>,
         terminal: bool,
     ) -> Result<Options<'a>, Fault> {
         let mut options = Options {
-            reading: reading_of(matches)?,
+            reading: reading_of(alloc, matches)?,
             removed: Vec::new(alloc),
             sanitizes: matches.get_flag("sanitize"),
             base: None,
             job: job_of(alloc, matches)?,
             printing: printing_of(matches, terminal)?,
             in_place: matches.get_flag("in-place"),
+            keeps_charset: matches.get_flag("keep-charset"),
             verbose: matches.get_flag("verbose"),
             stream: stream_of(matches),
             files: Vec::new(alloc),
@@ -141,8 +148,8 @@ impl<'a> Options<'a> {
         Ok(())
     }
 
-    /// Reads the names of the files; standard input is read where there is none. Without a selector
-    /// the first argument is a file too.
+    /// Stores the names of the files, or standard input if there are none. Without a selector, the
+    /// first argument is a file too.
     fn read_files(&mut self, matches: &ArgMatches<'a>) -> Result<(), Fault> {
         if !matches!(self.job, Job::Select(_))
             && let Some(name) = matches.get_str("selector")
@@ -160,7 +167,7 @@ impl<'a> Options<'a> {
         Ok(())
     }
 
-    /// Fails where options don't fit each other.
+    /// Fails if options can't be combined.
     fn check(&self) -> Result<(), Fault> {
         if let Some(why) = self.misfit() {
             return Err(Fault::Usage(why));
@@ -168,7 +175,7 @@ impl<'a> Options<'a> {
         Ok(())
     }
 
-    /// What doesn't fit, if anything.
+    /// Returns a message about options that can't be combined, or `None` if all can.
     fn misfit(&self) -> Option<&'static str> {
         let selects = matches!(self.job, Job::Select(_));
         if self.base.is_some() && !self.prints_addresses() {
@@ -195,7 +202,15 @@ impl<'a> Options<'a> {
         None
     }
 
-    /// Whether what is printed may hold addresses.
+    /// Whether UTF-8 is declared in the documents of pages because they are written in it.
+    pub fn declares_utf8(&self) -> bool {
+        if self.keeps_charset || matches!(self.reading, Reading::Explicit) {
+            return false;
+        }
+        self.in_place || matches!(self.job, Job::Document)
+    }
+
+    /// Returns whether what is printed can contain addresses.
     fn prints_addresses(&self) -> bool {
         match self.job {
             Job::Select(_) => !matches!(self.printing.show, Show::Text | Show::Count | Show::Csv),
@@ -218,7 +233,7 @@ fn job_of(alloc: Global, matches: &ArgMatches<'_>) -> Result<Job, Fault> {
     Ok(Job::Select(matcher_of(alloc, text, "SELECTOR")?))
 }
 
-/// The script that texts of lines make together.
+/// Returns the script whose lines are those of the texts, one text after the other.
 fn script_of(alloc: Global, texts: &[&str]) -> Result<Job, Fault> {
     let mut script = String::new(alloc);
     for text in texts {
@@ -263,12 +278,13 @@ fn stream_of(matches: &ArgMatches<'_>) -> Stream {
     }
 }
 
-fn reading_of<'a>(matches: &ArgMatches<'a>) -> Result<Reading<'a>, Fault> {
+fn reading_of<'a>(alloc: Global, matches: &ArgMatches<'a>) -> Result<Reading<'a>, Fault> {
     if matches.get_flag("explicit") {
         return Ok(Reading::Explicit);
     }
     Ok(Reading::Page {
         context: context_of(matches),
+        charset: charset_of(alloc, matches)?,
         scripting: matches.get_flag("scripting"),
         max_depth: max_depth_of(matches)?,
     })
@@ -284,7 +300,8 @@ fn max_depth_of(matches: &ArgMatches<'_>) -> Result<Option<usize>, Fault> {
     }
 }
 
-/// The context of a fragment: the name of an HTML element, or one behind `svg` or `math`.
+/// Returns the context of a fragment, if the option is used: the name of an HTML element, or a name
+/// after `svg` or `math`.
 fn context_of<'a>(matches: &ArgMatches<'a>) -> Option<Context<'a>> {
     let written = matches.get_str("context")?;
     if let Some(name) = written.strip_prefix("svg ") {
@@ -296,7 +313,7 @@ fn context_of<'a>(matches: &ArgMatches<'a>) -> Option<Context<'a>> {
     Some(Context::Html(written))
 }
 
-/// The selector that a text is, at a place of the command line.
+/// Parses the selector in an argument; `place` names the argument in the error.
 fn matcher_of(alloc: Global, text: &str, place: &'static str) -> Result<Matcher, Fault> {
     match Matcher::new(alloc, text) {
         Ok(matcher) => Ok(matcher),
@@ -309,7 +326,7 @@ fn matcher_of(alloc: Global, text: &str, place: &'static str) -> Result<Matcher,
     }
 }
 
-/// The flags of which one says what is printed of a match.
+/// The flags that say what is printed of a match.
 static SHOWN: [(&str, Show<'static>); 5] = [
     ("html", Show::Html),
     ("text", Show::Text),
@@ -334,7 +351,7 @@ fn show_of<'a>(matches: &ArgMatches<'a>) -> Show<'a> {
     Show::Html
 }
 
-/// The address that relative addresses are made whole with.
+/// Parses the URL against which relative addresses are resolved.
 fn base_of(alloc: Global, written: &str) -> Result<Url, Fault> {
     match Url::parse(alloc, written) {
         Ok(base) => Ok(base),

@@ -1,16 +1,19 @@
 //! Reading files as pages.
 
+use crate::charset::Found;
 use crate::compressed::command_for;
 use crate::faults::Fault;
 use crate::options::Reading;
 use dom_query::{
-    Context, Document, MarkupFault, MarkupFaultKind, NodeId, Options as PageOptions, PageParser,
+    Charset, Document, Encoding, MarkupFault, MarkupFaultKind, NodeId, Options as PageOptions,
+    PageParser, decode_page, read_page,
 };
 use std::alloc::Global;
 use std::fs;
 use std::io::Read;
 
-/// The node whose children are the tree: the root, or the element `html` that a fragment is in.
+/// Returns the node whose children are the top of what was read: the root, or for a fragment the
+/// element `html` around it.
 pub fn top_of(document: &Document, reading: Reading<'_>) -> NodeId {
     let root = document.root().id;
     if !is_of_fragment(reading) {
@@ -29,15 +32,14 @@ fn is_of_fragment(reading: Reading<'_>) -> bool {
     }
 }
 
-/// How many bytes are read at once.
-const PIECE: usize = 64 * 1024;
-
-/// The document that a file stands for; `-` is standard input.
+/// Reads a file and returns its document, and for a page how it was decoded. The name `-` means
+/// standard input. Fails if the file can't be read or is compressed, if explicit markup is refused,
+/// and when memory or node ids run out.
 pub fn read_document(
     rt: &HostRuntime,
     name: &str,
     reading: Reading<'_>,
-) -> Result<Document, Fault> {
+) -> Result<(Document, Option<Found>), Fault> {
     if name == "-" {
         return read_from(rt.alloc(), &mut rt.stdin(), reading);
     }
@@ -47,23 +49,92 @@ pub fn read_document(
     }
 }
 
-/// The document that the bytes of a reader stand for.
+/// Reads everything from a reader and returns its document.
 fn read_from<R: Read>(
     alloc: Global,
     reader: &mut R,
     reading: Reading<'_>,
-) -> Result<Document, Fault> {
+) -> Result<(Document, Option<Found>), Fault> {
+    let mut bytes = Vec::new(alloc);
+    if let Err(fault) = reader.read_to_end(&mut bytes) {
+        return Err(Fault::File(fault));
+    }
+    if let Reading::Explicit = reading {
+        return Ok((read_explicit(alloc, &bytes)?, None));
+    }
+    if let Some(command) = command_for(&bytes) {
+        return Err(Fault::Compressed(command));
+    }
+    let (document, found) = read_bytes(alloc, &bytes, reading)?;
+    Ok((document, Some(found)))
+}
+
+/// The document that the bytes of a page stand for, or those of a fragment, and how they were
+/// decoded.
+fn read_bytes(
+    alloc: Global,
+    bytes: &[u8],
+    reading: Reading<'_>,
+) -> Result<(Document, Found), Fault> {
+    let Reading::Page {
+        context: Some(context),
+        charset,
+        ..
+    } = reading
+    else {
+        return read_whole(alloc, bytes, charset_in(reading), page_options(reading));
+    };
+    let page = decode_page(alloc, bytes, charset)?;
+    let found = Found {
+        encoding: page.encoding,
+        confidence: page.confidence,
+        replaced: page.text.replaced(),
+    };
+    let mut parser = PageParser::for_fragment(alloc, context, page_options(reading))?;
+    parser.feed(page.text.as_str())?;
+    Ok((parser.finish()?, found))
+}
+
+/// The page that bytes stand for, or where `is_text`, a text in UTF-8, whatever it declares.
+pub fn read_line_page(
+    alloc: Global,
+    bytes: &[u8],
+    is_text: bool,
+    reading: Reading<'_>,
+) -> Result<(Document, Found), Fault> {
+    let charset = if is_text {
+        Charset::of_transport(Encoding::Utf8)
+    } else {
+        charset_in(reading)
+    };
+    read_whole(alloc, bytes, charset, page_options(reading))
+}
+
+/// The page that bytes stand for, and how they were decoded.
+fn read_whole(
+    alloc: Global,
+    bytes: &[u8],
+    charset: Charset,
+    options: PageOptions,
+) -> Result<(Document, Found), Fault> {
+    let read = read_page(alloc, bytes, charset, options)?;
+    let found = Found {
+        encoding: read.encoding,
+        confidence: read.confidence,
+        replaced: read.replaced,
+    };
+    Ok((read.document, found))
+}
+
+/// What is known of the encoding of pages.
+fn charset_in(reading: Reading<'_>) -> Charset {
     match reading {
-        Reading::Explicit => read_explicit(alloc, reader),
-        Reading::Page { context, .. } => {
-            let mut parser = parser_of(alloc, context, page_options(reading))?;
-            read_pieces(alloc, reader, &mut parser)?;
-            Ok(parser.finish()?)
-        }
+        Reading::Explicit => Charset::of_transport(Encoding::Utf8),
+        Reading::Page { charset, .. } => charset,
     }
 }
 
-/// The options of the library by which a page is read.
+/// Returns the options of the library with which a page is parsed.
 pub fn page_options(reading: Reading<'_>) -> PageOptions {
     match reading {
         Reading::Explicit => PageOptions::default(),
@@ -79,57 +150,11 @@ pub fn page_options(reading: Reading<'_>) -> PageOptions {
     }
 }
 
-/// What reads a page, or a fragment in that context.
-fn parser_of(
-    alloc: Global,
-    context: Option<Context<'_>>,
-    options: PageOptions,
-) -> Result<PageParser, Fault> {
-    match context {
-        None => Ok(PageParser::new(alloc, options)?),
-        Some(context) => Ok(PageParser::for_fragment(alloc, context, options)?),
-    }
-}
-
-/// Reads a page in pieces.
-fn read_pieces<R: Read>(
-    alloc: Global,
-    reader: &mut R,
-    parser: &mut PageParser,
-) -> Result<(), Fault> {
-    let mut room = vec![in alloc; 0; PIECE]?;
-    for count in 0..u64::MAX {
-        let Some(piece) = next_piece(reader, &mut room)? else {
-            break;
-        };
-        if count == 0
-            && let Some(command) = command_for(piece)
-        {
-            return Err(Fault::Compressed(command));
-        }
-        parser.feed_bytes(piece)?;
-    }
-    Ok(())
-}
-
-/// Returns the next bytes of a reader, or `None` at its end.
-fn next_piece<'a, R: Read>(reader: &mut R, room: &'a mut [u8]) -> Result<Option<&'a [u8]>, Fault> {
-    match reader.read(room) {
-        Ok(0) => Ok(None),
-        Ok(count) => Ok(room.get(..count)),
-        Err(fault) => Err(Fault::File(fault)),
-    }
-}
-
-/// The document that explicit markup spells.
-fn read_explicit<R: Read>(alloc: Global, reader: &mut R) -> Result<Document, Fault> {
-    let mut bytes = Vec::new(alloc);
-    if let Err(fault) = reader.read_to_end(&mut bytes) {
-        return Err(Fault::File(fault));
-    }
-    let text = match str::from_utf8(&bytes) {
+/// Reads explicit markup and returns its document.
+fn read_explicit(alloc: Global, bytes: &[u8]) -> Result<Document, Fault> {
+    let text = match str::from_utf8(bytes) {
         Ok(text) => text,
-        Err(fault) => return Err(not_utf8(&bytes, fault.valid_up_to())),
+        Err(fault) => return Err(not_utf8(bytes, fault.valid_up_to())),
     };
     match Document::parse(alloc, text) {
         Ok(document) => Ok(document),
@@ -137,7 +162,7 @@ fn read_explicit<R: Read>(alloc: Global, reader: &mut R) -> Result<Document, Fau
     }
 }
 
-/// Why explicit markup is refused.
+/// Returns the fault of explicit markup, with line and column.
 fn refused(text: &str, fault: MarkupFault) -> Fault {
     let (line, column) = fault.line_and_column(text);
     match fault.kind {
@@ -151,7 +176,7 @@ fn refused(text: &str, fault: MarkupFault) -> Fault {
     }
 }
 
-/// Where bytes aren't UTF-8 any more.
+/// Returns the fault for bytes that aren't UTF-8 from this offset on, with line and column.
 fn not_utf8(bytes: &[u8], at: usize) -> Fault {
     let front = match bytes.get(..at) {
         Some(front) => front,

@@ -1,4 +1,5 @@
-//! What is printed of a match: a text, an attribute, Markdown, HTML or JSON.
+//! What is printed of a match: a text, an attribute, Markdown, HTML or JSON. A call that returns a
+//! `Result` fails only when memory runs out.
 
 use crate::csv_rows::csv_of;
 use crate::faults::{Fault, shown};
@@ -7,8 +8,8 @@ use crate::options::{Printing, Show};
 use dom_query::{NodeMarkup, NodeRef, serialize_md};
 use std::alloc::Global;
 
-/// Returns the answer that shows a match, without the byte that ends it, or `None` where there is
-/// nothing to show: a match without the attribute that is asked for.
+/// Returns what is printed of a match, without the byte that ends it; `None` for a match without
+/// the attribute that is asked for.
 pub fn answer_of(
     node: &NodeRef<'_>,
     printing: Printing<'_>,
@@ -24,7 +25,8 @@ pub fn answer_of(
     Ok(Some(shown_as(alloc, text, printing.json)?))
 }
 
-/// What stands for an attribute that isn't there: `null` in JSON, where each match has an answer.
+/// Returns what is printed for a missing attribute: `null` in JSON, where each match has an answer,
+/// and otherwise nothing.
 fn none_as(alloc: Global, json: bool) -> Result<Option<String>, Fault> {
     if !json {
         return Ok(None);
@@ -32,7 +34,8 @@ fn none_as(alloc: Global, json: bool) -> Result<Option<String>, Fault> {
     Ok(Some(String::from_str(alloc, "null")?))
 }
 
-/// The text that shows a match, or `None` where it lacks the attribute that is asked for.
+/// Returns the text that is printed of a match, or `None` if it doesn't have the attribute that is
+/// asked for.
 pub fn text_of(node: &NodeRef<'_>, printing: Printing<'_>) -> Result<Option<String>, Fault> {
     let alloc = node.tree.allocator();
     match printing.show {
@@ -45,8 +48,9 @@ pub fn text_of(node: &NodeRef<'_>, printing: Printing<'_>) -> Result<Option<Stri
     }
 }
 
-/// An attribute of a match. Its name is looked for as it is written, and then in lower case, in
-/// which a page's attributes are.
+/// Returns the value of a match's attribute, or `None` if it has none of that name. The name is
+/// looked up as it is written, and then in lower case, since the names of a page's attributes are
+/// in lower case.
 fn attr_of(
     alloc: Global,
     node: &NodeRef<'_>,
@@ -64,7 +68,7 @@ fn attr_of(
     }
 }
 
-/// A text as it is, or with its whitespace joined.
+/// Returns the text unchanged, or with its whitespace collapsed if `trims` is true.
 fn trimmed(alloc: Global, text: String, trims: bool) -> Result<String, Fault> {
     if !trims {
         return Ok(text);
@@ -72,7 +76,7 @@ fn trimmed(alloc: Global, text: String, trims: bool) -> Result<String, Fault> {
     joined_words(alloc, text.as_str())
 }
 
-/// The words of a text, with one space between.
+/// Returns the words of a text, joined by single spaces.
 pub fn joined_words(alloc: Global, text: &str) -> Result<String, Fault> {
     let mut words = String::new(alloc);
     for word in text.split_ascii_whitespace() {
@@ -84,7 +88,7 @@ pub fn joined_words(alloc: Global, text: &str) -> Result<String, Fault> {
     Ok(words)
 }
 
-/// The name of a file in front of an answer, with a colon behind it.
+/// Returns the name of a file and a colon, which are printed before an answer.
 pub fn name_in_front(alloc: Global, name: &str, colored: bool) -> Result<String, Fault> {
     let mut text = String::new(alloc);
     if colored {

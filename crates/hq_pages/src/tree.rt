@@ -1,17 +1,19 @@
-//! A tree in the form of html5lib's tests of tree construction.
+//! A tree in the form of html5lib's tests of tree construction. A call that returns a `Result`
+//! fails only when memory runs out.
 
 use crate::faults::Fault;
 use dom_query::{Document, Element, NameRef, NamespaceRef, NodeData, NodeId, QualName};
 use std::alloc::{AllocError, Global};
 
-/// A node that is still to be written, and how many nodes it lies in.
+/// A node that is still to be written, and its depth.
 #[derive(Clone, Copy, Drop)]
 struct Pending {
     id: NodeId,
     depth: usize,
 }
 
-/// The nodes below one, each on a line of its own, or on several where a text has several.
+/// Returns the nodes below a node, each on a line of its own. A text with line feeds takes several
+/// lines.
 pub fn tree_text(document: &Document, top: NodeId) -> Result<String, Fault> {
     let alloc = document.tree.allocator();
     let mut text = String::new(alloc);
@@ -28,8 +30,8 @@ pub fn tree_text(document: &Document, top: NodeId) -> Result<String, Fault> {
     Ok(text)
 }
 
-/// Adds what is below a node, at that depth: first comes what a template contains, and then the
-/// children. What comes first is added last.
+/// Pushes what is below a node: the contents of a template, and then the children. The first is
+/// pushed last, so that it is written first.
 fn push_below(document: &Document, of: Pending, pending: &mut Vec<Pending>) -> Result<(), Fault> {
     let depth = of.depth;
     for id in document.tree.child_ids_of_it(&of.id, true) {
@@ -43,7 +45,7 @@ fn push_below(document: &Document, of: Pending, pending: &mut Vec<Pending>) -> R
     Ok(())
 }
 
-/// Writes what a node is.
+/// Writes the line of a node.
 fn add_node(document: &Document, id: NodeId, depth: usize, text: &mut String) -> Result<(), Fault> {
     let Some(node) = document.tree.tree_node(&id) else {
         return Ok(());
@@ -56,7 +58,7 @@ fn add_node(document: &Document, id: NodeId, depth: usize, text: &mut String) ->
     }
 }
 
-/// The pieces of the line of a node that is no element.
+/// Returns the pieces of the line of a node that isn't an element.
 fn pieces_of(node: &NodeData) -> [&str; 7] {
     match node {
         NodeData::Text { contents } => ["\"", contents.as_str(), "\"", "", "", "", ""],
@@ -73,7 +75,7 @@ fn pieces_of(node: &NodeData) -> [&str; 7] {
     }
 }
 
-/// The pieces of the line of a doctype, with its ids if it has some.
+/// Returns the pieces of the line of a doctype, with its identifiers if it has any.
 fn doctype_pieces<'a>(name: &'a str, public: &'a str, system: &'a str) -> [&'a str; 7] {
     if public.is_empty() && system.is_empty() {
         return ["<!DOCTYPE ", name, ">", "", "", "", ""];
@@ -106,7 +108,8 @@ fn add_attr(text: &mut String, depth: usize, name: &str, value: &str) -> Result<
     add_line(text, depth, [name, "=\"", value, "\"", "", "", ""])
 }
 
-/// The whole names and the values of an element's attributes, in the order of the names.
+/// Returns the names, with their prefixes, and the values of an element's attributes, sorted by
+/// name.
 fn attrs_of(alloc: Global, element: &Element) -> Result<Vec<(String, &str)>, Fault> {
     let mut attrs = Vec::new(alloc);
     for attr in element.attrs().as_slice() {
@@ -122,7 +125,7 @@ fn name_of(alloc: Global, name: &QualName) -> Result<String, Fault> {
     Ok(whole)
 }
 
-/// What stands before a name that isn't one of HTML.
+/// Returns what is written before a name that isn't in the HTML namespace.
 fn prefix_of<'a>(name: &NameRef<'a>) -> &'a str {
     match name.ns() {
         NamespaceRef::Svg => "svg ",
@@ -134,7 +137,7 @@ fn prefix_of<'a>(name: &NameRef<'a>) -> &'a str {
     }
 }
 
-/// Writes the pieces of a line at a depth, one behind the other.
+/// Writes the pieces of a line, one after the other, with the indentation of this depth.
 fn add_line(text: &mut String, depth: usize, pieces: [&str; 7]) -> Result<(), AllocError> {
     text.push_str("| ")?;
     for _ in 0..depth {

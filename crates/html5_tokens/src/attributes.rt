@@ -1,4 +1,5 @@
-//! The attributes of the tag that is being read.
+//! The attributes of the tag that is being read. A call that returns a `Result` fails only when
+//! memory runs out.
 
 ghost use Rattle.std.specs.Prelude.{◌≡◌, ◌<◌, ◌≤◌, ◌∷◌, ◌++◌, ◌↔◌, [], ℕ, List, true};
 ghost use Rattle.std.specs.Prelude.{length, take, string_bytes, OnErr, OnOk};

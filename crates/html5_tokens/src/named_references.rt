@@ -23,7 +23,7 @@ pub struct Names {
     ghost exactly: { AreNames low high place },
 }
 
-/// The characters that a name means: one or two.
+/// The characters that a name stands for: one or two.
 #[derive(Clone, Copy, Drop)]
 pub struct Value {
     pub first: char,
@@ -78,7 +78,8 @@ impl Names {
         low
     }
 
-    /// Returns what the characters read so far mean, if they are a whole name.
+    /// Returns the characters that the name stands for, if what was read so far is a whole name;
+    /// otherwise `None`.
     pub fn value(self) -> Option<Value>
         ensures { MatchOption result (IsNoName (read_of self)) (IsValueOf (read_of self)) }
     {

@@ -148,7 +148,7 @@ impl Tokenizer {
         self.text.clear();
     }
 
-    /// Returns the last tag. It is kept until the next tag ends.
+    /// Returns the last tag, or `None` before the first one. It is kept until the next tag ends.
     pub fn tag(&self) -> Option<&Tag>
         ensures { option_copied result ≡ self.now.ended }
     {
@@ -199,7 +199,7 @@ impl Tokenizer {
         drop(mem::replace(token, made));
     }
 
-    /// Sets the state in which the text after a start tag is read, as tree construction asks for.
+    /// Sets the state in which the text after a start tag is read, as tree construction requires.
     pub fn switch_to(&mut self, state: State)
         ensures { self.new ≡ record self.old { state = state } }
     {

@@ -109,7 +109,7 @@ fn attr_name(alloc: Global, ns: ElementNamespace, name: &str) -> Result<QualName
     Ok(QualName::plain(local))
 }
 
-/// An attribute of a tag's element.
+/// Returns an attribute of the element that a tag makes. Fails only when memory runs out.
 pub fn attr_of(alloc: Global, ns: ElementNamespace, given: &TagAttr) -> Result<Attr, PageFault> {
     let name = attr_name(alloc, ns, given.name.as_str())?;
     let value = Text::new(alloc, given.value.as_str())?;

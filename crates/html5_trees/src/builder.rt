@@ -120,8 +120,7 @@ impl TreeBuilder {
         Next::Again
     }
 
-    /// Returns how often a token may be reprocessed before the rules for "in body" process it at
-    /// last.
+    /// Returns how often a token may be reprocessed; after that the rules for "in body" process it.
     pub fn turns(&self) -> usize {
         self.tree.open().len().saturating_mul(4).saturating_add(64)
     }

@@ -46,8 +46,8 @@ impl PendingBytes {
     }
 }
 
-/// Returns the bytes without a UTF-8 byte order mark at their start. The start of a calm page is
-/// none, so such a page is returned unchanged.
+/// Returns the bytes without a UTF-8 byte order mark at their start. A calm page (see
+/// `element_kinds`) doesn't start with one, so it is returned unchanged.
 pub fn without_mark(bytes: &[u8]) -> &[u8]
     ensures framed { IsFramed bytes.now → result.now ≡ bytes.now }
     ensures marked { take 3 bytes.now ≡ byte_order_mark → result.now ≡ drop 3 bytes.now }

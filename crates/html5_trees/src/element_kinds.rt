@@ -63,15 +63,15 @@ pub enum ElementCategory {
 /// Whether an element occurs in the content of a body, and what its own content is.
 #[derive(Clone, Copy, Drop)]
 pub enum Role {
-    /// It occurs in the content of a body, and may hold the same.
+    /// It occurs in the content of a body, and may have the same content as a body.
     Flow,
-    /// It may hold the same content as a body, but occurs elsewhere.
+    /// It may have the same content as a body, but occurs elsewhere.
     FlowHolder,
-    /// It occurs in the content of a body, and holds text alone.
+    /// It occurs in the content of a body, and contains text alone.
     FlowLeaf,
-    /// It occurs in the content of a body, and holds certain elements, whitespace and comments.
+    /// It occurs in the content of a body, and contains certain elements, whitespace and comments.
     FlowTable,
-    /// It holds certain elements, whitespace and comments, and occurs elsewhere.
+    /// It contains certain elements, whitespace and comments, and occurs elsewhere.
     Parts,
     /// None of these.
     Apart,
@@ -237,7 +237,7 @@ impl ElementCategory {
         }
     }
 
-    /// Returns whether such elements may hold the same content as a body.
+    /// Returns whether such elements may have the same content as a body.
     pub fn holds_flow(self) -> bool
         ensures { result ≡ holds_flow self }
     {
@@ -251,7 +251,7 @@ impl ElementCategory {
         matches!(self.role(), Role::Flow | Role::FlowLeaf | Role::FlowTable)
     }
 
-    /// Returns whether such elements hold only certain elements, whitespace and comments.
+    /// Returns whether such elements contain only certain elements, whitespace and comments.
     pub fn holds_parts(self) -> bool
         ensures { result ≡ holds_parts self }
     {

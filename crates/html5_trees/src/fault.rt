@@ -10,8 +10,8 @@ use std::alloc::{AllocError, AllocFailed};
 use std::error::Error;
 use std::fmt;
 
-/// Why a page could not be read. The HTML Standard gives every text a document, so only limits
-/// remain.
+/// Why a page could not be read. By the HTML Standard every text has a document, so reading fails
+/// only when memory or node ids run out.
 #[derive(Clone, Copy, PartialEq, Eq, Debug, Drop)]
 pub enum PageFault {
     /// Memory ran out.
@@ -55,7 +55,7 @@ impl From<OutOfMemory> for PageFault {
     }
 }
 
-/// Converts the result of an edit that fails only because of limits.
+/// Converts the result of an edit that fails only when memory or node ids run out.
 pub fn settled(done: Result<(), EditFault>) -> Result<(), PageFault>
     requires { IfErr done IsLimit }
     ensures { MatchResult result (λ _. done ≡ Ok tt) (λ fault. done ≡ Err (limit_of fault)) }
@@ -68,7 +68,7 @@ pub fn settled(done: Result<(), EditFault>) -> Result<(), PageFault>
     }
 }
 
-/// Converts the result of making a node, which fails only because of limits.
+/// Converts the result of making a node, which fails only when memory or node ids run out.
 pub fn made(id: Result<NodeId, EditFault>) -> Result<NodeId, PageFault>
     requires { IfErr id IsLimit }
     ensures { MatchResult result (λ n. id ≡ Ok n) (λ fault. id ≡ Err (limit_of fault)) }

@@ -18,7 +18,8 @@ use dom_trees::tree::Tree;
 use index::FormattingIndex;
 use std::alloc::Global;
 
-/// So many entries are indexed; half as many no more. Among fewer each is looked at.
+/// A list of this many entries gets an index; a list of half as many loses it. In a shorter list,
+/// each search looks at every entry.
 const MANY: usize = 16;
 
 /// An entry of the list of active formatting elements.
@@ -43,7 +44,7 @@ impl Entry {
 #[derive(Drop)]
 pub struct ActiveFormatting {
     entries: Vec<Entry>,
-    /// There may be none of a long list too, after memory was refused.
+    /// The index of a long list. A long list has none after memory was refused for it.
     index: Option<FormattingIndex>,
 }
 
@@ -103,7 +104,8 @@ impl ActiveFormatting {
         self.entries.get(index).copied()
     }
 
-    /// Adds an entry of that likeness.
+    /// Appends an entry. `likeness` is what `likeness_of` returned for its element. Fails only when
+    /// memory runs out.
     pub fn push(&mut self, entry: Entry, likeness: u32) -> Result<(), PageFault>
         ensures ok { let old = self.old.entries.items in
             OnOk result (self.new.entries.items ≡ old ++ entry ∷ []) }
@@ -127,7 +129,7 @@ impl ActiveFormatting {
         }
     }
 
-    /// Forgets an entry that leaves a position.
+    /// Removes an entry from the index, before it is removed from the list.
     fn forget_entry(&mut self, position: usize)
         ensures { self.new.entries ≡ self.old.entries }
     {
@@ -141,8 +143,9 @@ impl ActiveFormatting {
         }
     }
 
-    /// The likeness of an element that is to be added. A list that grew long is indexed first;
-    /// where there is no index, the likeness is 0 and says nothing.
+    /// Returns the likeness of an element that is to be added: elements with the same name and the
+    /// same attributes have the same. A list that grew long is indexed first. Without an index it
+    /// returns 0, and `third_same` compares the elements themselves.
     pub fn likeness_of(&mut self, tree: &Tree, id: NodeId) -> u32
         ensures { self.new.entries ≡ self.old.entries }
     {
@@ -159,6 +162,7 @@ impl ActiveFormatting {
         likeness.unwrap_or(0)
     }
 
+    /// Returns an index of the whole list. Fails when memory runs out.
     fn made_index(&self, tree: &Tree) -> Result<FormattingIndex, PageFault> {
         let mut index = FormattingIndex::new(tree.allocator());
         for entry in self.entries.as_slice() {
@@ -171,7 +175,8 @@ impl ActiveFormatting {
         Ok(index)
     }
 
-    /// The third entry since the last marker, from the end, that is the same element.
+    /// Returns the index of the third entry, from the end and after the last marker, with the same
+    /// name and attributes (the Noah's Ark clause).
     pub fn third_same(&self, tree: &Tree, open: &Open, likeness: u32) -> Option<usize> {
         if let Some(index) = &self.index {
             return index.third_alike(likeness);
@@ -201,8 +206,8 @@ impl ActiveFormatting {
         self.entries.pop()
     }
 
-    /// Clears the list up to the last marker: removes the entries behind it, and the marker. A list
-    /// without a marker is empty then.
+    /// Clears the list up to the last marker: removes the entries after it, and the marker. A list
+    /// without a marker is empty afterwards.
     pub fn clear_to_marker(&mut self)
         ensures { self.new.entries.items ≡ before_last is_a_marker self.old.entries.items }
     {
@@ -213,7 +218,7 @@ impl ActiveFormatting {
         }
     }
 
-    /// Puts a copy of an element in its place.
+    /// Replaces the element at an index of the list by a copy of it.
     pub fn replace(&mut self, index: usize, element: &Open)
         ensures { let old = self.old.entries.items in
             self.new.entries.items ≡ slice_set old index (AnEntry element.now) }
@@ -224,7 +229,7 @@ impl ActiveFormatting {
         }
     }
 
-    /// Indexes a copy of the element at a position.
+    /// Brings the index up to date before a copy replaces the element at a position.
     fn index_copy(&mut self, position: usize, copy: NodeId)
         ensures { self.new.entries ≡ self.old.entries }
     {
@@ -240,7 +245,8 @@ impl ActiveFormatting {
         }
     }
 
-    /// Adds an element of that likeness at a position.
+    /// Inserts an element of that likeness at an index of the list. Fails only when memory runs
+    /// out.
     pub fn insert(&mut self, index: usize, element: &Open, likeness: u32) -> Result<(), PageFault>
         ensures ok { let old = self.old.entries.items in
             OnOk result (self.new.entries.items ≡ insert old index (AnEntry element.now)) }

@@ -1,5 +1,6 @@
 //! The tree under construction, and the elements that tree construction keeps: the stack of open
-//! elements, the list of active formatting elements, and the head and form element pointers.
+//! elements, the list of active formatting elements, and the head and form element pointers. A call
+//! that returns a `Result` fails only when memory or node ids run out.
 
 ghost use Rattle.std.specs.Prelude.{◌≡◌, IfOk};
 ghost use Rattle.dom_links.specs.Growth.{lone};
@@ -52,7 +53,7 @@ pub struct GrowingTree {
     form: FormPointer,
     /// The context element of a fragment, with the id of the root that represents it.
     context: Option<Open>,
-    /// Attributes that are to be added to `html` and to `body`.
+    /// The attributes that later tags add to `html` and to `body`.
     late: LateTags,
 }
 
@@ -97,7 +98,7 @@ impl GrowingTree {
         }
     }
 
-    /// The tree, once all is read.
+    /// Returns the finished tree. Fails only when memory runs out.
     pub fn into_built(self) -> Result<BuiltTree, PageFault> {
         let mut tree = self.tree;
         self.late.put_into(&mut tree)?;
@@ -108,7 +109,7 @@ impl GrowingTree {
         })
     }
 
-    /// The stack of open elements.
+    /// Returns the stack of open elements.
     pub fn open(&self) -> &OpenElements {
         &self.stack
     }
@@ -256,7 +257,7 @@ impl GrowingTree {
 
     /// Inserts characters. The document itself can't have text, so characters there are ignored.
     pub fn put_text(&mut self, placing: Placing, text: &str) -> Result<(), PageFault> {
-        let gap = self.gap(placing);
+        let gap = self.gap(placing.at_any_depth());
         let at_top = is_at_top(&gap);
         if at_top && self.context.is_none() {
             return Ok(());
@@ -266,7 +267,7 @@ impl GrowingTree {
 
     /// Inserts a comment at the appropriate place.
     pub fn put_comment(&mut self, placing: Placing, text: &str) -> Result<(), PageFault> {
-        let gap = self.gap(placing);
+        let gap = self.gap(placing.at_any_depth());
         put_comment(&mut self.tree, gap, text)
     }
 
@@ -290,8 +291,8 @@ impl GrowingTree {
         put_doctype(&mut self.tree, parts)
     }
 
-    /// Adds the attributes of a tag to the element at a place of the stack, where it lacks them.
-    /// They are in the tree once all is read.
+    /// Adds to the element at an index of the stack those of a tag's attributes whose names it
+    /// doesn't have yet. They are in the tree once all is read.
     pub fn add_attrs(&mut self, place: usize, tag: &Tag) -> Result<(), PageFault> {
         match self.stack.get(place) {
             Some(open) => self.late.add(&self.tree, open.id, tag),

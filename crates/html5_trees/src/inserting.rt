@@ -86,8 +86,8 @@ impl TreeBuilder {
         self.keep(put);
     }
 
-    /// Adds those attributes of a tag to the element at an index of the stack that it doesn't have
-    /// yet.
+    /// Adds to the element at an index of the stack those of a tag's attributes whose names it
+    /// doesn't have yet.
     pub fn add_attrs(&mut self, place: usize, tag: &Tag) {
         let added = self.tree.add_attrs(place, tag);
         self.keep(added);
@@ -99,7 +99,7 @@ impl TreeBuilder {
         self.keep(pushed);
     }
 
-    /// Reconstructs the active formatting elements: inserts those again that are not open.
+    /// Reconstructs the active formatting elements: inserts copies of those that are not open.
     pub fn reconstruct(&mut self) {
         let opened = self.tree.reconstruct(self.placing);
         self.keep(opened);

@@ -141,8 +141,7 @@ pub const COUNT: usize = 127;
 /// A name that is in neither of the two types.
 const NEITHER: (Name, ElementCategory) = (Name::Other, ElementCategory::Other);
 
-/// For each name that has a number in the tree, in the order of the numbers: the name and its
-/// category.
+/// For each name in the table of known names, in the order of the table: the name and its category.
 #[rattlefmt::skip]
 pub static KNOWN: [(Name, ElementCategory); 247] = [
     NEITHER, (Name::A, ElementCategory::Anchor), (Name::B, ElementCategory::Phrase), NEITHER, (Name::I, ElementCategory::Phrase),
@@ -205,7 +204,7 @@ pub static KNOWN: [(Name, ElementCategory); 247] = [
     NEITHER, NEITHER, NEITHER,
 ];
 
-/// The names that have no number in the tree.
+/// The names that aren't in the table of known names.
 static RARE: [(&str, Name); 15] = [
     ("annotation-xml", Name::AnnotationXml),
     ("desc", Name::Desc),
@@ -233,7 +232,7 @@ impl Name {
         }
     }
 
-    /// Returns the name for a local name that has no number in the tree.
+    /// Returns the name for a local name that isn't in the table of known names.
     fn rare(written: &str) -> Name {
         for (known, name) in &RARE {
             if *known == written {

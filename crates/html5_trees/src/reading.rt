@@ -20,8 +20,9 @@ pub struct Options {
     /// Whether scripting is enabled. If it is, the content of `noscript` is text.
     pub scripting: bool,
     /// The largest number of nested elements, at least 3; browsers take 512. An element whose start
-    /// tag comes deeper becomes a sibling of the element that it would be in. The adoption agency
-    /// algorithm may still nest elements deeper, since it moves what is already there.
+    /// tag comes deeper becomes a sibling of the element that it would be in; texts and comments
+    /// stay in their element. The adoption agency algorithm may still nest elements deeper, since
+    /// it moves what is already there, and so does the content of a template, by one.
     pub max_depth: Option<usize>,
     /// Whether the tokenizer's parse errors are collected in the document. Each is a text with its
     /// byte offset and its name, such as `12: missing-attribute-value`.
@@ -102,8 +103,8 @@ impl PageReader {
         self.builder.settled()
     }
 
-    /// Returns the tree after the last piece. That of a page may not have the shape of a page yet;
-    /// see `shape::make_page`. Fails with the first fault.
+    /// Returns the tree after the last piece. The tree of a page may not have the shape of a page
+    /// yet; see `shape::make_page`. Fails with the first fault: memory or node ids ran out.
     pub fn finish(self) -> Result<BuiltTree, PageFault> {
         let mut reader = self;
         reader.read_end()?;

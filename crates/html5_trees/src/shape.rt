@@ -116,7 +116,8 @@ pub fn is_page(tree: &Tree) -> Result<bool, PageFault>
     is_top(tree, &tops)
 }
 
-/// Every tree is a well-formed forest. The function does nothing; it is called for its contract.
+/// Every tree is a well-formed forest. The function does nothing at run time; a call of it brings
+/// its `ensures` clauses into the caller's proof.
 fn is_forest(tree: &Tree)
     ensures { IsForest tree.now }
 {

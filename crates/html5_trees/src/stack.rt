@@ -1,7 +1,9 @@
-//! The stack of open elements (13.2.4.2).
+//! The stack of open elements (13.2.4.2). A call that returns a `Result` fails with `Memory`, or
+//! with `TooManyNodes` if there are too many names.
 
 ghost use Rattle.std.specs.Prelude.{◌≡◌, [], ◌∷◌, ◌++◌, Contains, IfNone, IfSome, OnErr, OnOk};
-ghost use Rattle.std.specs.Prelude.{◌+◌, ◌-◌, drop, insert, length, remove, slice_get, slice_set, take};
+ghost use Rattle.std.specs.Prelude.{◌+◌, ◌-◌, drop, insert, length, remove, slice_get};
+ghost use Rattle.std.specs.Prelude.{slice_set, take};
 ghost use Rattle.std.specs.Option.{option_to_list};
 ghost use Rattle.html5_trees.specs.Popping.{first_from, up_to_last};
 ghost use Rattle.html5_trees.specs.Sets.{ends_context, has_html_content, is_special_element};
@@ -31,7 +33,7 @@ pub struct Open {
     pub id: NodeId,
     pub ns: ElementNamespace,
     pub name: Name,
-    /// The number of a name that is not in `Name`, and otherwise 0.
+    /// The number that `OtherNames` gave to a name that is not in `Name`, and otherwise 0.
     pub number: u32,
     /// Whether it is an `annotation-xml` whose encoding is HTML.
     pub holds_html: bool,

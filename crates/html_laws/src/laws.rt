@@ -1,5 +1,5 @@
 //! Laws of the HTML Standard's tokenizer, as it is defined in html_standard. The functions do
-//! nothing.
+//! nothing at run time; their contracts are the theorems.
 
 ghost use Rattle.html_laws.specs.HtmlLaws.{HtmlIsRead, HtmlIsReadOneWay};
 ghost use Rattle.html_laws.specs.Laws.{HtmlAnswers, TreesAreReadAnywhere};
@@ -16,7 +16,8 @@ pub fn same_named_references()
     ensures { TablesAreTheSame }
 {}
 
-/// The HTML of a plain document is read, as a page, as the tokens of the document and as no others.
+/// The tokenizer turns the HTML of a plain document (see `IsPlain` in dom_markup), as a page, into
+/// the tokens of the document and into no others.
 pub fn html_is_read()
     ensures read { HtmlIsRead }
     ensures only { HtmlIsReadOneWay }
@@ -26,8 +27,9 @@ pub fn html_is_read()
     plain_pages();
 }
 
-/// The HTML of plain trees is read as their tokens wherever it is in a page, as long as the
-/// tokenizer is in the data state there: in any element, after any tags, and whatever follows.
+/// The tokenizer turns the HTML of plain trees into their tokens wherever it is in a page, as long
+/// as the tokenizer is in the data state there: in any element, after any tags, and whatever
+/// follows.
 pub fn trees_are_read()
     ensures anywhere { TreesAreReadAnywhere value_char value_piece }
     ensures page { TreesAreReadAsPages value_char value_piece }
@@ -37,7 +39,8 @@ pub fn trees_are_read()
     plain_pages();
 }
 
-/// The same where `<` and `>` are escaped in values too.
+/// States what `trees_are_read` states, for HTML in which `<` and `>` are escaped in the values of
+/// attributes, too.
 pub fn safe_trees_are_read()
     ensures anywhere { TreesAreReadAnywhere safe_char safe_piece }
     ensures page { TreesAreReadAsPages safe_char safe_piece }
@@ -47,8 +50,8 @@ pub fn safe_trees_are_read()
     plain_pages();
 }
 
-/// Tree construction that leaves every element in the HTML namespace, with scripting disabled,
-/// answers as the laws of trees need it.
+/// Tree construction answers the tokenizer as the laws of trees require, if every element is in the
+/// HTML namespace and scripting is disabled.
 pub fn html_answers()
     ensures { HtmlAnswers }
 {}

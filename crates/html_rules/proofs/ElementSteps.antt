@@ -1,5 +1,5 @@
 -- An element: its start tag opens it, its children are built, and its end tag closes it.
-use Rattle.std.specs.Prelude.{◌≡◌, ℕ, suc, Bool, true, false, ◌&&◌, ◌⊎◌, nat_lt, List, [], ◌∷◌, ◌++◌, Some, bytes_eq, refl}
+use Rattle.std.specs.Prelude.{◌≡◌, ℕ, suc, Bool, true, false, ◌&&◌, ◌⊎◌, nat_lt, List, [], ◌∷◌, ◌++◌, None, Some, bytes_eq, refl}
 use Rattle.std.proofs.Common.{inl, inr, true≢false}
 use Rattle.std.proofs.lemmas.Bool.{and_parts}
 use Rattle.std.proofs.lemmas.Slice.Eq.{bytes_eq-Decides}
@@ -8,9 +8,10 @@ use Rattle.std.specs.Cmp.Derive.{both_true}
 use Rattle.html_rules.specs.Building.{Building, Open, Entry, Listed, adopted, adopted_by, is_listed, last_listed, tree_step, unlisted, with_stack}
 use Rattle.html_rules.specs.PlainTrees.{Within, begins_text}
 use Rattle.html_rules.specs.TreeRules.{formatting}
+use Rattle.html_standard.specs.Reading.{switch_at}
 use Rattle.html_standard.specs.Tokens.{Attr, Token, AStart, AnEnd}
 use Rattle.html_rules.specs.TreeTokens.{Trees, no_trees, element_node, end_of, is_among, joined, tokens}
-use Rattle.html_rules.proofs.TreeLists.{Steps, ends_text, joined_joined, step_on, steps_on}
+use Rattle.html_rules.proofs.TreeLists.{Steps, ends_text, joined_joined, quiet_start, step_on, steps_on}
 use Rattle.html_rules.proofs.RuleShapes.{Closes, ClosesFormatting, Runs, grown, inserted_plainly, open_of, marked}
 use Rattle.html_rules.proofs.StackKeys.{InFlow, Listable, Unlisted, mark, markers, Key, Outer, Ready, Steady, Fits, none, pass, mine, are_below, below_more, below_self, fits_below, fits_less, key, key_of, keys, outer, same_number, unlisted_number}
 use Rattle.html_rules.proofs.TextSteps.{Built, step_by_rules}
@@ -171,7 +172,7 @@ filled name attrs children v c b n o os x ends ready steady inner finish =
     let i : Built c p (o ∷ os) (tokens children) children = inner c p (o ∷ os) (no_and (begins_text children)) steady ready in
     let e : Ended i.after n name attrs children o os x = finish i.after i.kept i.ready in
     let last : Steps (with_stack i.after (q ∷ o ∷ os)) (end_of name) (with_stack e.after (grown o name attrs children ∷ os)) =
-    rw ends (step_on (with_stack i.after (q ∷ o ∷ os)) (with_stack e.after (grown o name attrs children ∷ os)) (with_stack e.after (grown o name attrs children ∷ os)) (AnEnd name) [] e.step refl) in
+    rw ends (step_on (with_stack i.after (q ∷ o ∷ os)) (with_stack e.after (grown o name attrs children ∷ os)) (with_stack e.after (grown o name attrs children ∷ os)) (AnEnd name) [] refl e.step refl) in
     record {
       after = e.after;
       steps = steps_on (with_stack c (p ∷ o ∷ os)) (with_stack i.after (q ∷ o ∷ os)) (with_stack e.after (grown o name attrs children ∷ os)) (tokens children) (end_of name) i.steps last;
@@ -180,18 +181,18 @@ filled name attrs children v c b n o os x ends ready steady inner finish =
     }
 
 -- by its start tag, its children and its end tag
-pub element_built : (name : List ℕ) (attrs : List Attr) (children : Trees) (v : Within) (b : Building) (o : Open) (os : List Open) (x : Outer) → end_of name ≡ AnEnd name ∷ [] →
+pub element_built : (name : List ℕ) (attrs : List Attr) (children : Trees) (v : Within) (b : Building) (o : Open) (os : List Open) (x : Outer) → end_of name ≡ AnEnd name ∷ [] → switch_at name ≡ None →
     Begun b o os name attrs x → Steady v x (key_of b.next name ∷ key o ∷ keys os) → IsBuilt v children →
     ((d : Building) → outer d ≡ x → Ready d (key_of b.next name ∷ key o ∷ keys os) → Ended d b.next name attrs children o os (outer b)) →
     Built b o os (AStart name attrs false ∷ (tokens children ++ end_of name)) (one name attrs children)
-element_built name attrs children v b o os x ends start steady inner finish =
+element_built name attrs children v b o os x ends quiet start steady inner finish =
     let c : Building = start.after in
     let f : Filled c b b.next name attrs children o os (outer b) =
     filled name attrs children v c b b.next o os (outer b) ends start.ready (subst (λ (y : Outer). Steady v y (key_of b.next name ∷ key o ∷ keys os)) (sym start.kept) steady) inner
     (λ d kept r. finish d (kept ∙ start.kept) r) in
     record {
       after = f.after;
-      steps = step_on (with_stack b (o ∷ os)) (with_stack c (open_of b.next name attrs no_trees ∷ o ∷ os)) (with_stack f.after (grown o name attrs children ∷ os)) (AStart name attrs false) (tokens children ++ end_of name) start.step f.steps;
+      steps = step_on (with_stack b (o ∷ os)) (with_stack c (open_of b.next name attrs no_trees ∷ o ∷ os)) (with_stack f.after (grown o name attrs children ∷ os)) (AStart name attrs false) (tokens children ++ end_of name) (quiet_start name attrs (with_stack c (open_of b.next name attrs no_trees ∷ o ∷ os)) quiet) start.step f.steps;
       ready = f.ready;
       kept = f.kept;
     }

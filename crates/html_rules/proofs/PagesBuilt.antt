@@ -1,10 +1,10 @@
 -- Whole pages, and fragments.
-use Rattle.std.specs.Prelude.{◌≡◌, ℕ, suc, true, false, List, [], ◌∷◌, ◌++◌, map, Some, codes, refl}
+use Rattle.std.specs.Prelude.{◌≡◌, ℕ, suc, true, false, List, [], ◌∷◌, ◌++◌, map, Option, Some, codes, refl}
 use Rattle.std.specs.List.{list_all}
 use Rattle.std.specs.Option.{option_and_then}
 use Rattle.std.proofs.lemmas.List.{append_assoc}
 use mathlib.Core.Path.{◌∙◌, sym, ap, subst}
-use Rattle.html_rules.specs.Building.{Building, Open, act, built, built_fragment, children_of, in_found_mode, in_scope, is_space, mode_of, run, start, taken, tree_of, tree_step, tree_steps, with_stack}
+use Rattle.html_rules.specs.Building.{Building, Open, act, built, built_fragment, children_of, fragment_start, in_found_mode, in_scope, is_space, mode_of, run, start, taken, tree_of, tree_step, with_stack}
 use Rattle.html_rules.specs.PlainTrees.{FlowPlace, HeadPlace, IsPlainPage, Page, are_plain, begins_text, flow_contexts, outermost, page_trees, space_node}
 use Rattle.html_rules.specs.RuleWords.{AfterAfterBody, AfterHead, InBody, InHead, Mode}
 use Rattle.html_rules.specs.TreeRules.{rules}
@@ -15,7 +15,7 @@ use Rattle.html_rules.proofs.PlainBuilt.{plain_built}
 use Rattle.html_rules.proofs.RuleShapes.{RunsIn, with_one}
 use Rattle.html_rules.proofs.StackKeys.{InFlow, Outer, Ready, body, fits_below, key, keys, none, outer, pass}
 use Rattle.html_rules.proofs.TextSteps.{Built, fixed_text, step_in}
-use Rattle.html_rules.proofs.TreeLists.{Steps, each_space, of_each, steps_on}
+use Rattle.html_rules.proofs.TreeLists.{Steps, each_space, heard_children, heard_steps, heard_tree, of_each, steps_on}
 
 -- ---- pages
 
@@ -149,10 +149,14 @@ page_tokens page =
     ∙ ap (λ t. ADoctype (doctype_named (codes "html")) ∷ AStart (codes "html") page.html false ∷ AStart (codes "head") page.head false ∷ t)
     (regrouped (tokens page.metadata) (map AChar page.space) (tokens page.contents) (AnEnd (codes "head")) (AStart (codes "body") page.body false) (AnEnd (codes "body")) (AnEnd (codes "html")) AnEof)
 
+-- the document of a page of these tokens, where each start tag switches the tokenizer that has the name for it
+abbrev pub heard_page : List Token → Option Trees
+heard_page page = tree_of (heard_steps start (page ++ AnEof ∷ []))
+
 -- a plain page is built as it is written
-pub page_built : (page : Page) → IsPlainPage page → built (tokens (page_trees page)) ≡ Some (page_trees page)
+pub page_heard : (page : Page) → IsPlainPage page → heard_page (tokens (page_trees page)) ≡ Some (page_trees page)
 unfolding root before body_open
-page_built page h =
+page_heard page h =
     let m : (d : Building) × Steps (with_stack at_head (head_open page no_trees ∷ root page no_trees ∷ [])) (tokens page.metadata ++ AnEnd (codes "head") ∷ [])
     (with_stack (record d { mode = AfterHead; skip = false }) (root page (before page []) ∷ [])) × Ready d (key (root page no_trees) ∷ []) × (outer d ≡ outer at_head) = metadata_built page h.metadata in
     let d : Building = m.0 in
@@ -172,10 +176,13 @@ page_built page h =
     (steps_on s0 s1 last (tokens page.metadata ++ AnEnd (codes "head") ∷ []) zs m.1
     (steps_on s1 s2 last (map AChar page.space) ys (space_built d page page.space h.space)
     (steps_on s2 s3 last (AStart (codes "body") page.body false ∷ []) (tokens page.contents ++ back) (body_begins d page u) c.1))) in
-    ap (λ xs. tree_of (tree_steps start xs)) (page_tokens page) ∙ ap tree_of whole
+    ap (λ xs. tree_of (heard_steps start xs)) (page_tokens page) ∙ ap tree_of whole
     ∙ ap (λ t. Some (joined t (element_node (codes "html") page.html (joined u (element_node (codes "body") page.body page.contents no_trees)) no_trees))) c.2
     ∙ ap (λ t. Some (doctype_node (codes "html") (element_node (codes "html") page.html (element_node (codes "head") page.head page.metadata t) no_trees)))
     (space_joined page.space (element_node (codes "body") page.body page.contents no_trees))
+
+pub page_built : (page : Page) → IsPlainPage page → built (tokens (page_trees page)) ≡ Some (page_trees page)
+page_built page h = heard_tree start (tokens (page_trees page) ++ AnEof ∷ []) (page_trees page) (page_heard page h)
 
 -- ---- fragments
 
@@ -189,8 +196,12 @@ eof_built : (b : Building) (os : List Open) → Steps (with_stack (record b { mo
 unfolding tree_step run taken act rules
 eof_built b os = refl
 
+-- the same of a fragment
+abbrev pub heard_fragment : List ℕ → List Token → Option Trees
+heard_fragment context fragment = children_of (option_and_then (λ b. heard_steps b (fragment ++ AnEof ∷ [])) (fragment_start context))
+
 -- plain trees are built as a fragment where the mode is reset to "in body"
-fragment_in : (context : List ℕ) → mode_of (Some context) (codes "html" ∷ []) ≡ Some InBody → (t : Trees) → are_plain (outermost FlowPlace) t ≡ true → built_fragment context (tokens t) ≡ Some t
+fragment_in : (context : List ℕ) → mode_of (Some context) (codes "html" ∷ []) ≡ Some InBody → (t : Trees) → are_plain (outermost FlowPlace) t ≡ true → heard_fragment context (tokens t) ≡ Some t
 unfolding html_only in_context
 fragment_in context is t h =
     let b : Building = in_context context in
@@ -202,9 +213,12 @@ fragment_in context is t h =
     let e : Building = with_stack (record d { mode = InBody; skip = false }) (p ∷ []) in
     let ends : Steps (with_stack d (p ∷ [])) (AnEof ∷ []) e =
     subst (λ (x : Building). Steps (with_stack x (p ∷ [])) (AnEof ∷ []) e) (plain_state d InBody (ap (λ (x : Outer). x.mode) m.kept) m.ready.skip) (eof_built d (p ∷ [])) in
-    ap (λ x. children_of (option_and_then (λ b. tree_steps b (tokens t ++ AnEof ∷ [])) (in_found_mode (record start { stack = html_only ∷ []; next = 1; context = Some context }) x))) is
+    ap (λ x. children_of (option_and_then (λ b. heard_steps b (tokens t ++ AnEof ∷ [])) (in_found_mode (record start { stack = html_only ∷ []; next = 1; context = Some context }) x))) is
     ∙ ap children_of (steps_on b (with_stack d (p ∷ [])) e (tokens t) (AnEof ∷ []) m.steps ends)
 
-pub fragment_built : (context : List ℕ) (t : Trees) → is_among context flow_contexts ≡ true → are_plain (outermost FlowPlace) t ≡ true → built_fragment context (tokens t) ≡ Some t
-fragment_built context t h =
+pub fragment_heard : (context : List ℕ) (t : Trees) → is_among context flow_contexts ≡ true → are_plain (outermost FlowPlace) t ≡ true → heard_fragment context (tokens t) ≡ Some t
+fragment_heard context t h =
     fragment_in context (of_each (λ c. mode_of (Some c) (codes "html" ∷ []) ≡ Some InBody) flow_contexts (refl, (refl, (refl, (refl, (refl, tt))))) context h) t
+
+pub fragment_built : (context : List ℕ) (t : Trees) → is_among context flow_contexts ≡ true → are_plain (outermost FlowPlace) t ≡ true → built_fragment context (tokens t) ≡ Some t
+fragment_built context t h plain = heard_children (fragment_start context) (tokens t ++ AnEof ∷ []) t (fragment_heard context t h plain)

@@ -1,12 +1,13 @@
 -- Elements of each class among the contents of a body.
-use Rattle.std.specs.Prelude.{◌≡◌, ℕ, suc, Bool, true, false, not, List, [], ◌∷◌, ◌++◌, Some, codes, refl}
+use Rattle.std.specs.Prelude.{◌≡◌, ℕ, suc, Bool, true, false, not, List, [], ◌∷◌, ◌++◌, None, Some, codes, refl}
 use Rattle.std.proofs.lemmas.Bool.{and_parts, true≢false}
 use mathlib.Core.Path.{sym, ap, subst}
 use Rattle.html_rules.specs.Building.{Building, Open, closed_item, closed_p, tree_step, with_stack}
 use Rattle.html_rules.specs.ElementNames.{scope_of}
-use Rattle.html_rules.specs.PlainTrees.{Class, ABlock, AList, ADescriptionList, AHeading, AParagraph, APhrase, AFormatting, AnAnchor, AVoid, AnItem, ADescription, AButton, ABreak, ASource, AnInput, ARuby, ARubyText, FlowPlace, HeadingPlace, ListPlace, DescriptionListPlace, RubyPlace, Within, admits, are_plain, holds_blocks, inside, is_flow, is_heading, is_list, is_description_list, is_none, names_of}
+use Rattle.html_rules.specs.PlainTrees.{Class, ABlock, AList, ADescriptionList, AHeading, AParagraph, APhrase, AFormatting, AnAnchor, AVoid, AnItem, ADescription, AButton, ABreak, ASource, AnInput, ARuby, ARubyText, FlowPlace, HeadingPlace, ListPlace, DescriptionListPlace, RubyPlace, Within, admits, are_plain, holds_blocks, inside, is_flow, is_heading, is_none, names_of}
 use Rattle.html_rules.specs.RuleWords.{Scope}
 use Rattle.html_rules.specs.TreeRules.{headings}
+use Rattle.html_standard.specs.Reading.{switch_at}
 use Rattle.html_standard.specs.Tokens.{Attr, Token, AStart}
 use Rattle.html_rules.specs.TreeTokens.{Trees, no_trees, text_node, comment_node, doctype_node, element_node, end_of, is_among, tokens}
 use Rattle.html_rules.proofs.ElementSteps.{Begun, Ended, IsBuilt, begun, begun_formatting, begun_plainly, element_built, ended, ended_formatting, one}
@@ -14,7 +15,7 @@ use Rattle.html_rules.proofs.RuleFacts.{block_opens, block_ordinary, block_no_he
 use Rattle.html_rules.proofs.RuleShapes.{Formatting, HoldsItems, IsBreak, IsSource, IsVoid, OpensBlock, OpensFormatting, OpensHeading, OpensItem, OpensPhrase, OpensRubyText, Ordinary, Runs, with_leaf}
 use Rattle.html_rules.proofs.StackKeys.{At, Barless, InFlow, Key, Outer, Passes, Ready, Steady, below_more, description_list_at, flow_of, into_flow, key, key_of, keys, lacking, lacks, lacks_more, list_at, none_needed, not_heading_at, outer, ruby_at, steady_in, top_key_is, unlisted_name}
 use Rattle.html_rules.proofs.TextSteps.{Built, anchor_opens, button_opens, input_made, nothing_to_close, step_by_rules}
-use Rattle.html_rules.proofs.TreeLists.{Steps, of_each, step_on}
+use Rattle.html_rules.proofs.TreeLists.{Steps, of_each, quiet_start, step_on}
 
 -- an element of one name, wherever it may stand
 abbrev pub ElementBuilt : List ℕ → Class → Type 0
@@ -33,7 +34,7 @@ pub ordinary : (name : List ℕ) → Ordinary name → (attrs : List Attr) (chil
     Begun b o os name attrs (outer b) → Steady v (outer b) (key_of b.next name ∷ key o ∷ keys os) → IsBuilt v children →
     Built b o os (AStart name attrs false ∷ (tokens children ++ end_of name)) (one name attrs children)
 ordinary name facts attrs children v b o os f start steady inner =
-    element_built name attrs children v b o os (outer b) facts.ends start steady inner
+    element_built name attrs children v b o os (outer b) facts.ends facts.quiet start steady inner
     (λ d kept r. subst (λ (y : Outer). Ended d b.next name attrs children o os y) kept
     (ended name facts.closes facts.unlisted d b.next attrs children o os (key o ∷ keys os) (subst (λ (y : Outer). InFlow y (key o ∷ keys os)) (sym kept) f) r))
 
@@ -42,7 +43,7 @@ formatted : (name : List ℕ) → Formatting name → (attrs : List Attr) (child
     Begun b o os name attrs (outer b) → Steady v (outer b) (key_of b.next name ∷ key o ∷ keys os) → IsBuilt v children → Ready b (key o ∷ keys os) →
     Built b o os (AStart name attrs false ∷ (tokens children ++ end_of name)) (one name attrs children)
 formatted name facts attrs children v b o os f start steady inner r =
-    element_built name attrs children v b o os (outer b) facts.ends start steady inner
+    element_built name attrs children v b o os (outer b) facts.ends facts.quiet start steady inner
     (λ d kept rd. subst (λ (y : Outer). Ended d b.next name attrs children o os y) kept
     (ended_formatting name facts.listed facts.closes d b.next attrs children o os (key o ∷ keys os) (subst (λ (y : Outer). InFlow y (key o ∷ keys os)) (sym kept) f) rd r.numbers))
 
@@ -236,49 +237,49 @@ none_only (comment_node contents later) h = absurd (true≢false (sym h))
 none_only (doctype_node name later) h = absurd (true≢false (sym h))
 none_only (element_node name attrs children later) h = absurd (true≢false (sym h))
 
-pub leaf : (name : List ℕ) (attrs : List Attr) (children : Trees) (ok : Bool) (b : Building) (o : Open) (os : List Open) → is_none children ≡ true → end_of name ≡ [] → Ready b (key o ∷ keys os) →
+pub leaf : (name : List ℕ) (attrs : List Attr) (children : Trees) (ok : Bool) (b : Building) (o : Open) (os : List Open) → is_none children ≡ true → end_of name ≡ [] → switch_at name ≡ None → Ready b (key o ∷ keys os) →
     tree_step (with_stack b (o ∷ os)) (AStart name attrs false) ≡ Some (with_leaf name attrs ok b o os) →
     Built b o os (AStart name attrs false ∷ (tokens children ++ end_of name)) (one name attrs children)
-leaf name attrs children ok b o os none ends r step =
+leaf name attrs children ok b o os none ends quiet r step =
     subst (λ (t : Trees). Built b o os (AStart name attrs false ∷ (tokens t ++ end_of name)) (one name attrs t)) (none_only children none)
     (record {
       after = record b { next = suc b.next; frameset_ok = ok };
       steps = subst (λ (xs : List Token). Steps (with_stack b (o ∷ os)) (AStart name attrs false ∷ xs) (with_leaf name attrs ok b o os)) (sym ends)
-          (step_on (with_stack b (o ∷ os)) (with_leaf name attrs ok b o os) (with_leaf name attrs ok b o os) (AStart name attrs false) [] step refl);
+          (step_on (with_stack b (o ∷ os)) (with_leaf name attrs ok b o os) (with_leaf name attrs ok b o os) (AStart name attrs false) [] (quiet_start name attrs (with_leaf name attrs ok b o os) quiet) step refl);
       ready = record { skip = r.skip; fits = r.fits; numbers = below_more b.next (key o ∷ keys os) r.numbers };
       kept = refl;
     })
 
-flow_leaf : (name : List ℕ) (attrs : List Attr) (children : Trees) (ok : Bool) (b : Building) (o : Open) (os : List Open) → is_none children ≡ true → end_of name ≡ [] →
+flow_leaf : (name : List ℕ) (attrs : List Attr) (children : Trees) (ok : Bool) (b : Building) (o : Open) (os : List Open) → is_none children ≡ true → end_of name ≡ [] → switch_at name ≡ None →
     InFlow (outer b) (key o ∷ keys os) → Ready b (key o ∷ keys os) → Runs (AStart name attrs false) (with_stack b (o ∷ os)) (with_leaf name attrs ok b o os) →
     Built b o os (AStart name attrs false ∷ (tokens children ++ end_of name)) (one name attrs children)
-flow_leaf name attrs children ok b o os none ends f r runs =
-    leaf name attrs children ok b o os none ends r (step_by_rules (with_stack b (o ∷ os)) (with_leaf name attrs ok b o os) (key o ∷ keys os) (AStart name attrs false) f r.skip runs)
+flow_leaf name attrs children ok b o os none ends quiet f r runs =
+    leaf name attrs children ok b o os none ends quiet r (step_by_rules (with_stack b (o ∷ os)) (with_leaf name attrs ok b o os) (key o ∷ keys os) (AStart name attrs false) f r.skip runs)
 
 pub void : (name : List ℕ) → is_among name (names_of AVoid) ≡ true → ElementBuilt name AVoid
 void name is attrs children w h plain inner b o os s r =
     let parts : (is_flow w.place ≡ true) × (is_none children ≡ true) = and_parts (is_flow w.place) (is_none children) h in
     let facts : IsVoid name = of_each IsVoid (names_of AVoid) void_is name is in
-    flow_leaf name attrs children false b o os parts.1 facts.ends (flow_of w.place (outer b) (key o ∷ keys os) parts.0 s.place) r (facts.made attrs b o os (none_needed (o ∷ os) b.listed r.fits))
+    flow_leaf name attrs children false b o os parts.1 facts.ends facts.quiet (flow_of w.place (outer b) (key o ∷ keys os) parts.0 s.place) r (facts.made attrs b o os (none_needed (o ∷ os) b.listed r.fits))
 
 pub source : (name : List ℕ) → is_among name (names_of ASource) ≡ true → ElementBuilt name ASource
 source name is attrs children w h plain inner b o os s r =
     let parts : (is_flow w.place ≡ true) × (is_none children ≡ true) = and_parts (is_flow w.place) (is_none children) h in
     let facts : IsSource name = of_each IsSource (names_of ASource) source_is name is in
-    flow_leaf name attrs children b.frameset_ok b o os parts.1 facts.ends (flow_of w.place (outer b) (key o ∷ keys os) parts.0 s.place) r (facts.made attrs b o os)
+    flow_leaf name attrs children b.frameset_ok b o os parts.1 facts.ends facts.quiet (flow_of w.place (outer b) (key o ∷ keys os) parts.0 s.place) r (facts.made attrs b o os)
 
 pub thematic_break : (name : List ℕ) → is_among name (names_of ABreak) ≡ true → ElementBuilt name ABreak
 thematic_break name is attrs children w h plain inner b o os s r =
     let parts : (holds_blocks w ≡ true) × (is_none children ≡ true) = and_parts (holds_blocks w) (is_none children) h in
     let p : Spot w b o os = spot w b o os parts.0 s in
     let facts : IsBreak name = of_each IsBreak (names_of ABreak) break_is name is in
-    flow_leaf name attrs children false b o os parts.1 facts.ends p.flow r (facts.made attrs b o os p.no_p)
+    flow_leaf name attrs children false b o os parts.1 facts.ends facts.quiet p.flow r (facts.made attrs b o os p.no_p)
 
 input_i : ElementBuilt (codes "input") AnInput
 input_i attrs children w h plain inner b o os s r =
     let parts : (is_flow w.place ≡ true) × (is_none children ≡ true) = and_parts (is_flow w.place) (is_none children) h in
     let made : (ok : Bool) × Runs (AStart (codes "input") attrs false) (with_stack b (o ∷ os)) (with_leaf (codes "input") attrs ok b o os) = input_made attrs b o os (none_needed (o ∷ os) b.listed r.fits) in
-    flow_leaf (codes "input") attrs children made.0 b o os parts.1 refl (flow_of w.place (outer b) (key o ∷ keys os) parts.0 s.place) r made.1
+    flow_leaf (codes "input") attrs children made.0 b o os parts.1 refl refl (flow_of w.place (outer b) (key o ∷ keys os) parts.0 s.place) r made.1
 
 pub input : (name : List ℕ) → is_among name (names_of AnInput) ≡ true → ElementBuilt name AnInput
 input = of_each (λ n. ElementBuilt n AnInput) (names_of AnInput) (input_i, tt)

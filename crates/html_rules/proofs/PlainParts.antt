@@ -1,10 +1,11 @@
 -- Elements whose tags change more of the state than the stack: tables and their parts, `form`, `pre`, raw text; and the texts of each place.
 use Rattle.std.specs.Prelude.{◌≡◌, ℕ, suc, Bool, true, false, not, ◌&&◌, ◌||◌, List, [], ◌∷◌, ◌++◌, map, Some, None, codes, refl}
 use Rattle.std.specs.List.{list_all}
+use Rattle.std.specs.Option.{option_and_then}
 use Rattle.std.proofs.lemmas.Bool.{and_parts, true≢false}
 use Rattle.std.proofs.lemmas.List.{append-nil}
 use mathlib.Core.Path.{◌∙◌, sym, ap, subst}
-use Rattle.html_rules.specs.Building.{Building, Marker, Open, act, cleared, form_ended, is_line_feed, is_space, mode_of, names_of_stack, run, taken, tree_step, tree_steps, with_stack}
+use Rattle.html_rules.specs.Building.{Building, Marker, Open, act, cleared, form_ended, is_line_feed, is_space, mode_of, names_of_stack, run, taken, tree_step, with_stack}
 use Rattle.html_rules.specs.PlainTrees.{AForm, APre, ARawText, AMetadata, ATable, ACaption, AColumnGroup, AColumn, ARowGroup, ARow, ACell, Place, FlowPlace, HeadingPlace, ListPlace, DescriptionListPlace, RubyPlace, TablePlace, ColumnGroupPlace, RowGroupPlace, RowPlace, HeadPlace, Within, are_plain, begins_feed, holds_blocks, inside, is_column_group, is_flow, is_head, is_none, is_raw, is_text, may_be_text, names_of}
 use Rattle.html_rules.specs.RuleWords.{Mode, InCaption, InCell, InColumnGroup, InHead, InRow, InTable, InTableBody, Text}
 use Rattle.html_rules.specs.TreeRules.{headings, rules}
@@ -16,7 +17,7 @@ use Rattle.html_rules.proofs.RuleFacts.{caption_barless, caption_is, caption_no_
 use Rattle.html_rules.proofs.RuleShapes.{IsForm, IsLeafIn, IsMarkedPart, IsPart, IsRawText, IsTable, KeepsSpace, RunsIn, grown, in_text, open_of, with_leaf, with_one}
 use Rattle.html_rules.proofs.StackKeys.{At, Barless, InFlow, Key, Outer, Ready, Steady, caption, cell, column_group_at, fits_below, fits_cleared, flow_of, head_at, below_more, is_deep, key, key_names, key_of, keys, lacks_more, mark, outer, pass, row_at, row_group_at, same_names, same_number, steady_in, table_at}
 use Rattle.html_rules.proofs.TextSteps.{Built, fixed_text, raw_built, step_by_rules, step_in, text_built}
-use Rattle.html_rules.proofs.TreeLists.{Steps, each_space, ends_text, of_each, step_on, steps_on}
+use Rattle.html_rules.proofs.TreeLists.{Steps, each_space, ends_text, heard_steps, if_heard, of_each, step_on, steps_on, text_start}
 
 -- ---- tables
 
@@ -27,7 +28,7 @@ table_t attrs children w h plain inner b o os s r =
     let facts : IsTable name = table_is.0 in
     let x : Outer = record (outer b) { mode = InTable } in
     let c : Building = record b { next = suc b.next; mode = InTable; frameset_ok = false } in
-    element_built name attrs children (inside w ATable) b o os x facts.ends
+    element_built name attrs children (inside w ATable) b o os x facts.ends facts.quiet
     (record {
       after = c;
       step = step_by_rules (with_stack b (o ∷ os)) (with_stack c (open_of b.next name attrs no_trees ∷ o ∷ os)) (key o ∷ keys os) (AStart name attrs false) p.flow r.skip (facts.opens attrs (with_stack b (o ∷ os)) p.no_p);
@@ -58,7 +59,7 @@ part mode after name attrs children v b o (p ∷ ps) facts is deep r steady inne
     let x : Outer = record (outer b) { mode = after } in
     let c : Building = record b { next = suc b.next; mode = after } in
     let os : List Open = p ∷ ps in
-    element_built name attrs children v b o os x facts.ends
+    element_built name attrs children v b o os x facts.ends facts.quiet
     (record {
       after = c;
       step = step_in (with_stack b (o ∷ os)) (with_stack c (open_of b.next name attrs no_trees ∷ o ∷ os)) (AStart name attrs false) mode is r.skip (facts.opens b attrs o.attrs o.number o.children p ps);
@@ -82,7 +83,7 @@ marked_part mode after name attrs children v b o (p ∷ ps) facts is deep r stea
     let x : Outer = record (outer b) { mode = after } in
     let c : Building = record b { next = suc b.next; mode = after; listed = Marker ∷ b.listed } in
     let os : List Open = p ∷ ps in
-    element_built name attrs children v b o os x facts.ends
+    element_built name attrs children v b o os x facts.ends facts.quiet
     (record {
       after = c;
       step = step_in (with_stack b (o ∷ os)) (with_stack c (open_of b.next name attrs no_trees ∷ o ∷ os)) (AStart name attrs false) mode is r.skip (facts.opens b attrs o.attrs o.number o.children p ps);
@@ -148,7 +149,7 @@ column name is attrs children w h plain inner b o os s r =
     let parts : (is_column_group w.place ≡ true) × (is_none children ≡ true) = and_parts (is_column_group w.place) (is_none children) h in
     let a : At ColumnGroupPlace (outer b) (key o ∷ keys os) = column_group_at w.place (outer b) (key o ∷ keys os) parts.0 s.place in
     let facts : IsLeafIn InColumnGroup name = of_each (IsLeafIn InColumnGroup) (names_of AColumn) column_is name is in
-    leaf name attrs children b.frameset_ok b o os parts.1 facts.ends r (step_in (with_stack b (o ∷ os)) (with_leaf name attrs b.frameset_ok b o os) (AStart name attrs false) InColumnGroup a.0 r.skip (facts.made attrs b o os))
+    leaf name attrs children b.frameset_ok b o os parts.1 facts.ends facts.quiet r (step_in (with_stack b (o ∷ os)) (with_leaf name attrs b.frameset_ok b o os) (AStart name attrs false) InColumnGroup a.0 r.skip (facts.made attrs b o os))
 
 -- ---- form
 
@@ -164,7 +165,7 @@ form_f attrs children w h plain inner b o os s r =
     let ks : List Key = key o ∷ keys os in
     let f : InFlow x ks = record { flow = p.flow.flow; mode = p.flow.mode; found = p.flow.found } in
     let k : At FlowPlace x (key_of b.next name ∷ ks) = flow_at name b.next x (key o) (keys os) facts.passes form_no_heading.0 f in
-    element_built name attrs children (inside w AForm) b o os x facts.ends
+    element_built name attrs children (inside w AForm) b o os x facts.ends facts.quiet
     (record {
       after = c;
       step = step_by_rules (with_stack b (o ∷ os)) (with_stack c (open_of b.next name attrs no_trees ∷ o ∷ os)) ks (AStart name attrs false) p.flow r.skip (facts.opens attrs (with_stack b (o ∷ os)) free p.no_p);
@@ -207,10 +208,10 @@ unfolding tree_step
 passed x b h = ap (λ t. elim t [ true ↦ Some (record b { skip = false }) | false ↦ run 12 x b.mode (record b { skip = false }) ]) h
 
 -- where no line feed comes first, none is dropped
-none_dropped : (b : Building) (xs : List Token) → opens_feed xs ≡ false → tree_steps (record b { skip = true }) xs ≡ tree_steps (record b { skip = false }) xs
+none_dropped : (b : Building) (xs : List Token) → opens_feed xs ≡ false → heard_steps (record b { skip = true }) xs ≡ heard_steps (record b { skip = false }) xs
 unfolding opens_feed
 none_dropped b [] h = absurd (true≢false h)
-none_dropped b (x ∷ xs) h = ap (λ r. elim r [ None ↦ None | Some c ↦ tree_steps c xs ]) (passed x b h)
+none_dropped b (x ∷ xs) h = ap (λ r. option_and_then (λ c. heard_steps c xs) (option_and_then (if_heard x) r)) (passed x b h)
 
 first_token : (t : Trees) (w : Within) (name : List ℕ) → begins_feed t ≡ false → are_plain w t ≡ true → opens_feed (tokens t ++ AnEnd name ∷ []) ≡ false
 unfolding opens_feed
@@ -244,7 +245,7 @@ pre_p attrs children w h plain inner b o os s r =
     let last : Building = with_stack f.after (grown o name attrs children ∷ os) in
     record {
       after = f.after;
-      steps = step_on (with_stack b (o ∷ os)) (record (with_stack c opened) { skip = true }) last (AStart name attrs false) xs
+      steps = step_on (with_stack b (o ∷ os)) (record (with_stack c opened) { skip = true }) last (AStart name attrs false) xs refl
           (step_by_rules (with_stack b (o ∷ os)) (record (with_stack c opened) { skip = true }) ks (AStart name attrs false) p.flow r.skip (pre_opens.0 attrs (with_stack b (o ∷ os)) p.no_p))
           (none_dropped (with_stack c opened) xs (first_token children (inside w APre) name (not_so (begins_feed children) parts.1) plain) ∙ f.steps);
       ready = f.ready;
@@ -296,9 +297,9 @@ raw_text name is attrs children w h plain inner b o os s r =
     let last : Building = with_stack after (grown o name attrs children ∷ os) in
     record {
       after = after;
-      steps = step_on (with_stack b (o ∷ os)) empty last (AStart name attrs false) (tokens children ++ end_of name) (raw_opens name facts attrs b o os w.place parts.0 s.place r.skip)
+      steps = step_on (with_stack b (o ∷ os)) empty last (AStart name attrs false) (tokens children ++ end_of name) (text_start name attrs empty refl) (raw_opens name facts attrs b o os w.place parts.0 s.place r.skip)
           (steps_on empty full last (tokens children) (end_of name) (raw_children children (inside w ARawText) c b.next name attrs (o ∷ os) parts.1 plain refl r.skip)
-          (rw facts.ends (step_on full last last (AnEnd name) [] (step_in full last (AnEnd name) Text refl r.skip (facts.closes c b.next attrs children o os)) refl)));
+          (rw facts.ends (step_on full last last (AnEnd name) [] refl (step_in full last (AnEnd name) Text refl r.skip (facts.closes c b.next attrs children o os)) refl)));
       ready = record { skip = r.skip; fits = r.fits; numbers = below_more b.next (key o ∷ keys os) r.numbers };
       kept = refl;
     }
@@ -307,7 +308,7 @@ pub metadata : (name : List ℕ) → is_among name (names_of AMetadata) ≡ true
 metadata name is attrs children w h plain inner b o os s r =
     let parts : (is_head w.place ≡ true) × (is_none children ≡ true) = and_parts (is_head w.place) (is_none children) h in
     let facts : IsLeafIn InHead name = of_each (IsLeafIn InHead) (names_of AMetadata) metadata_is name is in
-    leaf name attrs children b.frameset_ok b o os parts.1 facts.ends r
+    leaf name attrs children b.frameset_ok b o os parts.1 facts.ends facts.quiet r
     (step_in (with_stack b (o ∷ os)) (with_leaf name attrs b.frameset_ok b o os) (AStart name attrs false) InHead (head_at w.place (outer b) (key o ∷ keys os) parts.0 s.place) r.skip (facts.made attrs b o os))
 
 -- ---- texts

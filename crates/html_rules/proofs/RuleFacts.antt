@@ -18,7 +18,7 @@ block_opens = (λ attrs b h. (rw h refl, rw h refl, rw h refl), (λ attrs b h. (
 
 pub block_ordinary : Each (Ordinary) (names_of ABlock)
 unfolding run rules taken act in_scope
-block_ordinary = (record { closes = λ b number attrs children o os. (refl, refl, refl); ends = refl; unlisted = (refl, refl); passes = λ c m ms. refl }, (record { closes = λ b number attrs children o os. (refl, refl, refl); ends = refl; unlisted = (refl, refl); passes = λ c m ms. refl }, (record { closes = λ b number attrs children o os. (refl, refl, refl); ends = refl; unlisted = (refl, refl); passes = λ c m ms. refl }, (record { closes = λ b number attrs children o os. (refl, refl, refl); ends = refl; unlisted = (refl, refl); passes = λ c m ms. refl }, (record { closes = λ b number attrs children o os. (refl, refl, refl); ends = refl; unlisted = (refl, refl); passes = λ c m ms. refl }, (record { closes = λ b number attrs children o os. (refl, refl, refl); ends = refl; unlisted = (refl, refl); passes = λ c m ms. refl }, (record { closes = λ b number attrs children o os. (refl, refl, refl); ends = refl; unlisted = (refl, refl); passes = λ c m ms. refl }, (record { closes = λ b number attrs children o os. (refl, refl, refl); ends = refl; unlisted = (refl, refl); passes = λ c m ms. refl }, (record { closes = λ b number attrs children o os. (refl, refl, refl); ends = refl; unlisted = (refl, refl); passes = λ c m ms. refl }, (record { closes = λ b number attrs children o os. (refl, refl, refl); ends = refl; unlisted = (refl, refl); passes = λ c m ms. refl }, (record { closes = λ b number attrs children o os. (refl, refl, refl); ends = refl; unlisted = (refl, refl); passes = λ c m ms. refl }, (record { closes = λ b number attrs children o os. (refl, refl, refl); ends = refl; unlisted = (refl, refl); passes = λ c m ms. refl }, (record { closes = λ b number attrs children o os. (refl, refl, refl); ends = refl; unlisted = (refl, refl); passes = λ c m ms. refl }, (record { closes = λ b number attrs children o os. (refl, refl, refl); ends = refl; unlisted = (refl, refl); passes = λ c m ms. refl }, (record { closes = λ b number attrs children o os. (refl, refl, refl); ends = refl; unlisted = (refl, refl); passes = λ c m ms. refl }, (record { closes = λ b number attrs children o os. (refl, refl, refl); ends = refl; unlisted = (refl, refl); passes = λ c m ms. refl }, (record { closes = λ b number attrs children o os. (refl, refl, refl); ends = refl; unlisted = (refl, refl); passes = λ c m ms. refl }, (record { closes = λ b number attrs children o os. (refl, refl, refl); ends = refl; unlisted = (refl, refl); passes = λ c m ms. refl }, (record { closes = λ b number attrs children o os. (refl, refl, refl); ends = refl; unlisted = (refl, refl); passes = λ c m ms. refl }, (record { closes = λ b number attrs children o os. (refl, refl, refl); ends = refl; unlisted = (refl, refl); passes = λ c m ms. refl }, (record { closes = λ b number attrs children o os. (refl, refl, refl); ends = refl; unlisted = (refl, refl); passes = λ c m ms. refl }, (record { closes = λ b number attrs children o os. (refl, refl, refl); ends = refl; unlisted = (refl, refl); passes = λ c m ms. refl }, (record { closes = λ b number attrs children o os. (refl, refl, refl); ends = refl; unlisted = (refl, refl); passes = λ c m ms. refl }, (record { closes = λ b number attrs children o os. (refl, refl, refl); ends = refl; unlisted = (refl, refl); passes = λ c m ms. refl }, tt))))))))))))))))))))))))
+block_ordinary = (record { closes = λ b number attrs children o os. (refl, refl, refl); ends = refl; quiet = refl; unlisted = (refl, refl); passes = λ c m ms. refl }, (record { closes = λ b number attrs children o os. (refl, refl, refl); ends = refl; quiet = refl; unlisted = (refl, refl); passes = λ c m ms. refl }, (record { closes = λ b number attrs children o os. (refl, refl, refl); ends = refl; quiet = refl; unlisted = (refl, refl); passes = λ c m ms. refl }, (record { closes = λ b number attrs children o os. (refl, refl, refl); ends = refl; quiet = refl; unlisted = (refl, refl); passes = λ c m ms. refl }, (record { closes = λ b number attrs children o os. (refl, refl, refl); ends = refl; quiet = refl; unlisted = (refl, refl); passes = λ c m ms. refl }, (record { closes = λ b number attrs children o os. (refl, refl, refl); ends = refl; quiet = refl; unlisted = (refl, refl); passes = λ c m ms. refl }, (record { closes = λ b number attrs children o os. (refl, refl, refl); ends = refl; quiet = refl; unlisted = (refl, refl); passes = λ c m ms. refl }, (record { closes = λ b number attrs children o os. (refl, refl, refl); ends = refl; quiet = refl; unlisted = (refl, refl); passes = λ c m ms. refl }, (record { closes = λ b number attrs children o os. (refl, refl, refl); ends = refl; quiet = refl; unlisted = (refl, refl); passes = λ c m ms. refl }, (record { closes = λ b number attrs children o os. (refl, refl, refl); ends = refl; quiet = refl; unlisted = (refl, refl); passes = λ c m ms. refl }, (record { closes = λ b number attrs children o os. (refl, refl, refl); ends = refl; quiet = refl; unlisted = (refl, refl); passes = λ c m ms. refl }, (record { closes = λ b number attrs children o os. (refl, refl, refl); ends = refl; quiet = refl; unlisted = (refl, refl); passes = λ c m ms. refl }, (record { closes = λ b number attrs children o os. (refl, refl, refl); ends = refl; quiet = refl; unlisted = (refl, refl); passes = λ c m ms. refl }, (record { closes = λ b number attrs children o os. (refl, refl, refl); ends = refl; quiet = refl; unlisted = (refl, refl); passes = λ c m ms. refl }, (record { closes = λ b number attrs children o os. (refl, refl, refl); ends = refl; quiet = refl; unlisted = (refl, refl); passes = λ c m ms. refl }, (record { closes = λ b number attrs children o os. (refl, refl, refl); ends = refl; quiet = refl; unlisted = (refl, refl); passes = λ c m ms. refl }, (record { closes = λ b number attrs children o os. (refl, refl, refl); ends = refl; quiet = refl; unlisted = (refl, refl); passes = λ c m ms. refl }, (record { closes = λ b number attrs children o os. (refl, refl, refl); ends = refl; quiet = refl; unlisted = (refl, refl); passes = λ c m ms. refl }, (record { closes = λ b number attrs children o os. (refl, refl, refl); ends = refl; quiet = refl; unlisted = (refl, refl); passes = λ c m ms. refl }, (record { closes = λ b number attrs children o os. (refl, refl, refl); ends = refl; quiet = refl; unlisted = (refl, refl); passes = λ c m ms. refl }, (record { closes = λ b number attrs children o os. (refl, refl, refl); ends = refl; quiet = refl; unlisted = (refl, refl); passes = λ c m ms. refl }, (record { closes = λ b number attrs children o os. (refl, refl, refl); ends = refl; quiet = refl; unlisted = (refl, refl); passes = λ c m ms. refl }, (record { closes = λ b number attrs children o os. (refl, refl, refl); ends = refl; quiet = refl; unlisted = (refl, refl); passes = λ c m ms. refl }, (record { closes = λ b number attrs children o os. (refl, refl, refl); ends = refl; quiet = refl; unlisted = (refl, refl); passes = λ c m ms. refl }, tt))))))))))))))))))))))))
 
 pub block_no_heading : Each (λ name. is_among name headings ≡ false) (names_of ABlock)
 block_no_heading = (refl, (refl, (refl, (refl, (refl, (refl, (refl, (refl, (refl, (refl, (refl, (refl, (refl, (refl, (refl, (refl, (refl, (refl, (refl, (refl, (refl, (refl, (refl, (refl, tt))))))))))))))))))))))))
@@ -32,7 +32,7 @@ list_opens = (λ attrs b h. (rw h refl, rw h refl, rw h refl), (λ attrs b h. (r
 
 pub list_ordinary : Each (Ordinary) (names_of AList)
 unfolding run rules taken act in_scope
-list_ordinary = (record { closes = λ b number attrs children o os. (refl, refl, refl); ends = refl; unlisted = (refl, refl); passes = λ c m ms. refl }, (record { closes = λ b number attrs children o os. (refl, refl, refl); ends = refl; unlisted = (refl, refl); passes = λ c m ms. refl }, (record { closes = λ b number attrs children o os. (refl, refl, refl); ends = refl; unlisted = (refl, refl); passes = λ c m ms. refl }, (record { closes = λ b number attrs children o os. (refl, refl, refl); ends = refl; unlisted = (refl, refl); passes = λ c m ms. refl }, tt))))
+list_ordinary = (record { closes = λ b number attrs children o os. (refl, refl, refl); ends = refl; quiet = refl; unlisted = (refl, refl); passes = λ c m ms. refl }, (record { closes = λ b number attrs children o os. (refl, refl, refl); ends = refl; quiet = refl; unlisted = (refl, refl); passes = λ c m ms. refl }, (record { closes = λ b number attrs children o os. (refl, refl, refl); ends = refl; quiet = refl; unlisted = (refl, refl); passes = λ c m ms. refl }, (record { closes = λ b number attrs children o os. (refl, refl, refl); ends = refl; quiet = refl; unlisted = (refl, refl); passes = λ c m ms. refl }, tt))))
 
 pub list_no_heading : Each (λ name. is_among name headings ≡ false) (names_of AList)
 list_no_heading = (refl, (refl, (refl, (refl, tt))))
@@ -46,7 +46,7 @@ description_list_opens = (λ attrs b h. (rw h refl, rw h refl, rw h refl), tt)
 
 pub description_list_ordinary : Each (Ordinary) (names_of ADescriptionList)
 unfolding run rules taken act in_scope
-description_list_ordinary = (record { closes = λ b number attrs children o os. (refl, refl, refl); ends = refl; unlisted = (refl, refl); passes = λ c m ms. refl }, tt)
+description_list_ordinary = (record { closes = λ b number attrs children o os. (refl, refl, refl); ends = refl; quiet = refl; unlisted = (refl, refl); passes = λ c m ms. refl }, tt)
 
 pub description_list_no_heading : Each (λ name. is_among name headings ≡ false) (names_of ADescriptionList)
 description_list_no_heading = (refl, tt)
@@ -60,7 +60,7 @@ paragraph_opens = (λ attrs b h. (rw h refl, rw h refl, rw h refl), tt)
 
 pub paragraph_ordinary : Each (Ordinary) (names_of AParagraph)
 unfolding run rules taken act in_scope
-paragraph_ordinary = (record { closes = λ b number attrs children o os. (refl, refl, refl); ends = refl; unlisted = (refl, refl); passes = λ c m ms. refl }, tt)
+paragraph_ordinary = (record { closes = λ b number attrs children o os. (refl, refl, refl); ends = refl; quiet = refl; unlisted = (refl, refl); passes = λ c m ms. refl }, tt)
 
 pub paragraph_no_heading : Each (λ name. is_among name headings ≡ false) (names_of AParagraph)
 paragraph_no_heading = (refl, tt)
@@ -71,7 +71,7 @@ heading_opens = (λ attrs b h k. (rw (h, k, act) refl, rw (h, k, act) refl, rw (
 
 pub heading_ordinary : Each (Ordinary) (names_of AHeading)
 unfolding run rules taken act in_scope
-heading_ordinary = (record { closes = λ b number attrs children o os. (refl, refl, refl); ends = refl; unlisted = (refl, refl); passes = λ c m ms. refl }, (record { closes = λ b number attrs children o os. (refl, refl, refl); ends = refl; unlisted = (refl, refl); passes = λ c m ms. refl }, (record { closes = λ b number attrs children o os. (refl, refl, refl); ends = refl; unlisted = (refl, refl); passes = λ c m ms. refl }, (record { closes = λ b number attrs children o os. (refl, refl, refl); ends = refl; unlisted = (refl, refl); passes = λ c m ms. refl }, (record { closes = λ b number attrs children o os. (refl, refl, refl); ends = refl; unlisted = (refl, refl); passes = λ c m ms. refl }, (record { closes = λ b number attrs children o os. (refl, refl, refl); ends = refl; unlisted = (refl, refl); passes = λ c m ms. refl }, tt))))))
+heading_ordinary = (record { closes = λ b number attrs children o os. (refl, refl, refl); ends = refl; quiet = refl; unlisted = (refl, refl); passes = λ c m ms. refl }, (record { closes = λ b number attrs children o os. (refl, refl, refl); ends = refl; quiet = refl; unlisted = (refl, refl); passes = λ c m ms. refl }, (record { closes = λ b number attrs children o os. (refl, refl, refl); ends = refl; quiet = refl; unlisted = (refl, refl); passes = λ c m ms. refl }, (record { closes = λ b number attrs children o os. (refl, refl, refl); ends = refl; quiet = refl; unlisted = (refl, refl); passes = λ c m ms. refl }, (record { closes = λ b number attrs children o os. (refl, refl, refl); ends = refl; quiet = refl; unlisted = (refl, refl); passes = λ c m ms. refl }, (record { closes = λ b number attrs children o os. (refl, refl, refl); ends = refl; quiet = refl; unlisted = (refl, refl); passes = λ c m ms. refl }, tt))))))
 
 pub heading_barless : Each (Barless) (names_of AHeading)
 heading_barless = (record { no_p = refl; no_a = refl; no_button = refl }, (record { no_p = refl; no_a = refl; no_button = refl }, (record { no_p = refl; no_a = refl; no_button = refl }, (record { no_p = refl; no_a = refl; no_button = refl }, (record { no_p = refl; no_a = refl; no_button = refl }, (record { no_p = refl; no_a = refl; no_button = refl }, tt))))))
@@ -82,7 +82,7 @@ phrase_opens = (λ attrs b h. (rw (h, act) refl, rw (h, act) refl, rw (h, act) r
 
 pub phrase_ordinary : Each (Ordinary) (names_of APhrase)
 unfolding run rules taken act in_scope
-phrase_ordinary = (record { closes = λ b number attrs children o os. (refl, refl, refl); ends = refl; unlisted = (refl, refl); passes = λ c m ms. refl }, (record { closes = λ b number attrs children o os. (refl, refl, refl); ends = refl; unlisted = (refl, refl); passes = λ c m ms. refl }, (record { closes = λ b number attrs children o os. (refl, refl, refl); ends = refl; unlisted = (refl, refl); passes = λ c m ms. refl }, (record { closes = λ b number attrs children o os. (refl, refl, refl); ends = refl; unlisted = (refl, refl); passes = λ c m ms. refl }, (record { closes = λ b number attrs children o os. (refl, refl, refl); ends = refl; unlisted = (refl, refl); passes = λ c m ms. refl }, (record { closes = λ b number attrs children o os. (refl, refl, refl); ends = refl; unlisted = (refl, refl); passes = λ c m ms. refl }, (record { closes = λ b number attrs children o os. (refl, refl, refl); ends = refl; unlisted = (refl, refl); passes = λ c m ms. refl }, (record { closes = λ b number attrs children o os. (refl, refl, refl); ends = refl; unlisted = (refl, refl); passes = λ c m ms. refl }, (record { closes = λ b number attrs children o os. (refl, refl, refl); ends = refl; unlisted = (refl, refl); passes = λ c m ms. refl }, (record { closes = λ b number attrs children o os. (refl, refl, refl); ends = refl; unlisted = (refl, refl); passes = λ c m ms. refl }, (record { closes = λ b number attrs children o os. (refl, refl, refl); ends = refl; unlisted = (refl, refl); passes = λ c m ms. refl }, (record { closes = λ b number attrs children o os. (refl, refl, refl); ends = refl; unlisted = (refl, refl); passes = λ c m ms. refl }, (record { closes = λ b number attrs children o os. (refl, refl, refl); ends = refl; unlisted = (refl, refl); passes = λ c m ms. refl }, (record { closes = λ b number attrs children o os. (refl, refl, refl); ends = refl; unlisted = (refl, refl); passes = λ c m ms. refl }, (record { closes = λ b number attrs children o os. (refl, refl, refl); ends = refl; unlisted = (refl, refl); passes = λ c m ms. refl }, (record { closes = λ b number attrs children o os. (refl, refl, refl); ends = refl; unlisted = (refl, refl); passes = λ c m ms. refl }, (record { closes = λ b number attrs children o os. (refl, refl, refl); ends = refl; unlisted = (refl, refl); passes = λ c m ms. refl }, (record { closes = λ b number attrs children o os. (refl, refl, refl); ends = refl; unlisted = (refl, refl); passes = λ c m ms. refl }, (record { closes = λ b number attrs children o os. (refl, refl, refl); ends = refl; unlisted = (refl, refl); passes = λ c m ms. refl }, (record { closes = λ b number attrs children o os. (refl, refl, refl); ends = refl; unlisted = (refl, refl); passes = λ c m ms. refl }, (record { closes = λ b number attrs children o os. (refl, refl, refl); ends = refl; unlisted = (refl, refl); passes = λ c m ms. refl }, (record { closes = λ b number attrs children o os. (refl, refl, refl); ends = refl; unlisted = (refl, refl); passes = λ c m ms. refl }, (record { closes = λ b number attrs children o os. (refl, refl, refl); ends = refl; unlisted = (refl, refl); passes = λ c m ms. refl }, (record { closes = λ b number attrs children o os. (refl, refl, refl); ends = refl; unlisted = (refl, refl); passes = λ c m ms. refl }, (record { closes = λ b number attrs children o os. (refl, refl, refl); ends = refl; unlisted = (refl, refl); passes = λ c m ms. refl }, (record { closes = λ b number attrs children o os. (refl, refl, refl); ends = refl; unlisted = (refl, refl); passes = λ c m ms. refl }, (record { closes = λ b number attrs children o os. (refl, refl, refl); ends = refl; unlisted = (refl, refl); passes = λ c m ms. refl }, (record { closes = λ b number attrs children o os. (refl, refl, refl); ends = refl; unlisted = (refl, refl); passes = λ c m ms. refl }, (record { closes = λ b number attrs children o os. (refl, refl, refl); ends = refl; unlisted = (refl, refl); passes = λ c m ms. refl }, (record { closes = λ b number attrs children o os. (refl, refl, refl); ends = refl; unlisted = (refl, refl); passes = λ c m ms. refl }, tt))))))))))))))))))))))))))))))
+phrase_ordinary = (record { closes = λ b number attrs children o os. (refl, refl, refl); ends = refl; quiet = refl; unlisted = (refl, refl); passes = λ c m ms. refl }, (record { closes = λ b number attrs children o os. (refl, refl, refl); ends = refl; quiet = refl; unlisted = (refl, refl); passes = λ c m ms. refl }, (record { closes = λ b number attrs children o os. (refl, refl, refl); ends = refl; quiet = refl; unlisted = (refl, refl); passes = λ c m ms. refl }, (record { closes = λ b number attrs children o os. (refl, refl, refl); ends = refl; quiet = refl; unlisted = (refl, refl); passes = λ c m ms. refl }, (record { closes = λ b number attrs children o os. (refl, refl, refl); ends = refl; quiet = refl; unlisted = (refl, refl); passes = λ c m ms. refl }, (record { closes = λ b number attrs children o os. (refl, refl, refl); ends = refl; quiet = refl; unlisted = (refl, refl); passes = λ c m ms. refl }, (record { closes = λ b number attrs children o os. (refl, refl, refl); ends = refl; quiet = refl; unlisted = (refl, refl); passes = λ c m ms. refl }, (record { closes = λ b number attrs children o os. (refl, refl, refl); ends = refl; quiet = refl; unlisted = (refl, refl); passes = λ c m ms. refl }, (record { closes = λ b number attrs children o os. (refl, refl, refl); ends = refl; quiet = refl; unlisted = (refl, refl); passes = λ c m ms. refl }, (record { closes = λ b number attrs children o os. (refl, refl, refl); ends = refl; quiet = refl; unlisted = (refl, refl); passes = λ c m ms. refl }, (record { closes = λ b number attrs children o os. (refl, refl, refl); ends = refl; quiet = refl; unlisted = (refl, refl); passes = λ c m ms. refl }, (record { closes = λ b number attrs children o os. (refl, refl, refl); ends = refl; quiet = refl; unlisted = (refl, refl); passes = λ c m ms. refl }, (record { closes = λ b number attrs children o os. (refl, refl, refl); ends = refl; quiet = refl; unlisted = (refl, refl); passes = λ c m ms. refl }, (record { closes = λ b number attrs children o os. (refl, refl, refl); ends = refl; quiet = refl; unlisted = (refl, refl); passes = λ c m ms. refl }, (record { closes = λ b number attrs children o os. (refl, refl, refl); ends = refl; quiet = refl; unlisted = (refl, refl); passes = λ c m ms. refl }, (record { closes = λ b number attrs children o os. (refl, refl, refl); ends = refl; quiet = refl; unlisted = (refl, refl); passes = λ c m ms. refl }, (record { closes = λ b number attrs children o os. (refl, refl, refl); ends = refl; quiet = refl; unlisted = (refl, refl); passes = λ c m ms. refl }, (record { closes = λ b number attrs children o os. (refl, refl, refl); ends = refl; quiet = refl; unlisted = (refl, refl); passes = λ c m ms. refl }, (record { closes = λ b number attrs children o os. (refl, refl, refl); ends = refl; quiet = refl; unlisted = (refl, refl); passes = λ c m ms. refl }, (record { closes = λ b number attrs children o os. (refl, refl, refl); ends = refl; quiet = refl; unlisted = (refl, refl); passes = λ c m ms. refl }, (record { closes = λ b number attrs children o os. (refl, refl, refl); ends = refl; quiet = refl; unlisted = (refl, refl); passes = λ c m ms. refl }, (record { closes = λ b number attrs children o os. (refl, refl, refl); ends = refl; quiet = refl; unlisted = (refl, refl); passes = λ c m ms. refl }, (record { closes = λ b number attrs children o os. (refl, refl, refl); ends = refl; quiet = refl; unlisted = (refl, refl); passes = λ c m ms. refl }, (record { closes = λ b number attrs children o os. (refl, refl, refl); ends = refl; quiet = refl; unlisted = (refl, refl); passes = λ c m ms. refl }, (record { closes = λ b number attrs children o os. (refl, refl, refl); ends = refl; quiet = refl; unlisted = (refl, refl); passes = λ c m ms. refl }, (record { closes = λ b number attrs children o os. (refl, refl, refl); ends = refl; quiet = refl; unlisted = (refl, refl); passes = λ c m ms. refl }, (record { closes = λ b number attrs children o os. (refl, refl, refl); ends = refl; quiet = refl; unlisted = (refl, refl); passes = λ c m ms. refl }, (record { closes = λ b number attrs children o os. (refl, refl, refl); ends = refl; quiet = refl; unlisted = (refl, refl); passes = λ c m ms. refl }, (record { closes = λ b number attrs children o os. (refl, refl, refl); ends = refl; quiet = refl; unlisted = (refl, refl); passes = λ c m ms. refl }, (record { closes = λ b number attrs children o os. (refl, refl, refl); ends = refl; quiet = refl; unlisted = (refl, refl); passes = λ c m ms. refl }, tt))))))))))))))))))))))))))))))
 
 pub phrase_no_heading : Each (λ name. is_among name headings ≡ false) (names_of APhrase)
 phrase_no_heading = (refl, (refl, (refl, (refl, (refl, (refl, (refl, (refl, (refl, (refl, (refl, (refl, (refl, (refl, (refl, (refl, (refl, (refl, (refl, (refl, (refl, (refl, (refl, (refl, (refl, (refl, (refl, (refl, (refl, (refl, tt))))))))))))))))))))))))))))))
@@ -96,7 +96,7 @@ ruby_opens = (λ attrs b h. (rw (h, act) refl, rw (h, act) refl, rw (h, act) ref
 
 pub ruby_ordinary : Each (Ordinary) (names_of ARuby)
 unfolding run rules taken act in_scope
-ruby_ordinary = (record { closes = λ b number attrs children o os. (refl, refl, refl); ends = refl; unlisted = (refl, refl); passes = λ c m ms. refl }, tt)
+ruby_ordinary = (record { closes = λ b number attrs children o os. (refl, refl, refl); ends = refl; quiet = refl; unlisted = (refl, refl); passes = λ c m ms. refl }, tt)
 
 pub ruby_no_heading : Each (λ name. is_among name headings ≡ false) (names_of ARuby)
 ruby_no_heading = (refl, tt)
@@ -110,7 +110,7 @@ ruby_text_opens = (λ attrs b number bs children o os. (refl, refl, refl), (λ a
 
 pub ruby_text_ordinary : Each (Ordinary) (names_of ARubyText)
 unfolding run rules taken act in_scope
-ruby_text_ordinary = (record { closes = λ b number attrs children o os. (refl, refl, refl); ends = refl; unlisted = (refl, refl); passes = λ c m ms. refl }, (record { closes = λ b number attrs children o os. (refl, refl, refl); ends = refl; unlisted = (refl, refl); passes = λ c m ms. refl }, tt))
+ruby_text_ordinary = (record { closes = λ b number attrs children o os. (refl, refl, refl); ends = refl; quiet = refl; unlisted = (refl, refl); passes = λ c m ms. refl }, (record { closes = λ b number attrs children o os. (refl, refl, refl); ends = refl; quiet = refl; unlisted = (refl, refl); passes = λ c m ms. refl }, tt))
 
 pub ruby_text_no_heading : Each (λ name. is_among name headings ≡ false) (names_of ARubyText)
 ruby_text_no_heading = (refl, (refl, tt))
@@ -124,7 +124,7 @@ item_opens = (λ attrs b h k. (rw (h, k) refl, rw (h, k) refl, rw (h, k) refl), 
 
 pub item_ordinary : Each (Ordinary) (names_of AnItem)
 unfolding run rules taken act in_scope
-item_ordinary = (record { closes = λ b number attrs children o os. (refl, refl, refl); ends = refl; unlisted = (refl, refl); passes = λ c m ms. refl }, tt)
+item_ordinary = (record { closes = λ b number attrs children o os. (refl, refl, refl); ends = refl; quiet = refl; unlisted = (refl, refl); passes = λ c m ms. refl }, tt)
 
 pub item_no_heading : Each (λ name. is_among name headings ≡ false) (names_of AnItem)
 item_no_heading = (refl, tt)
@@ -138,7 +138,7 @@ description_opens = (λ attrs b h k. (rw (h, k) refl, rw (h, k) refl, rw (h, k) 
 
 pub description_ordinary : Each (Ordinary) (names_of ADescription)
 unfolding run rules taken act in_scope
-description_ordinary = (record { closes = λ b number attrs children o os. (refl, refl, refl); ends = refl; unlisted = (refl, refl); passes = λ c m ms. refl }, (record { closes = λ b number attrs children o os. (refl, refl, refl); ends = refl; unlisted = (refl, refl); passes = λ c m ms. refl }, tt))
+description_ordinary = (record { closes = λ b number attrs children o os. (refl, refl, refl); ends = refl; quiet = refl; unlisted = (refl, refl); passes = λ c m ms. refl }, (record { closes = λ b number attrs children o os. (refl, refl, refl); ends = refl; quiet = refl; unlisted = (refl, refl); passes = λ c m ms. refl }, tt))
 
 pub description_no_heading : Each (λ name. is_among name headings ≡ false) (names_of ADescription)
 description_no_heading = (refl, (refl, tt))
@@ -152,7 +152,7 @@ pre_opens = (λ attrs b h. (rw h refl, rw h refl, rw h refl), tt)
 
 pub pre_ordinary : Each (Ordinary) (names_of APre)
 unfolding run rules taken act in_scope
-pre_ordinary = (record { closes = λ b number attrs children o os. (refl, refl, refl); ends = refl; unlisted = (refl, refl); passes = λ c m ms. refl }, tt)
+pre_ordinary = (record { closes = λ b number attrs children o os. (refl, refl, refl); ends = refl; quiet = refl; unlisted = (refl, refl); passes = λ c m ms. refl }, tt)
 
 pub pre_no_heading : Each (λ name. is_among name headings ≡ false) (names_of APre)
 pre_no_heading = (refl, tt)
@@ -162,7 +162,7 @@ pre_barless = (record { no_p = refl; no_a = refl; no_button = refl }, tt)
 
 pub button_ordinary : Each (Ordinary) (names_of AButton)
 unfolding run rules taken act in_scope
-button_ordinary = (record { closes = λ b number attrs children o os. (refl, refl, refl); ends = refl; unlisted = (refl, refl); passes = λ c m ms. refl }, tt)
+button_ordinary = (record { closes = λ b number attrs children o os. (refl, refl, refl); ends = refl; quiet = refl; unlisted = (refl, refl); passes = λ c m ms. refl }, tt)
 
 pub button_no_heading : Each (λ name. is_among name headings ≡ false) (names_of AButton)
 button_no_heading = (refl, tt)
@@ -173,14 +173,14 @@ formatting_opens = (λ attrs b h. (rw (h, act) refl, rw (h, act) refl, rw (h, ac
 
 pub formatting_is : Each (Formatting) (names_of AFormatting)
 unfolding run rules taken act in_scope
-formatting_is = (record { closes = λ b c h. (rw h refl, rw h refl, rw h refl); ends = refl; listed = (refl, refl); passes = λ c m ms. refl }, (record { closes = λ b c h. (rw h refl, rw h refl, rw h refl); ends = refl; listed = (refl, refl); passes = λ c m ms. refl }, (record { closes = λ b c h. (rw h refl, rw h refl, rw h refl); ends = refl; listed = (refl, refl); passes = λ c m ms. refl }, (record { closes = λ b c h. (rw h refl, rw h refl, rw h refl); ends = refl; listed = (refl, refl); passes = λ c m ms. refl }, (record { closes = λ b c h. (rw h refl, rw h refl, rw h refl); ends = refl; listed = (refl, refl); passes = λ c m ms. refl }, (record { closes = λ b c h. (rw h refl, rw h refl, rw h refl); ends = refl; listed = (refl, refl); passes = λ c m ms. refl }, (record { closes = λ b c h. (rw h refl, rw h refl, rw h refl); ends = refl; listed = (refl, refl); passes = λ c m ms. refl }, (record { closes = λ b c h. (rw h refl, rw h refl, rw h refl); ends = refl; listed = (refl, refl); passes = λ c m ms. refl }, (record { closes = λ b c h. (rw h refl, rw h refl, rw h refl); ends = refl; listed = (refl, refl); passes = λ c m ms. refl }, (record { closes = λ b c h. (rw h refl, rw h refl, rw h refl); ends = refl; listed = (refl, refl); passes = λ c m ms. refl }, (record { closes = λ b c h. (rw h refl, rw h refl, rw h refl); ends = refl; listed = (refl, refl); passes = λ c m ms. refl }, (record { closes = λ b c h. (rw h refl, rw h refl, rw h refl); ends = refl; listed = (refl, refl); passes = λ c m ms. refl }, tt))))))))))))
+formatting_is = (record { closes = λ b c h. (rw h refl, rw h refl, rw h refl); ends = refl; quiet = refl; listed = (refl, refl); passes = λ c m ms. refl }, (record { closes = λ b c h. (rw h refl, rw h refl, rw h refl); ends = refl; quiet = refl; listed = (refl, refl); passes = λ c m ms. refl }, (record { closes = λ b c h. (rw h refl, rw h refl, rw h refl); ends = refl; quiet = refl; listed = (refl, refl); passes = λ c m ms. refl }, (record { closes = λ b c h. (rw h refl, rw h refl, rw h refl); ends = refl; quiet = refl; listed = (refl, refl); passes = λ c m ms. refl }, (record { closes = λ b c h. (rw h refl, rw h refl, rw h refl); ends = refl; quiet = refl; listed = (refl, refl); passes = λ c m ms. refl }, (record { closes = λ b c h. (rw h refl, rw h refl, rw h refl); ends = refl; quiet = refl; listed = (refl, refl); passes = λ c m ms. refl }, (record { closes = λ b c h. (rw h refl, rw h refl, rw h refl); ends = refl; quiet = refl; listed = (refl, refl); passes = λ c m ms. refl }, (record { closes = λ b c h. (rw h refl, rw h refl, rw h refl); ends = refl; quiet = refl; listed = (refl, refl); passes = λ c m ms. refl }, (record { closes = λ b c h. (rw h refl, rw h refl, rw h refl); ends = refl; quiet = refl; listed = (refl, refl); passes = λ c m ms. refl }, (record { closes = λ b c h. (rw h refl, rw h refl, rw h refl); ends = refl; quiet = refl; listed = (refl, refl); passes = λ c m ms. refl }, (record { closes = λ b c h. (rw h refl, rw h refl, rw h refl); ends = refl; quiet = refl; listed = (refl, refl); passes = λ c m ms. refl }, (record { closes = λ b c h. (rw h refl, rw h refl, rw h refl); ends = refl; quiet = refl; listed = (refl, refl); passes = λ c m ms. refl }, tt))))))))))))
 
 pub formatting_no_heading : Each (λ name. is_among name headings ≡ false) (names_of AFormatting)
 formatting_no_heading = (refl, (refl, (refl, (refl, (refl, (refl, (refl, (refl, (refl, (refl, (refl, (refl, tt))))))))))))
 
 pub anchor_is : Each (Formatting) (names_of AnAnchor)
 unfolding run rules taken act in_scope
-anchor_is = (record { closes = λ b c h. (rw h refl, rw h refl, rw h refl); ends = refl; listed = (refl, refl); passes = λ c m ms. refl }, tt)
+anchor_is = (record { closes = λ b c h. (rw h refl, rw h refl, rw h refl); ends = refl; quiet = refl; listed = (refl, refl); passes = λ c m ms. refl }, tt)
 
 pub anchor_no_heading : Each (λ name. is_among name headings ≡ false) (names_of AnAnchor)
 anchor_no_heading = (refl, tt)
@@ -196,15 +196,15 @@ description_list_holds = (λ number attrs children os. refl, tt)
 
 pub void_is : Each (IsVoid) (names_of AVoid)
 unfolding run rules taken act in_scope
-void_is = (record { made = λ attrs b o os h. (rw (h, act) refl, rw (h, act) refl, rw (h, act) refl); ends = refl }, (record { made = λ attrs b o os h. (rw (h, act) refl, rw (h, act) refl, rw (h, act) refl); ends = refl }, (record { made = λ attrs b o os h. (rw (h, act) refl, rw (h, act) refl, rw (h, act) refl); ends = refl }, (record { made = λ attrs b o os h. (rw (h, act) refl, rw (h, act) refl, rw (h, act) refl); ends = refl }, (record { made = λ attrs b o os h. (rw (h, act) refl, rw (h, act) refl, rw (h, act) refl); ends = refl }, tt)))))
+void_is = (record { made = λ attrs b o os h. (rw (h, act) refl, rw (h, act) refl, rw (h, act) refl); ends = refl; quiet = refl }, (record { made = λ attrs b o os h. (rw (h, act) refl, rw (h, act) refl, rw (h, act) refl); ends = refl; quiet = refl }, (record { made = λ attrs b o os h. (rw (h, act) refl, rw (h, act) refl, rw (h, act) refl); ends = refl; quiet = refl }, (record { made = λ attrs b o os h. (rw (h, act) refl, rw (h, act) refl, rw (h, act) refl); ends = refl; quiet = refl }, (record { made = λ attrs b o os h. (rw (h, act) refl, rw (h, act) refl, rw (h, act) refl); ends = refl; quiet = refl }, tt)))))
 
 pub break_is : Each (IsBreak) (names_of ABreak)
 unfolding run rules taken act in_scope
-break_is = (record { made = λ attrs b o os h. (rw h refl, rw h refl, rw h refl); ends = refl }, tt)
+break_is = (record { made = λ attrs b o os h. (rw h refl, rw h refl, rw h refl); ends = refl; quiet = refl }, tt)
 
 pub source_is : Each (IsSource) (names_of ASource)
 unfolding run rules taken act in_scope
-source_is = (record { made = λ attrs b o os. (refl, refl, refl); ends = refl }, (record { made = λ attrs b o os. (refl, refl, refl); ends = refl }, tt))
+source_is = (record { made = λ attrs b o os. (refl, refl, refl); ends = refl; quiet = refl }, (record { made = λ attrs b o os. (refl, refl, refl); ends = refl; quiet = refl }, tt))
 
 pub raw_text_is : Each (IsRawText) (names_of ARawText)
 unfolding run rules taken act in_scope
@@ -212,38 +212,38 @@ raw_text_is = (record { opens = λ attrs b. (refl, refl, refl); opens_in_head = 
 
 pub metadata_is : Each (IsLeafIn InHead) (names_of AMetadata)
 unfolding run rules taken act in_scope
-metadata_is = (record { made = λ attrs b o os. refl; ends = refl }, (record { made = λ attrs b o os. refl; ends = refl }, (record { made = λ attrs b o os. refl; ends = refl }, tt)))
+metadata_is = (record { made = λ attrs b o os. refl; ends = refl; quiet = refl }, (record { made = λ attrs b o os. refl; ends = refl; quiet = refl }, (record { made = λ attrs b o os. refl; ends = refl; quiet = refl }, tt)))
 
 pub column_is : Each (IsLeafIn InColumnGroup) (names_of AColumn)
 unfolding run rules taken act in_scope
-column_is = (record { made = λ attrs b o os. refl; ends = refl }, tt)
+column_is = (record { made = λ attrs b o os. refl; ends = refl; quiet = refl }, tt)
 
 pub caption_is : Each (IsMarkedPart InTable (codes "table") InCaption) (names_of ACaption)
 unfolding run rules taken act in_scope
-caption_is = (record { opens = λ b attrs bs n children o os. refl; closes = λ b attrs n children o os. refl; ends = refl; gives = λ c m ms. refl; marker = refl; unlisted = refl }, tt)
+caption_is = (record { opens = λ b attrs bs n children o os. refl; closes = λ b attrs n children o os. refl; ends = refl; quiet = refl; gives = λ c m ms. refl; marker = refl; unlisted = refl }, tt)
 
 pub cell_is : Each (IsMarkedPart InRow (codes "tr") InCell) (names_of ACell)
 unfolding run rules taken act in_scope
-cell_is = (record { opens = λ b attrs bs n children o os. refl; closes = λ b attrs n children o os. refl; ends = refl; gives = λ c m ms. refl; marker = refl; unlisted = refl }, (record { opens = λ b attrs bs n children o os. refl; closes = λ b attrs n children o os. refl; ends = refl; gives = λ c m ms. refl; marker = refl; unlisted = refl }, tt))
+cell_is = (record { opens = λ b attrs bs n children o os. refl; closes = λ b attrs n children o os. refl; ends = refl; quiet = refl; gives = λ c m ms. refl; marker = refl; unlisted = refl }, (record { opens = λ b attrs bs n children o os. refl; closes = λ b attrs n children o os. refl; ends = refl; quiet = refl; gives = λ c m ms. refl; marker = refl; unlisted = refl }, tt))
 
 pub column_group_is : Each (IsPart InTable (codes "table") InColumnGroup) (names_of AColumnGroup)
 unfolding run rules taken act in_scope
-column_group_is = (record { opens = λ b attrs bs n children o os. refl; closes = λ b attrs n children o os. refl; ends = refl; unlisted = (refl, refl) }, tt)
+column_group_is = (record { opens = λ b attrs bs n children o os. refl; closes = λ b attrs n children o os. refl; ends = refl; quiet = refl; unlisted = (refl, refl) }, tt)
 
 pub row_group_is : Each (IsPart InTable (codes "table") InTableBody) (names_of ARowGroup)
 unfolding run rules taken act in_scope
-row_group_is = (record { opens = λ b attrs bs n children o os. refl; closes = λ b attrs n children o os. refl; ends = refl; unlisted = (refl, refl) }, (record { opens = λ b attrs bs n children o os. refl; closes = λ b attrs n children o os. refl; ends = refl; unlisted = (refl, refl) }, (record { opens = λ b attrs bs n children o os. refl; closes = λ b attrs n children o os. refl; ends = refl; unlisted = (refl, refl) }, tt)))
+row_group_is = (record { opens = λ b attrs bs n children o os. refl; closes = λ b attrs n children o os. refl; ends = refl; quiet = refl; unlisted = (refl, refl) }, (record { opens = λ b attrs bs n children o os. refl; closes = λ b attrs n children o os. refl; ends = refl; quiet = refl; unlisted = (refl, refl) }, (record { opens = λ b attrs bs n children o os. refl; closes = λ b attrs n children o os. refl; ends = refl; quiet = refl; unlisted = (refl, refl) }, tt)))
 
 pub row_is : Each (λ parent. IsPart InTableBody parent InRow (codes "tr")) (names_of ARowGroup)
 unfolding run rules taken act in_scope
-row_is = (record { opens = λ b attrs bs n children o os. refl; closes = λ b attrs n children o os. refl; ends = refl; unlisted = (refl, refl) }, (record { opens = λ b attrs bs n children o os. refl; closes = λ b attrs n children o os. refl; ends = refl; unlisted = (refl, refl) }, (record { opens = λ b attrs bs n children o os. refl; closes = λ b attrs n children o os. refl; ends = refl; unlisted = (refl, refl) }, tt)))
+row_is = (record { opens = λ b attrs bs n children o os. refl; closes = λ b attrs n children o os. refl; ends = refl; quiet = refl; unlisted = (refl, refl) }, (record { opens = λ b attrs bs n children o os. refl; closes = λ b attrs n children o os. refl; ends = refl; quiet = refl; unlisted = (refl, refl) }, (record { opens = λ b attrs bs n children o os. refl; closes = λ b attrs n children o os. refl; ends = refl; quiet = refl; unlisted = (refl, refl) }, tt)))
 
 pub table_is : Each (IsTable) (names_of ATable)
 unfolding run rules taken act in_scope
-table_is = (record { opens = λ attrs b h. (rw h refl, rw h refl, rw h refl); ends = refl; unlisted = (refl, refl); closes = λ b attrs n children o os mode h. ap (in_found_mode (with_stack b (grown o (codes "table") attrs children ∷ os))) h }, tt)
+table_is = (record { opens = λ attrs b h. (rw h refl, rw h refl, rw h refl); ends = refl; quiet = refl; unlisted = (refl, refl); closes = λ b attrs n children o os mode h. ap (in_found_mode (with_stack b (grown o (codes "table") attrs children ∷ os))) h }, tt)
 
 pub form_is : Each (IsForm) (names_of AForm)
-form_is = (record { opens = form_opens; closes = form_closes; ends = refl; unlisted = (refl, refl); passes = λ c m ms. refl }, tt)
+form_is = (record { opens = form_opens; closes = form_closes; ends = refl; quiet = refl; unlisted = (refl, refl); passes = λ c m ms. refl }, tt)
 
 pub table_barless : Each (Barless) (names_of ATable)
 table_barless = (record { no_p = refl; no_a = refl; no_button = refl }, tt)

@@ -3,6 +3,7 @@ use Rattle.std.specs.Prelude.{◌≡◌, ℕ, suc, Bool, true, false, List, [], 
 use Rattle.html_rules.specs.Building.{Building, Open, Listed, Marker, adopted, cleared, closed_item, closed_p, form_ended, is_space, open_item, inserted, last_listed, mode_of, names_of_stack, needs_none, run, top_is, with_stack, without_third}
 use Rattle.html_rules.specs.RuleWords.{Mode, InBody, InCaption, InCell, InHead, InTable, Text}
 use Rattle.html_rules.specs.TreeRules.{formatting, headings}
+use Rattle.html_standard.specs.Reading.{switch_at}
 use Rattle.html_standard.specs.Tokens.{Attr, Token, AChar, AStart, AnEnd}
 use Rattle.html_rules.specs.TreeTokens.{Trees, no_trees, element_node, end_of, is_among, joined, with_char}
 use Rattle.html_rules.proofs.StackKeys.{FlowMode, body, caption, cell, mode_at, Gives, Listable, Passes, Unlisted, markers}
@@ -41,6 +42,7 @@ Closes name = (b : Building) (number : ℕ) (attrs : List Attr) (children : Tree
 pub record Ordinary (name : List ℕ) : Type 0 where
   pub closes : Closes name
   pub ends : end_of name ≡ AnEnd name ∷ []
+  pub quiet : switch_at name ≡ None
   pub unlisted : Unlisted name
   pub passes : Passes name
 
@@ -94,6 +96,7 @@ ClosesFormatting name = (b c : Building) → adopted name b ≡ Some c → Runs 
 pub record Formatting (name : List ℕ) : Type 0 where
   pub closes : ClosesFormatting name
   pub ends : end_of name ≡ AnEnd name ∷ []
+  pub quiet : switch_at name ≡ None
   pub listed : Listable name
   pub passes : Passes name
 
@@ -106,19 +109,23 @@ with_leaf name attrs ok b o os = record b { stack = grown o name attrs no_trees 
 pub record IsVoid (name : List ℕ) : Type 0 where
   pub made : (attrs : List Attr) (b : Building) (o : Open) (os : List Open) → needs_none b.listed (o ∷ os) ≡ true → Runs (AStart name attrs false) (with_stack b (o ∷ os)) (with_leaf name attrs false b o os)
   pub ends : end_of name ≡ []
+  pub quiet : switch_at name ≡ None
 
 pub record IsBreak (name : List ℕ) : Type 0 where
   pub made : (attrs : List Attr) (b : Building) (o : Open) (os : List Open) → closed_p (o ∷ os) ≡ Some (o ∷ os) → Runs (AStart name attrs false) (with_stack b (o ∷ os)) (with_leaf name attrs false b o os)
   pub ends : end_of name ≡ []
+  pub quiet : switch_at name ≡ None
 
 pub record IsSource (name : List ℕ) : Type 0 where
   pub made : (attrs : List Attr) (b : Building) (o : Open) (os : List Open) → Runs (AStart name attrs false) (with_stack b (o ∷ os)) (with_leaf name attrs b.frameset_ok b o os)
   pub ends : end_of name ≡ []
+  pub quiet : switch_at name ≡ None
 
 -- a void element in that mode
 pub record IsLeafIn (mode : Mode) (name : List ℕ) : Type 0 where
   pub made : (attrs : List Attr) (b : Building) (o : Open) (os : List Open) → RunsIn mode (AStart name attrs false) (with_stack b (o ∷ os)) (with_leaf name attrs b.frameset_ok b o os)
   pub ends : end_of name ≡ []
+  pub quiet : switch_at name ≡ None
 
 -- ---- elements that hold a text alone
 
@@ -141,6 +148,7 @@ pub record IsPart (mode : Mode) (parent : List ℕ) (after : Mode) (name : List 
   pub closes : (b : Building) (attrs : List Attr) (n : ℕ) (children : Trees) (o : Open) (os : List Open) →
       RunsIn after (AnEnd name) (with_stack b (open_of n name attrs children ∷ o ∷ os)) (with_stack (record b { mode = mode }) (grown o name attrs children ∷ os))
   pub ends : end_of name ≡ AnEnd name ∷ []
+  pub quiet : switch_at name ≡ None
   pub unlisted : Unlisted name
 
 -- the same of an element that puts a marker into the list of active formatting elements, and holds what a body holds
@@ -151,6 +159,7 @@ pub record IsMarkedPart (mode : Mode) (parent : List ℕ) (after : Mode) (name :
   pub closes : (b : Building) (attrs : List Attr) (n : ℕ) (children : Trees) (o : Open) (os : List Open) →
       RunsIn after (AnEnd name) (with_stack b (open_of n name attrs children ∷ o ∷ os)) (with_stack (record b { mode = mode; listed = cleared b.listed }) (grown o name attrs children ∷ os))
   pub ends : end_of name ≡ AnEnd name ∷ []
+  pub quiet : switch_at name ≡ None
   pub gives : Gives after name
   pub marker : is_among name markers ≡ true
   pub unlisted : is_among name formatting ≡ false
@@ -163,12 +172,14 @@ pub record IsTable (name : List ℕ) : Type 0 where
   pub closes : (b : Building) (attrs : List Attr) (n : ℕ) (children : Trees) (o : Open) (os : List Open) (mode : Mode) → mode_of b.context (names_of_stack (o ∷ os)) ≡ Some mode →
       RunsIn InTable (AnEnd name) (with_stack b (open_of n name attrs children ∷ o ∷ os)) (with_stack (record b { mode = mode }) (grown o name attrs children ∷ os))
   pub ends : end_of name ≡ AnEnd name ∷ []
+  pub quiet : switch_at name ≡ None
   pub unlisted : Unlisted name
 
 pub record IsForm (name : List ℕ) : Type 0 where
   pub opens : (attrs : List Attr) (b : Building) → b.form ≡ None → NoP b → Runs (AStart name attrs false) b (record (inserted name attrs b) { form = Some b.next })
   pub closes : (b c : Building) → form_ended b.form b ≡ Some c → Runs (AnEnd name) b c
   pub ends : end_of name ≡ AnEnd name ∷ []
+  pub quiet : switch_at name ≡ None
   pub unlisted : Unlisted name
   pub passes : Passes name
 

@@ -261,7 +261,7 @@ comment_built b o os text w s r =
     let m : (mode : Mode) × (b.mode ≡ mode) × CommentRuns mode = comment_at w.place (outer b) (key o ∷ keys os) s.place in
     record {
       after = b;
-      steps = step_on (with_stack b (o ∷ os)) c c (AComment text) [] (step_in (with_stack b (o ∷ os)) c (AComment text) m.0 m.1 r.skip (m.2 b o os text)) refl;
+      steps = step_on (with_stack b (o ∷ os)) c c (AComment text) [] refl (step_in (with_stack b (o ∷ os)) c (AComment text) m.0 m.1 r.skip (m.2 b o os text)) refl;
       ready = r;
       kept = refl;
     }
@@ -304,7 +304,7 @@ more_built b o os before cs (c ∷ more) h f r =
     let e : (d : Building) × Steps (with_stack a.0 (q ∷ os)) (map AChar more) (with_stack d (record o { children = text_of before ((cs ++ c ∷ []) ++ more) } ∷ os)) × Ready d (key o ∷ keys os) × (outer d ≡ outer a.0) =
     more_built a.0 o os before (cs ++ c ∷ []) more parts.1 (subst (λ (x : Outer). InFlow x (key o ∷ keys os)) (sym a.3) f) a.2 in
     let whole : Steps (with_stack b (p ∷ os)) (map AChar (c ∷ more)) (with_stack e.0 (record o { children = text_of before ((cs ++ c ∷ []) ++ more) } ∷ os)) =
-    step_on (with_stack b (p ∷ os)) (with_stack a.0 (q ∷ os)) (with_stack e.0 (record o { children = text_of before ((cs ++ c ∷ []) ++ more) } ∷ os)) (AChar c) (map AChar more) (a.1 ∙ same) e.1 in
+    step_on (with_stack b (p ∷ os)) (with_stack a.0 (q ∷ os)) (with_stack e.0 (record o { children = text_of before ((cs ++ c ∷ []) ++ more) } ∷ os)) (AChar c) (map AChar more) refl (a.1 ∙ same) e.1 in
     (e.0, subst (λ (x : List ℕ). Steps (with_stack b (p ∷ os)) (map AChar (c ∷ more)) (with_stack e.0 (record o { children = text_of before x } ∷ os))) (append_assoc cs (c ∷ []) more) whole, e.2, e.3 ∙ a.3)
 
 -- a text behind what is no text
@@ -320,7 +320,7 @@ text_built b o os (c ∷ more) h e f r =
     more_built a.0 o os o.children (c ∷ []) more parts.1 (subst (λ (x : Outer). InFlow x (key o ∷ keys os)) (sym a.3) f) a.2 in
     record {
       after = m.0;
-      steps = step_on (with_stack b (o ∷ os)) (with_stack a.0 (q ∷ os)) (with_stack m.0 (record o { children = text_of o.children (c ∷ more) } ∷ os)) (AChar c) (map AChar more) (a.1 ∙ same) m.1;
+      steps = step_on (with_stack b (o ∷ os)) (with_stack a.0 (q ∷ os)) (with_stack m.0 (record o { children = text_of o.children (c ∷ more) } ∷ os)) (AChar c) (map AChar more) refl (a.1 ∙ same) m.1;
       ready = m.2;
       kept = m.3 ∙ a.3;
     }
@@ -338,7 +338,7 @@ more_fixed b o os test before cs (c ∷ more) h each =
     let first : tree_step p (AChar c) ≡ Some q = each (text_of before cs) c parts.0 ∙ ap (λ t. Some (with_stack b (record o { children = t } ∷ os))) (more_char before cs c) in
     let last : Building = with_stack b (record o { children = text_of before ((cs ++ c ∷ []) ++ more) } ∷ os) in
     subst (λ (x : List ℕ). Steps p (map AChar (c ∷ more)) (with_stack b (record o { children = text_of before x } ∷ os))) (append_assoc cs (c ∷ []) more)
-    (step_on p q last (AChar c) (map AChar more) first (more_fixed b o os test before (cs ++ c ∷ []) more parts.1 each))
+    (step_on p q last (AChar c) (map AChar more) refl first (more_fixed b o os test before (cs ++ c ∷ []) more parts.1 each))
 
 pub fixed_text : (b : Building) (o : Open) (os : List Open) (test : ℕ → Bool) (c : ℕ) (more : List ℕ) → list_all test (c ∷ more) ≡ true → ends_text o.children ≡ false →
     ((children : Trees) (d : ℕ) → test d ≡ true → tree_step (with_stack b (record o { children = children } ∷ os)) (AChar d) ≡ Some (with_stack b (record o { children = with_char children d } ∷ os))) →
@@ -348,7 +348,7 @@ fixed_text b o os test c more h e each =
     let q : Building = with_stack b (record o { children = text_of o.children (c ∷ []) } ∷ os) in
     let last : Building = with_stack b (record o { children = text_of o.children (c ∷ more) } ∷ os) in
     let first : tree_step (with_stack b (o ∷ os)) (AChar c) ≡ Some q = each o.children c parts.0 ∙ ap (λ t. Some (with_stack b (record o { children = t } ∷ os))) (new_char o.children c e) in
-    step_on (with_stack b (o ∷ os)) q last (AChar c) (map AChar more) first (more_fixed b o os test o.children (c ∷ []) more parts.1 each)
+    step_on (with_stack b (o ∷ os)) q last (AChar c) (map AChar more) refl first (more_fixed b o os test o.children (c ∷ []) more parts.1 each)
 
 raw_runs : (b : Building) (o : Open) (os : List Open) (children : Trees) (c : ℕ) →
     RunsIn Text (AChar c) (with_stack b (record o { children = children } ∷ os)) (with_stack b (record o { children = with_char children c } ∷ os))

@@ -1,11 +1,14 @@
 -- Lists of siblings that grow at their end, tokens one after the other, and facts about each of several names.
-use Rattle.std.specs.Prelude.{◌≡◌, ℕ, Bool, true, false, ◌||◌, ◌==◌, List, [], ◌∷◌, ◌++◌, Option, None, Some, bytes_eq, refl}
+use Rattle.std.specs.Prelude.{◌≡◌, ℕ, Bool, true, false, cond, ◌||◌, ◌==◌, List, [], ◌∷◌, ◌++◌, Option, None, Some, bytes_eq, refl}
 use Rattle.std.specs.Option.{option_and_then}
 use Rattle.std.proofs.lemmas.Bool.{eqb-true, true≢false}
 use Rattle.std.proofs.lemmas.Slice.Eq.{bytes_eq-Decides}
 use mathlib.Core.Path.{◌∙◌, sym, ap, subst}
-use Rattle.html_rules.specs.Building.{Building, is_space, tree_step, tree_steps}
-use Rattle.html_standard.specs.Tokens.{Attr, Token}
+use Rattle.html_rules.specs.Building.{Building, children_of, is_space, tree_of, tree_step, tree_steps}
+use Rattle.html_rules.specs.RuleWords.{Mode, Text}
+use Rattle.html_standard.specs.Reading.{switch_at, switch_behind}
+use Rattle.html_standard.specs.States.{State}
+use Rattle.html_standard.specs.Tokens.{Attr, Token, AStart}
 use Rattle.html_rules.specs.TreeTokens.{Trees, no_trees, text_node, comment_node, doctype_node, element_node, joined, with_char, is_among}
 
 pub joined_none : (t : Trees) → joined t no_trees ≡ t
@@ -83,22 +86,82 @@ ends_comment (element_node m bs inner later) text = ends_comment later text
 
 -- ---- steps
 
-abbrev pub Steps : Building → List Token → Building → Type 0
-Steps b tokens c = tree_steps b tokens ≡ Some c
+-- tree construction reads a text where the tag says so
+abbrev pub says : Option State → Mode → Bool
+says None mode = true
+says (Some state) Text = true
+says (Some state) mode = false
 
-pub steps_append : (b : Building) (xs ys : List Token) → tree_steps b (xs ++ ys) ≡ option_and_then (λ c. tree_steps c ys) (tree_steps b xs)
+-- behind this token tree construction is in a mode in which it answers the tokenizer as the token's name says
+abbrev pub is_heard : Token → Building → Bool
+is_heard token b = says (switch_behind (token ∷ [])) b.mode
+
+abbrev pub if_heard : Token → Building → Option Building
+if_heard token b = cond (is_heard token b) (Some b) None
+
+-- steps as those of tree construction, where each start tag switches the tokenizer that has the name for it
+abbrev pub heard_steps : Building → List Token → Option Building
+heard_steps b [] = Some b
+heard_steps b (token ∷ more) = option_and_then (λ after. heard_steps after more) (option_and_then (if_heard token) (tree_step b token))
+
+abbrev pub Steps : Building → List Token → Building → Type 0
+Steps b tokens c = heard_steps b tokens ≡ Some c
+
+pub steps_append : (b : Building) (xs ys : List Token) → heard_steps b (xs ++ ys) ≡ option_and_then (λ c. heard_steps c ys) (heard_steps b xs)
 steps_append b [] ys = refl
-steps_append b (x ∷ xs) ys = by_first (λ c. steps_append c xs ys) (tree_step b x)
+steps_append b (x ∷ xs) ys = by_first (λ c. steps_append c xs ys) (option_and_then (if_heard x) (tree_step b x))
   where
-    by_first : ((c : Building) → tree_steps c (xs ++ ys) ≡ option_and_then (λ d. tree_steps d ys) (tree_steps c xs)) → (o : Option Building) → option_and_then (λ c. tree_steps c (xs ++ ys)) o ≡ option_and_then (λ c. tree_steps c ys) (option_and_then (λ c. tree_steps c xs) o)
+    by_first : ((c : Building) → heard_steps c (xs ++ ys) ≡ option_and_then (λ d. heard_steps d ys) (heard_steps c xs)) → (o : Option Building) → option_and_then (λ c. heard_steps c (xs ++ ys)) o ≡ option_and_then (λ c. heard_steps c ys) (option_and_then (λ c. heard_steps c xs) o)
     by_first each None = refl
     by_first each (Some c) = each c
 
 pub steps_on : (b c d : Building) (xs ys : List Token) → Steps b xs c → Steps c ys d → Steps b (xs ++ ys) d
-steps_on b c d xs ys first second = steps_append b xs ys ∙ ap (option_and_then (λ c. tree_steps c ys)) first ∙ second
+steps_on b c d xs ys first second = steps_append b xs ys ∙ ap (option_and_then (λ c. heard_steps c ys)) first ∙ second
 
-pub step_on : (b c d : Building) (x : Token) (ys : List Token) → tree_step b x ≡ Some c → Steps c ys d → Steps b (x ∷ ys) d
-step_on b c d x ys first second = ap (option_and_then (λ c. tree_steps c ys)) first ∙ second
+pub step_on : (b c d : Building) (x : Token) (ys : List Token) → is_heard x c ≡ true → tree_step b x ≡ Some c → Steps c ys d → Steps b (x ∷ ys) d
+step_on b c d x ys heard first second =
+    ap (λ o. option_and_then (λ c. heard_steps c ys) (option_and_then (if_heard x) o)) first ∙ ap (λ h. option_and_then (λ c. heard_steps c ys) (cond h (Some c) None)) heard ∙ second
+
+-- a start tag whose name has no state of its own
+pub quiet_start : (name : List ℕ) (attrs : List Attr) (c : Building) → switch_at name ≡ None → is_heard (AStart name attrs false) c ≡ true
+quiet_start name attrs c quiet = ap (λ s. says s c.mode) quiet
+
+-- a start tag behind which a text is read
+pub text_start : (name : List ℕ) (attrs : List Attr) (c : Building) → c.mode ≡ Text → is_heard (AStart name attrs false) c ≡ true
+text_start name attrs c is = ap (says (switch_at name)) is ∙ by_state (switch_at name)
+  where
+    by_state : (s : Option State) → says s Text ≡ true
+    by_state None = refl
+    by_state (Some state) = refl
+
+-- they are steps of tree construction
+pub heard_are_steps : (b e : Building) (ts : List Token) → Steps b ts e → tree_steps b ts ≡ Some e
+heard_are_steps b e [] h = h
+heard_are_steps b e (t ∷ more) h = by_step (λ c. heard_are_steps c e more) (tree_step b t) h
+  where
+    by_heard : (x : Bool) (c : Building) → (Steps c more e → tree_steps c more ≡ Some e) → option_and_then (λ after. heard_steps after more) (cond x (Some c) None) ≡ Some e → tree_steps c more ≡ Some e
+    by_heard true c each k = each k
+    by_heard false c each k = cc
+
+    by_step : ((c : Building) → Steps c more e → tree_steps c more ≡ Some e) → (o : Option Building) → option_and_then (λ after. heard_steps after more) (option_and_then (if_heard t) o) ≡ Some e →
+        option_and_then (λ after. tree_steps after more) o ≡ Some e
+    by_step each None k = cc
+    by_step each (Some c) k = by_heard (is_heard t c) c (each c) k
+
+pub heard_tree : (b : Building) (ts : List Token) (t : Trees) → tree_of (heard_steps b ts) ≡ Some t → tree_of (tree_steps b ts) ≡ Some t
+heard_tree b ts t h = by_end (heard_steps b ts) refl h
+  where
+    by_end : (o : Option Building) → heard_steps b ts ≡ o → tree_of o ≡ Some t → tree_of (tree_steps b ts) ≡ Some t
+    by_end None is k = cc
+    by_end (Some e) is k = ap tree_of (heard_are_steps b e ts is) ∙ k
+
+pub heard_children : (o : Option Building) (ts : List Token) (t : Trees) → children_of (option_and_then (λ b. heard_steps b ts) o) ≡ Some t → children_of (option_and_then (λ b. tree_steps b ts) o) ≡ Some t
+heard_children None ts t h = cc
+heard_children (Some b) ts t h = by_end (heard_steps b ts) refl h
+  where
+    by_end : (p : Option Building) → heard_steps b ts ≡ p → children_of p ≡ Some t → children_of (tree_steps b ts) ≡ Some t
+    by_end None is k = cc
+    by_end (Some e) is k = ap children_of (heard_are_steps b e ts is) ∙ k
 
 -- ---- names
 

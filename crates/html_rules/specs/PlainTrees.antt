@@ -1,4 +1,5 @@
--- Plain trees: elements that stand only where tree construction leaves them, so that the markup with every tag is read as the same tree.
+-- Plain trees: elements that occur only where tree construction leaves them, so that their markup, with every tag written, is
+-- read as the same tree.
 use Rattle.std.specs.Prelude.{ℕ, ◌≡◌, Bool, true, false, not, cond, ◌&&◌, ◌||◌, ◌==◌, List, [], ◌∷◌, codes}
 use Rattle.std.specs.List.{list_all}
 use Rattle.html_rules.specs.Building.{is_space}
@@ -56,7 +57,7 @@ class_among name (c ∷ cs) = cond (is_among name (names_of c)) c (class_among n
 abbrev pub class_of : List ℕ → Class
 class_of name = class_among name classes
 
--- ---- where nodes stand
+-- ---- where nodes are
 
 -- what the parent of a node is: an element that holds what a body holds, with five cases that the rules tell apart, or one of the others
 pub data Place : Type 0 where
@@ -106,7 +107,7 @@ abbrev pub is_head : Place → Bool
 is_head HeadPlace = true
 is_head _ = false
 
--- what nodes stand in: the kind of their parent, and which of these elements are among their ancestors
+-- where nodes are: the kind of their parent, and which of these elements are among their ancestors
 pub record Within : Type 0 where
   pub place : Place
   pub paragraph : Bool
@@ -128,7 +129,7 @@ place_of ARowGroup = RowGroupPlace
 place_of ARow = RowPlace
 place_of _ = FlowPlace
 
--- what the children of an element of that class stand in
+-- where the children of an element of that class are
 abbrev pub inside : Within → Class → Within
 inside w AParagraph = record w { place = FlowPlace; paragraph = true }
 inside w AnAnchor = record w { place = FlowPlace; anchor = true }
@@ -136,7 +137,7 @@ inside w AButton = record w { place = FlowPlace; button = true }
 inside w AForm = record w { place = FlowPlace; form = true }
 inside w class = record w { place = place_of class }
 
--- ---- which elements may stand there
+-- ---- which elements may be there
 
 abbrev pub is_none : Trees → Bool
 is_none no_trees = true
@@ -153,11 +154,11 @@ abbrev pub begins_feed : Trees → Bool
 begins_feed (text_node (c ∷ contents) later) = c == 10
 begins_feed _ = false
 
--- an element that closes an open `p` may stand there
+-- an element that closes an open `p` may be there
 abbrev pub holds_blocks : Within → Bool
 holds_blocks w = is_flow w.place && not w.paragraph
 
--- an element of that class with these children may stand there
+-- an element of that class with these children may be there
 abbrev pub admits : Within → Class → Trees → Bool
 admits w ABlock children = holds_blocks w
 admits w AList children = holds_blocks w
@@ -204,7 +205,7 @@ is_text (c ∷ contents) = list_all (λ d. not (d == 0)) (c ∷ contents)
 abbrev pub may_be_text : Place → List ℕ → Bool
 may_be_text place contents = is_text contents && (is_flow place || list_all is_space contents)
 
--- no text follows another, and each element may stand where it stands
+-- no text follows another, and each element may be where it is
 abbrev pub are_plain : Within → Trees → Bool
 are_plain w no_trees = true
 are_plain w (text_node contents later) = (may_be_text w.place contents && not (begins_text later)) && are_plain w later

@@ -1,5 +1,5 @@
 -- Trees of nodes, and the tokens that a tokenizer makes of the markup that writes such trees with every tag.
-use Rattle.std.specs.Prelude.{ℕ, Bool, false, None, Option, Some, List, [], ◌∷◌, ◌++◌, map, bytes_eq, codes, cond}
+use Rattle.std.specs.Prelude.{ℕ, Bool, false, None, Some, List, [], ◌∷◌, ◌++◌, map, bytes_eq, codes, cond}
 use Rattle.std.specs.List.{list_any}
 use Rattle.html_standard.specs.Tokens.{Attr, Doctype, Token, AChar, AComment, ADoctype, AStart, AnEnd}
 

@@ -4,8 +4,8 @@ ghost use Rattle.html_standard.specs.Laws.{AnyFeedbackStays, ExamplesAreRead};
 ghost use Rattle.html_standard.specs.Laws.{PagesAreReadOneWay, PlainMarkupIsRead};
 ghost use Rattle.html_standard.specs.Laws.{PlainPagesAreRead, PlainPagesAreReadOneWay};
 
-/// Plain markup is read as the tokens that it represents, from the data state to the data state,
-/// wherever it is in a page and whatever follows it.
+/// Plain markup is read as the tokens that it represents, wherever it is in a page and whatever
+/// follows it. The tokenizer is in the data state before it and after it.
 pub fn plain_markup()
     ensures { PlainMarkupIsRead }
 {}
@@ -16,18 +16,19 @@ pub fn plain_pages()
     ensures only { PlainPagesAreReadOneWay }
 {}
 
-/// Where no element has a name whose text may be read in a state of its own, the laws of plain
-/// markup need to know nothing of tree construction.
+/// If no element has a name whose content may be read in a state other than the data state, such as
+/// `script`, the laws of plain markup are true of any tree construction.
 pub fn any_tree_construction()
     ensures { AnyFeedbackStays }
 {}
 
-/// Every page has one list of tokens at most.
+/// Every page has at most one list of tokens.
 pub fn one_reading()
     ensures { PagesAreReadOneWay }
 {}
 
-/// Pages that take every entry of the table of states have the tokens that are given with them.
+/// Examples: pages, in which together every entry of the table of states is used, have the tokens
+/// that are listed with them.
 pub fn examples()
     ensures { ExamplesAreRead }
 {}

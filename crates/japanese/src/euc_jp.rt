@@ -9,13 +9,13 @@ use crate::table::{JIS0208, JIS0212};
 use decoded_text::{Decoded, ascii_front};
 use std::alloc::AllocError;
 
-/// Appends the characters of the bytes, and returns the bytes that are not decoded yet: at most
-/// two, whose character goes on in bytes that follow. Where the bytes are the last ones, all are
+/// Appends the characters of the bytes, and returns the bytes that aren't decoded yet: at most two,
+/// the beginning of a character that the next bytes continue. If `is_last` is true, all bytes are
 /// decoded.
 ///
 /// # Errors
 ///
-/// `AllocError` where memory is short.
+/// Fails with `AllocError` if memory runs out.
 pub fn decode_into<'b>(
     out: &mut Decoded,
     bytes: &'b [u8],
@@ -23,7 +23,8 @@ pub fn decode_into<'b>(
 ) -> Result<&'b [u8], AllocError>
     requires { IsCounted out.old }
     ensures continues { (more : List ℕ) → (IsTrue is_last → more ≡ []) → IfOk result (λ rest.
-        Continues out.old (characters JIS0208 JIS0212 (bytes.now ++ more)) out.new (characters JIS0208 JIS0212 (rest.now ++ more))) }
+        Continues out.old (characters JIS0208 JIS0212 (bytes.now ++ more))
+        out.new (characters JIS0208 JIS0212 (rest.now ++ more))) }
     ensures few { IfOk result (λ rest. length rest.now < 3) }
     ensures all { IsTrue is_last → IfOk result (λ rest. rest.now ≡ []) }
     ensures counted { IsCounted out.new }
@@ -38,12 +39,13 @@ pub fn decode_into<'b>(
     Ok(rest)
 }
 
-/// The first character and the bytes behind it; none where that takes more bytes than there are.
+/// Returns the first character and the bytes after it; `None` if it is incomplete.
 fn next(bytes: &[u8], is_last: bool) -> Option<(Option<char>, &[u8])>
     ensures none { IfNone result (length bytes.now < 3) }
     ensures last { IsTrue is_last → IfNone result (bytes.now ≡ []) }
     ensures some { (more : List ℕ) → (IsTrue is_last → more ≡ []) → IfSome result (λ next.
-        characters JIS0208 JIS0212 (bytes.now ++ more) ≡ next.0 ∷ characters JIS0208 JIS0212 (next.1.now ++ more)) }
+        characters JIS0208 JIS0212 (bytes.now ++ more)
+        ≡ next.0 ∷ characters JIS0208 JIS0212 (next.1.now ++ more)) }
     ensures less { IfSome result (λ next. length next.1.now < length bytes.now) }
 {
     let (lead, behind) = bytes.split_first()?;
@@ -53,13 +55,15 @@ fn next(bytes: &[u8], is_last: bool) -> Option<(Option<char>, &[u8])>
     Some((alone(*lead), behind))
 }
 
-/// The character of two or three bytes, of which the first was read, and the bytes behind it.
+/// Returns the character of two or three bytes, of which the first was read, and the bytes after
+/// it.
 fn pair(lead: u8, behind: &[u8], is_last: bool) -> Option<(Option<char>, &[u8])>
     requires { IsTrue (is_lead lead) }
     ensures none { IfNone result (length behind.now < 2) }
     ensures last { IfNone result (is_last ≡ false) }
     ensures some { (more : List ℕ) → (IsTrue is_last → more ≡ []) → IfSome result (λ next.
-        characters JIS0208 JIS0212 (lead ∷ (behind.now ++ more)) ≡ next.0 ∷ characters JIS0208 JIS0212 (next.1.now ++ more)) }
+        characters JIS0208 JIS0212 (lead ∷ (behind.now ++ more))
+        ≡ next.0 ∷ characters JIS0208 JIS0212 (next.1.now ++ more)) }
     ensures less { IfSome result (λ next. length next.1.now ≤ length behind.now) }
 {
     let Some((trail, others)) = behind.split_first() else {
@@ -75,7 +79,7 @@ fn pair(lead: u8, behind: &[u8], is_last: bool) -> Option<(Option<char>, &[u8])>
     }
 }
 
-/// The character of three bytes, of which two were read, and the bytes behind it.
+/// Returns the character of three bytes, of which two were read, and the bytes after it.
 fn three<'b>(
     lead: u8,
     trail: u8,
@@ -89,7 +93,8 @@ fn three<'b>(
     ensures none { IfNone result (others.now ≡ []) }
     ensures last { IfNone result (is_last ≡ false) }
     ensures some { (more : List ℕ) → (IsTrue is_last → more ≡ []) → IfSome result (λ next.
-        characters JIS0208 JIS0212 (lead ∷ (behind.now ++ more)) ≡ next.0 ∷ characters JIS0208 JIS0212 (next.1.now ++ more)) }
+        characters JIS0208 JIS0212 (lead ∷ (behind.now ++ more))
+        ≡ next.0 ∷ characters JIS0208 JIS0212 (next.1.now ++ more)) }
     ensures less { IfSome result (λ next. length next.1.now ≤ length behind.now) }
 {
     let Some((third, rest)) = others.split_first() else {
@@ -102,28 +107,28 @@ fn three<'b>(
     }
 }
 
-/// Whether a byte is a row or a cell of an index.
+/// Returns whether a byte is a row or a cell of an index.
 fn is_high(byte: u8) -> bool
     ensures { result ≡ is_high byte }
 {
     0xA1 <= byte && byte <= 0xFE
 }
 
-/// Whether a byte is the first of two or three.
+/// Returns whether a byte is the first of two or three.
 fn is_lead(byte: u8) -> bool
     ensures { result ≡ is_lead byte }
 {
     byte == 0x8E || byte == 0x8F || is_high(byte)
 }
 
-/// Whether a third byte follows two.
+/// Returns whether a third byte follows two.
 fn is_three(lead: u8, trail: u8) -> bool
     ensures { result ≡ is_three lead trail }
 {
     lead == 0x8F && is_high(trail)
 }
 
-/// The character of a byte alone.
+/// Returns the character of a byte alone.
 fn alone(byte: u8) -> Option<char>
     ensures { result ≡ alone byte }
 {
@@ -134,7 +139,7 @@ fn alone(byte: u8) -> Option<char>
     }
 }
 
-/// The character of two bytes.
+/// Returns the character of two bytes.
 fn of_two(lead: u8, trail: u8) -> Option<char>
     ensures { result ≡ of_two JIS0208 lead trail }
 {
@@ -144,7 +149,7 @@ fn of_two(lead: u8, trail: u8) -> Option<char>
     of_cell(&JIS0208, lead, trail)
 }
 
-/// The character of a row and a cell.
+/// Returns the character of a row and a cell.
 fn of_cell(index: &[u16], row: u8, cell: u8) -> Option<char>
     ensures { result ≡ of_cell index.now row cell }
 {

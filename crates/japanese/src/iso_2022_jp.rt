@@ -9,7 +9,7 @@ use crate::table::JIS0208;
 use decoded_text::Decoded;
 use std::alloc::AllocError;
 
-/// What bytes stand for until the next escape.
+/// How bytes are decoded until the next escape sequence.
 #[derive(Clone, Copy, Debug, Drop, PartialEq, Eq)]
 pub enum Mode {
     /// ASCII.
@@ -25,9 +25,9 @@ pub enum Mode {
 /// The state of a decoder between two characters.
 #[derive(Clone, Copy, Debug, Drop, PartialEq, Eq)]
 pub struct State {
-    /// What the bytes that follow stand for.
+    /// How the next bytes are decoded.
     pub mode: Mode,
-    /// Whether the last thing that was read is an escape.
+    /// Whether an escape sequence was read last.
     pub is_escaped: bool,
 }
 
@@ -37,23 +37,23 @@ pub const START: State = State {
     is_escaped: false,
 };
 
-/// What the first bytes of a text give.
+/// The first character or escape sequence of a text, and what follows it.
 #[derive(Clone, Copy, Drop)]
 pub(crate) struct Step<'a> {
-    /// A character or an error; nothing for an escape.
+    /// A character, or `None` for an error; nothing for an escape sequence.
     character: Option<Option<char>>,
     state: State,
-    /// The bytes behind.
+    /// The bytes after it.
     rest: &'a [u8],
 }
 
-/// Appends the characters of the bytes from a state on. Returns the state behind them, and the bytes
-/// that are not decoded yet: at most two, whose character or escape goes on in bytes that follow.
-/// Where the bytes are the last ones, all are decoded.
+/// Appends the characters of the bytes from a state on. Returns the state after them, and the bytes
+/// that aren't decoded yet: at most two, the beginning of a character or an escape sequence that
+/// the next bytes continue. If `is_last` is true, all bytes are decoded.
 ///
 /// # Errors
 ///
-/// `AllocError` where memory is short.
+/// Fails with `AllocError` if memory runs out.
 pub fn decode_into<'b>(
     start: State,
     out: &mut Decoded,
@@ -62,7 +62,8 @@ pub fn decode_into<'b>(
 ) -> Result<(State, &'b [u8]), AllocError>
     requires { IsCounted out.old }
     ensures continues { (more : List ℕ) → (IsTrue is_last → more ≡ []) → IfOk result (λ end.
-        Continues out.old (characters JIS0208 start (bytes.now ++ more)) out.new (characters JIS0208 end.0 (end.1.now ++ more))) }
+        Continues out.old (characters JIS0208 start (bytes.now ++ more))
+        out.new (characters JIS0208 end.0 (end.1.now ++ more))) }
     ensures few { IfOk result (λ end. length end.1.now < 3) }
     ensures all { IsTrue is_last → IfOk result (λ end. end.1.now ≡ []) }
     ensures counted { IsCounted out.new }
@@ -89,12 +90,13 @@ fn push(out: &mut Decoded, character: Option<Option<char>>) -> Result<(), AllocE
     }
 }
 
-/// The first character or escape; none where that takes more bytes than there are.
+/// Returns the first character or escape; `None` if it is incomplete.
 fn next(state: State, bytes: &[u8], is_last: bool) -> Option<Step<'_>>
     ensures none { IfNone result (length bytes.now < 3) }
     ensures last { IsTrue is_last → IfNone result (bytes.now ≡ []) }
     ensures some { (more : List ℕ) → (IsTrue is_last → more ≡ []) → IfSome result (λ step.
-        characters JIS0208 state (bytes.now ++ more) ≡ option_to_list step.character ++ characters JIS0208 step.state (step.rest.now ++ more)) }
+        characters JIS0208 state (bytes.now ++ more)
+        ≡ option_to_list step.character ++ characters JIS0208 step.state (step.rest.now ++ more)) }
     ensures less { IfSome result (λ step. length step.rest.now < length bytes.now) }
 {
     let (first, behind) = bytes.split_first()?;
@@ -111,12 +113,13 @@ fn next(state: State, bytes: &[u8], is_last: bool) -> Option<Step<'_>>
     })
 }
 
-/// An escape whose first byte was read, or an error in place of one.
+/// Returns an escape whose first byte was read, or an error in place of one.
 fn escape(state: State, behind: &[u8], is_last: bool) -> Option<Step<'_>>
     ensures none { IfNone result (length behind.now < 2) }
     ensures last { IfNone result (is_last ≡ false) }
     ensures some { (more : List ℕ) → (IsTrue is_last → more ≡ []) → IfSome result (λ step.
-        characters JIS0208 state (27 ∷ (behind.now ++ more)) ≡ option_to_list step.character ++ characters JIS0208 step.state (step.rest.now ++ more)) }
+        characters JIS0208 state (27 ∷ (behind.now ++ more))
+        ≡ option_to_list step.character ++ characters JIS0208 step.state (step.rest.now ++ more)) }
     ensures less { IfSome result (λ step. length step.rest.now ≤ length behind.now) }
 {
     let Some((a, others)) = behind.split_first() else {
@@ -150,12 +153,13 @@ fn escape(state: State, behind: &[u8], is_last: bool) -> Option<Step<'_>>
     })
 }
 
-/// An escape that the bytes end within.
+/// Returns an escape that the bytes end within.
 fn cut(state: State, behind: &[u8], is_last: bool) -> Option<Step<'_>>
     requires { length behind.now < 2 }
     ensures last { IfNone result (is_last ≡ false) }
     ensures some { (more : List ℕ) → (IsTrue is_last → more ≡ []) → IfSome result (λ step.
-        characters JIS0208 state (27 ∷ (behind.now ++ more)) ≡ option_to_list step.character ++ characters JIS0208 step.state (step.rest.now ++ more)) }
+        characters JIS0208 state (27 ∷ (behind.now ++ more))
+        ≡ option_to_list step.character ++ characters JIS0208 step.state (step.rest.now ++ more)) }
     ensures less { IfSome result (λ step. length step.rest.now ≤ length behind.now) }
 {
     if !is_last {
@@ -168,13 +172,14 @@ fn cut(state: State, behind: &[u8], is_last: bool) -> Option<Step<'_>>
     })
 }
 
-/// The character of two bytes, of which the first was read.
+/// Returns the character of two bytes, of which the first was read.
 fn pair(state: State, first: u8, behind: &[u8], is_last: bool) -> Option<Step<'_>>
     requires { IsTrue (is_lead state.mode first) }
     ensures none { IfNone result (behind.now ≡ []) }
     ensures last { IfNone result (is_last ≡ false) }
     ensures some { (more : List ℕ) → (IsTrue is_last → more ≡ []) → IfSome result (λ step.
-        characters JIS0208 state (first ∷ (behind.now ++ more)) ≡ option_to_list step.character ++ characters JIS0208 step.state (step.rest.now ++ more)) }
+        characters JIS0208 state (first ∷ (behind.now ++ more))
+        ≡ option_to_list step.character ++ characters JIS0208 step.state (step.rest.now ++ more)) }
     ensures less { IfSome result (λ step. length step.rest.now ≤ length behind.now) }
 {
     let Some((second, others)) = behind.split_first() else {
@@ -201,7 +206,7 @@ fn pair(state: State, first: u8, behind: &[u8], is_last: bool) -> Option<Step<'_
     })
 }
 
-/// The state behind anything but an escape.
+/// Returns the state behind anything but an escape.
 fn plain(state: State) -> State
     ensures { result ≡ plain state }
 {
@@ -211,7 +216,7 @@ fn plain(state: State) -> State
     }
 }
 
-/// Whether a byte is the first of two.
+/// Returns whether a byte is the first of two.
 fn is_lead(mode: Mode, byte: u8) -> bool
     ensures { result ≡ is_lead mode byte }
 {
@@ -221,7 +226,7 @@ fn is_lead(mode: Mode, byte: u8) -> bool
     }
 }
 
-/// The character of two bytes.
+/// Returns the character of two bytes.
 fn of_two(first: u8, second: u8) -> Option<char>
     requires { (33 ≤ first) × (first ≤ 126) }
     ensures { result ≡ of_two JIS0208 first second }
@@ -233,7 +238,7 @@ fn of_two(first: u8, second: u8) -> Option<char>
     character_at(&JIS0208, pointer)
 }
 
-/// The character of a byte that is one alone.
+/// Returns the character of a byte that is one alone.
 fn in_mode(mode: Mode, byte: u8) -> Option<char>
     ensures { result ≡ in_mode mode byte }
 {
@@ -250,7 +255,7 @@ fn in_mode(mode: Mode, byte: u8) -> Option<char>
     }
 }
 
-/// The mode that an escape begins.
+/// Returns the mode that an escape begins.
 fn target(a: u8, b: u8) -> Option<Mode>
     ensures { result ≡ target a b }
 {

@@ -9,13 +9,13 @@ use crate::table::JIS0208;
 use decoded_text::{Decoded, ascii_front};
 use std::alloc::AllocError;
 
-/// Appends the characters of the bytes, and returns the bytes that are not decoded yet: at most
-/// one, whose character goes on in bytes that follow. Where the bytes are the last ones, all are
+/// Appends the characters of the bytes, and returns the bytes that aren't decoded yet: at most one,
+/// the beginning of a character that the next bytes continue. If `is_last` is true, all bytes are
 /// decoded.
 ///
 /// # Errors
 ///
-/// `AllocError` where memory is short.
+/// Fails with `AllocError` if memory runs out.
 pub fn decode_into<'b>(
     out: &mut Decoded,
     bytes: &'b [u8],
@@ -23,7 +23,8 @@ pub fn decode_into<'b>(
 ) -> Result<&'b [u8], AllocError>
     requires { IsCounted out.old }
     ensures continues { (more : List ℕ) → (IsTrue is_last → more ≡ []) → IfOk result (λ rest.
-        Continues out.old (characters JIS0208 (bytes.now ++ more)) out.new (characters JIS0208 (rest.now ++ more))) }
+        Continues out.old (characters JIS0208 (bytes.now ++ more))
+        out.new (characters JIS0208 (rest.now ++ more))) }
     ensures few { IfOk result (λ rest. length rest.now < 2) }
     ensures all { IsTrue is_last → IfOk result (λ rest. rest.now ≡ []) }
     ensures counted { IsCounted out.new }
@@ -38,7 +39,7 @@ pub fn decode_into<'b>(
     Ok(rest)
 }
 
-/// The first character and the bytes behind it; none where that takes more bytes than there are.
+/// Returns the first character and the bytes after it; `None` if it is incomplete.
 fn next(bytes: &[u8], is_last: bool) -> Option<(Option<char>, &[u8])>
     ensures none { IfNone result (length bytes.now < 2) }
     ensures last { IsTrue is_last → IfNone result (bytes.now ≡ []) }
@@ -53,13 +54,14 @@ fn next(bytes: &[u8], is_last: bool) -> Option<(Option<char>, &[u8])>
     Some((alone(*lead), behind))
 }
 
-/// The character of two bytes, of which the first was read, and the bytes behind it.
+/// Returns the character of two bytes, of which the first was read, and the bytes after it.
 fn pair(lead: u8, behind: &[u8], is_last: bool) -> Option<(Option<char>, &[u8])>
     requires { IsTrue (is_lead lead) }
     ensures none { IfNone result (behind.now ≡ []) }
     ensures last { IfNone result (is_last ≡ false) }
     ensures some { (more : List ℕ) → (IsTrue is_last → more ≡ []) → IfSome result (λ next.
-        characters JIS0208 (lead ∷ (behind.now ++ more)) ≡ next.0 ∷ characters JIS0208 (next.1.now ++ more)) }
+        characters JIS0208 (lead ∷ (behind.now ++ more))
+        ≡ next.0 ∷ characters JIS0208 (next.1.now ++ more)) }
     ensures less { IfSome result (λ next. length next.1.now ≤ length behind.now) }
 {
     let Some((trail, others)) = behind.split_first() else {
@@ -72,21 +74,21 @@ fn pair(lead: u8, behind: &[u8], is_last: bool) -> Option<(Option<char>, &[u8])>
     }
 }
 
-/// Whether a byte is the first of two.
+/// Returns whether a byte is the first of two.
 fn is_lead(byte: u8) -> bool
     ensures { result ≡ is_lead byte }
 {
     (0x81 <= byte && byte <= 0x9F) || (0xE0 <= byte && byte <= 0xFC)
 }
 
-/// Whether a byte is the second of two.
+/// Returns whether a byte is the second of two.
 fn is_trail(byte: u8) -> bool
     ensures { result ≡ is_trail byte }
 {
     (0x40 <= byte && byte <= 0x7E) || (0x80 <= byte && byte <= 0xFC)
 }
 
-/// The character of a byte alone.
+/// Returns the character of a byte alone.
 fn alone(byte: u8) -> Option<char>
     ensures { result ≡ alone byte }
 {
@@ -99,7 +101,7 @@ fn alone(byte: u8) -> Option<char>
     None
 }
 
-/// The character of two bytes.
+/// Returns the character of two bytes.
 fn of_two(lead: u8, trail: u8) -> Option<char>
     requires { IsTrue (is_lead lead) }
     ensures { result ≡ of_two JIS0208 lead trail }
@@ -110,7 +112,7 @@ fn of_two(lead: u8, trail: u8) -> Option<char>
     None
 }
 
-/// The pointer of two bytes.
+/// Returns the pointer of two bytes.
 fn pointer_of(lead: u8, trail: u8) -> u16
     requires lead { IsTrue (is_lead lead) }
     requires trail { IsTrue (is_trail trail) }
@@ -121,7 +123,7 @@ fn pointer_of(lead: u8, trail: u8) -> u16
     (u16::from(lead) - first) * 188 + (u16::from(trail) - offset)
 }
 
-/// The character of a pointer.
+/// Returns the character of a pointer.
 fn of_pointer(pointer: u16) -> Option<char>
     ensures { result ≡ of_pointer JIS0208 pointer }
 {
@@ -131,7 +133,7 @@ fn of_pointer(pointer: u16) -> Option<char>
     character_at(&JIS0208, usize::from(pointer))
 }
 
-/// The character for private use so far behind the first one.
+/// Returns the private-use character at this offset from the first one.
 fn private(offset: u16) -> char
     requires { offset ≤ 1879 }
     ensures { result ≡ 0xE000 + offset }

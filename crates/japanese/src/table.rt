@@ -1,6 +1,7 @@
-//! The indexes of Japanese encodings in the Encoding Standard; 0 where a pointer has no character.
+//! The indexes of Japanese encodings in the Encoding Standard, with 0 for a pointer without a
+//! character.
 
-/// JIS X 0208, and the extensions of Shift_JIS behind it.
+/// JIS X 0208, followed by the extensions of Shift_JIS.
 #[rattlefmt::skip]
 pub(crate) static JIS0208: [u16; 11104] = [
     0x3000, 0x3001, 0x3002, 0xFF0C, 0xFF0E, 0x30FB, 0xFF1A, 0xFF1B, 0xFF1F, 0xFF01, 0x309B, 0x309C,

@@ -62,15 +62,15 @@ pub fn serialize(rt: &HostRuntime, tree: &Tree, line: &str) -> Option<()> {
     Some(())
 }
 
-/// What writes a node's HTML.
+/// The call that writes a node's HTML.
 #[derive(Clone, Copy, Debug)]
 enum Writing {
     WriteHtml,
     Serialize,
 }
 
-/// How a node's HTML is written to a writer that takes so many writes of so many bytes, and what
-/// that got.
+/// Writes a node's HTML to a writer that accepts `left` writes of at most `most` bytes. Returns how
+/// that ends, and the writer.
 fn write_into(
     alloc: Global,
     node: &NodeRef<'_>,
@@ -89,8 +89,8 @@ fn write_into(
     (ended, out)
 }
 
-/// How a node's HTML is written where the writer takes so many bytes in each write, and fails at
-/// the first write, at the second, and so on, until none fails: `N`.
+/// Prints how writing a node's HTML ends if the writer accepts so many bytes in each write and
+/// fails at the first write, at the second, and so on, until none fails: `N`.
 pub fn write_failing(rt: &HostRuntime, tree: &Tree, line: &str) -> Option<()> {
     let node = NodeRef::new(NodeId::new(line.parse::<usize>().ok()?)?, tree);
     for writing in &[Writing::WriteHtml, Writing::Serialize] {
@@ -101,8 +101,8 @@ pub fn write_failing(rt: &HostRuntime, tree: &Tree, line: &str) -> Option<()> {
     Some(())
 }
 
-/// Prints the number of writes that are enough, whether fewer got beginnings of the whole, and
-/// whether these got it.
+/// Prints the number of writes that are enough, whether with fewer writes the writer got a
+/// beginning of the whole output, and whether with that many it got all of it.
 fn write_until_whole(
     rt: &HostRuntime,
     node: &NodeRef<'_>,
@@ -125,8 +125,8 @@ fn write_until_whole(
     Some(())
 }
 
-/// How a drive with these words ends whose reader is given, and whose writer takes so many writes:
-/// its status, and what it says on standard error.
+/// Calls `drive` with these words, this reader and a writer that accepts `left` writes of at most
+/// `most` bytes. Returns the status, and prints what `drive` reports.
 fn drive_into<R: Read>(
     rt: &HostRuntime,
     words: &[String],

@@ -163,8 +163,8 @@ pub fn ask(rt: &HostRuntime, tree: &Tree, line: &str) -> Option<()> {
     Some(())
 }
 
-/// Whether a node is a document, a doctype, a text, a comment, an element, a link, a fragment, and
-/// whether it may have children.
+/// Returns whether a node is a document, a doctype, a text, a comment, an element, a link, a
+/// fragment, and whether it may have children.
 fn node_kinds(node: &TreeNode) -> [bool; 8] {
     [
         node.is_document(),
@@ -178,7 +178,7 @@ fn node_kinds(node: &TreeNode) -> [bool; 8] {
     ]
 }
 
-/// The same questions as in `node_kinds`, for a node's data, and whether it is a document or a
+/// Returns what `node_kinds` returns, for a node's data, and whether it is a document or a
 /// fragment.
 fn data_kinds(data: &NodeData) -> [bool; 9] {
     [

@@ -230,7 +230,7 @@ pub fn ask(rt: &HostRuntime, tree: &Tree, line: &str) -> Option<()> {
     Some(())
 }
 
-/// The first child element of a node, its last sibling, and the nearest elements beside it.
+/// Returns the first child element of a node, its last sibling, and the nearest elements beside it.
 fn around(nodes: &[TreeNode], t: NodeId) -> [Option<NodeId>; 4]
     requires { IsSoundArena nodes.now }
 {
@@ -242,8 +242,8 @@ fn around(nodes: &[TreeNode], t: NodeId) -> [Option<NodeId>; 4]
     ]
 }
 
-/// The first results of iterators: over the ancestors of a node; over its children from both ends;
-/// over its descendants, from the second one on, by the iterator and by a copy of it.
+/// Returns the first results of iterators: over the ancestors of a node; over its children from
+/// both ends; over its descendants, from the second one on, by the iterator and by a copy of it.
 fn walks(nodes: &[TreeNode], t: NodeId) -> [Option<NodeId>; 5]
     requires { IsSoundArena nodes.now }
 {
@@ -259,8 +259,8 @@ fn walks(nodes: &[TreeNode], t: NodeId) -> [Option<NodeId>; 5]
     ]
 }
 
-/// Whether `t` may have children and siblings, and whether `x` alone, `x` with its later siblings,
-/// and all siblings of `x` may be moved there.
+/// Returns whether `t` may have children and siblings, and whether `x` alone, `x` with its later
+/// siblings, and all siblings of `x` may be moved there.
 fn allowed(nodes: &[TreeNode], t: NodeId, x: NodeId) -> Option<[bool; 5]>
     requires { IsSoundArena nodes.now }
 {

@@ -1,5 +1,5 @@
-//! Help for the test programs: splitting the lines that they are given into words, reading names
-//! and attributes in them, and printing answers.
+//! Help for the test programs: splitting lines of input into words, reading names and attributes in
+//! them, and printing answers.
 #![tactic(auto)]
 
 pub mod names;

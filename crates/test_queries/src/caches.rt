@@ -109,8 +109,8 @@ pub fn index(rt: &HostRuntime, tree: &Tree, line: &str) -> Option<()> {
     Some(())
 }
 
-/// Which elements match selectors that are asked in turn with one cache, and which match each of them
-/// without one: `SELECTOR ; SELECTOR ..`.
+/// Prints which elements each of the selectors matches with one cache for all of them, and which it
+/// matches without a cache: `SELECTOR ; SELECTOR ..`.
 pub fn match_cached(rt: &HostRuntime, tree: &Tree, line: &str) {
     let mut caches = SelectorCaches::new(tree);
     for text in line.split(';') {
@@ -141,8 +141,8 @@ fn show_matched(rt: &HostRuntime, tree: &Tree, matcher: &Matcher) {
     end(rt);
 }
 
-/// How many elements match selectors that are asked in turn with one cache, and how many indexes
-/// the cache has given again after each: `SELECTOR ; SELECTOR ..`.
+/// Prints how many elements each of the selectors matches with one cache for all of them, and how
+/// many indexes were found in the cache so far: `SELECTOR ; SELECTOR ..`.
 pub fn count_hits(rt: &HostRuntime, tree: &Tree, line: &str) {
     let mut caches = SelectorCaches::new(tree);
     for text in line.split(';') {

@@ -1,5 +1,5 @@
-//! Edits of the document before it is asked. They make elements that no markup reads as, and nodes
-//! whose ids are not in document order.
+//! Edits of the document before it is tested. They make elements that no markup can produce, and
+//! nodes whose ids aren't in document order.
 
 use dom_markup::document::Document;
 use dom_markup::document::sink::{ElementFlags, TreeSink};

@@ -37,7 +37,8 @@ pub fn select(rt: &HostRuntime, document: &Document, line: &str) {
     }
 }
 
-/// What a selector selects in a fragment, which is all in an element `html`: `SELECTOR MARKUP`.
+/// Prints what a selector selects in a fragment, which is inside an element `html`: `SELECTOR
+/// MARKUP`.
 pub fn select_in_fragment(rt: &HostRuntime, line: &str) {
     let (text, markup) = cut(line);
     if let Some(matcher) = matcher_of(rt, text) {
@@ -78,8 +79,8 @@ pub fn show_each(rt: &HostRuntime, what: &str, matches: MatcherIter<'_, '_, '_>)
     end(rt);
 }
 
-/// Prints what is selected below roots by each strategy: by testing each node, as the structure of
-/// the list suggests, and with tables.
+/// Prints what is selected below roots by each strategy: by testing each node, by the strategy that
+/// the structure of the list suggests, and with node sets.
 fn list_below(rt: &HostRuntime, tree: &Tree, roots: &[NodeId], matcher: &Matcher) {
     let found = select_below_all(tree, roots, matcher);
     show_ids_read(rt, "select_below_all", found);
@@ -102,7 +103,8 @@ pub fn select_below_several(rt: &HostRuntime, tree: &Tree, line: &str) -> Option
     Some(())
 }
 
-/// How many nodes an index selects below the root, and how many tests that takes: `SELECTOR`.
+/// Prints how many nodes an index selects below the root, and how many tests that takes:
+/// `SELECTOR`.
 pub fn count_tests(rt: &HostRuntime, tree: &Tree, line: &str) {
     if let Some(matcher) = matcher_of(rt, line) {
         match TreeIndex::new(tree) {

@@ -176,7 +176,7 @@ fn choose_by_matcher(rt: &HostRuntime, all: &Selection<'_>, matcher: &Matcher) {
     show_found(rt, "add_matcher", all.add_matcher(matcher));
 }
 
-/// Prints what combinations of the nodes of two selectors give: `OTHER SELECTOR`.
+/// Prints the nodes of combinations of two selections: `OTHER SELECTOR`.
 pub fn combine(rt: &HostRuntime, document: &Document, line: &str) {
     let (other, text) = cut(line);
     match (document.select(text), document.select(other)) {

@@ -1,7 +1,7 @@
 //! A program that measures the time of calls on the markup from standard input, within its process.
 //! `test_times CALL RUNS SELECTOR` prints the shortest time of that many runs, in nanoseconds, and
-//! what the call counted. `test_times` without arguments makes each call once and prints only its
-//! count.
+//! what the call counted. Without arguments it makes each call once and prints only what it
+//! counted.
 #![tactic(auto)]
 
 use dom_html5::{Options, parse_page};
@@ -291,7 +291,7 @@ fn count_found(page: &Page<'_>, call: Call) -> Option<usize> {
     }
 }
 
-/// What an index counts below the root, or selects there.
+/// Returns how many nodes an index finds or selects below the root.
 fn count_indexed(index: &mut TreeIndex<'_>, matcher: &Matcher, call: Call) -> Option<usize> {
     match call {
         Call::Index => index.last_below(&NodeId::root()),

@@ -34,7 +34,7 @@ SELDOM = {
 }
 PAGE = [("doctype", "html"), ("start", "html", []), ("start", "head", []), ("end", "head"), ("start", "body", [])]
 CONTEXTS = ["body", "div", "li", "td", "blockquote", "table", "tbody", "tr", "caption", "colgroup"]
-# lists of tokens in which a name stands for NAME
+# lists of tokens in which a name replaces NAME
 BEFORE_BODY = ["!d <NAME x", "!d </NAME x", "!d <html <NAME x", "!d <html </NAME x", "!d <html <head <NAME x", "!d <html <head </NAME x",
                "!d <html <head </head <NAME x", "!d <html <head </head </NAME x"]
 AROUND = ["%s", "<p %s", "<div %s", "<b %s", "<span %s", "<ul <li %s", "<dl <dd %s", "<h1 %s", "<button %s", "<object %s", "<ruby %s", "<form %s", "<table %s",

@@ -49,7 +49,7 @@ def rule_facts(crate):
         out.append(name + " = " + "".join("(%s, " % proof for _ in names) + "tt" + ")" * len(names))
 
     closes = "λ b number attrs children o os. " + three("refl")
-    ordinary = record(closes=closes, ends="refl", unlisted="(refl, refl)", passes="λ c m ms. refl")
+    ordinary = record(closes=closes, ends="refl", quiet="refl", unlisted="(refl, refl)", passes="λ c m ms. refl")
     by_h, by_hk = three("rw h refl"), three("rw (h, k) refl")
     opens = {
         "block": ("ABlock", "OpensBlock", "λ attrs b h. " + by_h), "list": ("AList", "OpensBlock", "λ attrs b h. " + by_h),
@@ -73,20 +73,20 @@ def rule_facts(crate):
             fact(short + "_barless", "Barless", of, record(no_p="refl", no_a="refl", no_button="refl"), None)
     fact("formatting_opens", "OpensFormatting", "AFormatting", "λ attrs b h. " + three("rw (h, act) refl"))
     for short, of in (("formatting", "AFormatting"), ("anchor", "AnAnchor")):
-        fact(short + "_is", "Formatting", of, record(closes="λ b c h. " + by_h, ends="refl", listed="(refl, refl)", passes="λ c m ms. refl"))
+        fact(short + "_is", "Formatting", of, record(closes="λ b c h. " + by_h, ends="refl", quiet="refl", listed="(refl, refl)", passes="λ c m ms. refl"))
         fact(short + "_no_heading", NO_HEADING, of, "refl", None)
     fact("formatting_barless", "Barless", "AFormatting", record(no_p="refl", no_a="refl", no_button="refl"), None)
     fact("list_holds", "HoldsItems (names_of AnItem)", "AList", "λ number attrs children os. refl", None)
     fact("description_list_holds", "HoldsItems (names_of ADescription)", "ADescriptionList", "λ number attrs children os. refl", None)
-    fact("void_is", "IsVoid", "AVoid", record(made="λ attrs b o os h. " + three("rw (h, act) refl"), ends="refl"))
-    fact("break_is", "IsBreak", "ABreak", record(made="λ attrs b o os h. " + by_h, ends="refl"))
-    fact("source_is", "IsSource", "ASource", record(made="λ attrs b o os. " + three("refl"), ends="refl"))
+    fact("void_is", "IsVoid", "AVoid", record(made="λ attrs b o os h. " + three("rw (h, act) refl"), ends="refl", quiet="refl"))
+    fact("break_is", "IsBreak", "ABreak", record(made="λ attrs b o os h. " + by_h, ends="refl", quiet="refl"))
+    fact("source_is", "IsSource", "ASource", record(made="λ attrs b o os. " + three("refl"), ends="refl", quiet="refl"))
     fact("raw_text_is", "IsRawText", "ARawText", record(
         opens="λ attrs b. " + three("refl"), opens_in_head="λ attrs b. refl", closes="λ b number attrs children o os. refl", ends="refl"))
-    leaf = record(made="λ attrs b o os. refl", ends="refl")
+    leaf = record(made="λ attrs b o os. refl", ends="refl", quiet="refl")
     fact("metadata_is", "IsLeafIn InHead", "AMetadata", leaf)
     fact("column_is", "IsLeafIn InColumnGroup", "AColumn", leaf)
-    part = dict(opens="λ b attrs bs n children o os. refl", closes="λ b attrs n children o os. refl", ends="refl")
+    part = dict(opens="λ b attrs bs n children o os. refl", closes="λ b attrs n children o os. refl", ends="refl", quiet="refl")
     plain = record(**part, unlisted="(refl, refl)")
     marked = record(**part, gives="λ c m ms. refl", marker="refl", unlisted="refl")
     fact("caption_is", 'IsMarkedPart InTable (codes "table") InCaption', "ACaption", marked)
@@ -95,10 +95,10 @@ def rule_facts(crate):
     fact("row_group_is", 'IsPart InTable (codes "table") InTableBody', "ARowGroup", plain)
     fact("row_is", 'λ parent. IsPart InTableBody parent InRow (codes "tr")', "ARowGroup", plain)
     fact("table_is", "IsTable", "ATable", record(
-        opens="λ attrs b h. " + by_h, ends="refl", unlisted="(refl, refl)",
+        opens="λ attrs b h. " + by_h, ends="refl", quiet="refl", unlisted="(refl, refl)",
         closes="λ b attrs n children o os mode h. ap (in_found_mode (with_stack b (grown o (codes \"table\") attrs children ∷ os))) h"))
     fact("form_is", "IsForm", "AForm", record(
-        opens="form_opens", closes="form_closes", ends="refl", unlisted="(refl, refl)", passes="λ c m ms. refl"), None)
+        opens="form_opens", closes="form_closes", ends="refl", quiet="refl", unlisted="(refl, refl)", passes="λ c m ms. refl"), None)
     for short, of in (("table", "ATable"), ("caption", "ACaption"), ("column_group", "AColumnGroup"), ("row_group", "ARowGroup"), ("row", "ARow"),
                       ("cell", "ACell"), ("form", "AForm")):
         fact(short + "_barless", "Barless", of, record(no_p="refl", no_a="refl", no_button="refl"), None)

@@ -300,7 +300,7 @@ class Builder:
 
 
 def tokens_of(trees):
-    """The tokens that stand for trees: a start tag, the children, and an end tag unless the element is void."""
+    """The tokens of trees: a start tag, the children, and an end tag unless the element is void."""
     out = []
     for t in trees:
         if t[0] == "text":

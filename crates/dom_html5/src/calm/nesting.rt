@@ -1,8 +1,9 @@
 //! Which nodes may be children of which, so that tree construction leaves the tree as it is.
 
 ghost use Rattle.std.specs.Prelude.{◌≡◌, if◌then◌else◌};
-ghost use Rattle.dom_html5.specs.Calm.{admits, bars, inside, may_hold_comment, may_hold_text};
-ghost use Rattle.dom_html5.specs.Scopes.{next_scope, scope_below};
+ghost use Rattle.dom_html5.specs.Calm.{admits, bars, behind, behind_first, inside};
+ghost use Rattle.dom_html5.specs.Calm.{may_hold_comment, may_hold_text};
+ghost use Rattle.dom_html5.specs.Scopes.{next_scope, scope_at, scope_below};
 
 use crate::calm::texts::{begins_line, has_close, is_whitespace, lacks_greater_than};
 use dom_nodes::node_data::{NodeData, TreeNode};
@@ -48,7 +49,7 @@ impl Scope {
     }
 
     /// Returns the scope of the children of an element of that category.
-    fn inside(&self, kind: ElementCategory) -> Scope
+    pub fn inside(&self, kind: ElementCategory) -> Scope
         ensures { result ≡ inside self.now kind }
     {
         let mut scope = *self;
@@ -63,8 +64,24 @@ impl Scope {
         scope
     }
 
+    /// Returns the scope of the later siblings of a node in this scope.
+    pub fn behind(&self) -> Scope
+        ensures { result ≡ behind self.now }
+    {
+        let mut scope = *self;
+        scope.parent = behind_first(self.parent);
+        scope
+    }
+
+    /// Returns the scope of a child, the first one or a later one.
+    fn at(&self, is_first: bool) -> Scope
+        ensures { result ≡ scope_at is_first self.now }
+    {
+        if is_first { *self } else { self.behind() }
+    }
+
     /// Returns whether an element of that category may be in this scope.
-    fn admits(&self, kind: ElementCategory) -> bool
+    pub fn admits(&self, kind: ElementCategory) -> bool
         ensures { result ≡ admits self.now kind }
     {
         self.parent.may_hold(kind) && !self.bars(kind)
@@ -113,11 +130,22 @@ pub fn next_scope(node: &TreeNode, scopes: &[Scope]) -> Option<Scope>
 {
     let parent = node.parent.get()?;
     let scope = scopes.get(parent.value())?;
-    scope.below(&node.content)
+    let is_first = parent.value() + 1 == scopes.len();
+    scope.at(is_first).below(&node.content)
+}
+
+/// Returns the category by which children after the first are judged: a `pre` is then like any block.
+fn behind_first(kind: ElementCategory) -> ElementCategory
+    ensures { result ≡ behind_first kind }
+{
+    match kind {
+        ElementCategory::Pre => ElementCategory::Block,
+        _ => kind,
+    }
 }
 
 /// Returns whether such an element may have this text as a child.
-fn holds_text(parent: ElementCategory, contents: &str) -> bool
+pub fn holds_text(parent: ElementCategory, contents: &str) -> bool
     ensures { result ≡ may_hold_text parent contents.now }
 {
     match parent {

@@ -1,4 +1,5 @@
-//! Tests of a page's bytes: whether both parsers read them alike.
+//! Tests of a page's bytes: whether the parser of explicit markup and the HTML tokenizer read them
+//! alike.
 
 ghost use Rattle.std.specs.Prelude.{◌≡◌, ◌==◌, ◌↔◌, IsTrue, not};
 ghost use Rattle.std.specs.List.{list_all};
@@ -30,7 +31,8 @@ pub fn is_framed(page: &str) -> bool
     bytes[length - 14..].eq_ignore_ascii_case(b"</body></html>")
 }
 
-/// Returns whether each byte of the page is calm, that is, both parsers read it alike.
+/// Returns whether each byte of the page is calm, that is, the parser of explicit markup and the
+/// HTML tokenizer read it alike.
 pub fn is_calm_text(page: &str) -> bool
     ensures { result ≡ is_calm_text page.now }
 {
@@ -44,7 +46,7 @@ pub fn is_calm_text(page: &str) -> bool
     is_calm_at(b'&', bytes) && is_calm_at(b'<', bytes)
 }
 
-/// Returns whether each occurrence of this byte is calm.
+/// Returns whether each occurrence of this byte is read alike by both parsers.
 #[inline(always)]
 fn is_calm_at(byte: u8, bytes: &[u8]) -> bool
     ensures { result ≡ is_calm_at byte bytes.now }
@@ -63,8 +65,8 @@ fn is_calm_at(byte: u8, bytes: &[u8]) -> bool
     true
 }
 
-/// Returns whether a byte before these bytes is calm: not a null, not a carriage return, no `&`
-/// that the two parsers read differently, and no `<` of a tag that calm pages don't have.
+/// Returns whether both parsers read a byte before these bytes alike: it isn't a null or a carriage
+/// return, an `&` that the two read differently, or the `<` of a tag that calm pages don't have.
 #[inline(always)]
 fn is_calm_byte(byte: u8, after: &[u8]) -> bool
     ensures { result ≡ is_calm_byte byte after.now }

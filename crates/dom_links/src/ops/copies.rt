@@ -308,8 +308,8 @@ fn copy_alone(
     Ok(made)
 }
 
-/// Copies one node without its subtree. Short texts and bare elements, which most nodes are, have
-/// quick ways of their own.
+/// Copies one node without its subtree. Most nodes are short texts or elements without attributes
+/// and template contents, so these have a quick way of their own.
 #[inline(always)]
 fn add_copy(
     nodes: &mut Vec<TreeNode>,
@@ -350,7 +350,7 @@ fn source_node<'a>(other: Option<&'a [TreeNode]>, nodes: &'a [TreeNode], id: Nod
     }
 }
 
-/// Returns the data of the copy if the node is a short text.
+/// Returns the data of the copy if the node is a short text, and `None` otherwise.
 #[inline(always)]
 fn copy_text(node: &TreeNode, number: usize) -> Option<NodeData>
     ensures { IfSome result (λ made. made ≡ copied_data number node.now.content) }
@@ -358,7 +358,8 @@ fn copy_text(node: &TreeNode, number: usize) -> Option<NodeData>
     node.content.short_text()
 }
 
-/// Returns the data of the copy if the node is a bare element.
+/// Returns the data of the copy if the node is an element without attributes and template contents,
+/// and `None` otherwise.
 #[inline(always)]
 fn copy_element(node: &TreeNode, number: usize) -> Option<NodeData>
     ensures { IfSome result (λ made. made ≡ copied_data number node.now.content) }

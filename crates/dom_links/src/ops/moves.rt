@@ -1,5 +1,5 @@
-//! The moves of nodes. They allocate no memory and can't fail; that a move is possible is a
-//! condition of the call, and `placing` has the tests for it.
+//! The moves of nodes. They allocate no memory and can't fail. A call requires that the move is
+//! possible; `placing` has the tests for that.
 
 ghost use Rattle.std.specs.Prelude.{◌≡◌, ◌<◌, [], ◌∷◌, false, length, Some};
 ghost use Rattle.dom_links.specs.Forest.{IsArenaOf, forest_of, run_of};

@@ -21,8 +21,9 @@ use std::alloc::Global;
 
 impl TreeNodeOps {
     /// Replaces the children of an element by one text node, or the contents of a text node. Other
-    /// nodes and unknown ids are left alone. It fails with `Memory` for an element or a text, and
-    /// with `TooManyNodes` for an element when no id is left; then nothing changes.
+    /// nodes are left alone, and for an unknown id nothing happens. It fails with `Memory` for an
+    /// element or a text, and with `TooManyNodes` for an element when no id is left; then nothing
+    /// changes.
     pub fn set_text(nodes: &mut Vec<TreeNode>, id: NodeId, text: &str) -> Result<(), EditFault>
         requires { IsSoundArena nodes.old.items }
         ensures { Becomes result nodes.old nodes.new (with_text_content id text.now)

@@ -39,7 +39,7 @@ impl TreeNodeOps {
         found
     }
 
-    /// Returns the nearest element among the siblings after a node.
+    /// Returns the nearest element among the siblings after a node, or `None` when there is none.
     pub fn next_element_sibling_of(nodes: &[TreeNode], id: &NodeId) -> Option<NodeId>
         requires { IsSoundArena nodes.now }
         ensures { result ≡ find (element_at (forest_of nodes.now))
@@ -48,7 +48,7 @@ impl TreeNodeOps {
         first_element_on(nodes, next_sibling_id(nodes, id), false)
     }
 
-    /// Returns the nearest element among the siblings before a node.
+    /// Returns the nearest element among the siblings before a node, or `None` when there is none.
     pub fn prev_element_sibling_of(nodes: &[TreeNode], id: &NodeId) -> Option<NodeId>
         requires { IsSoundArena nodes.now }
         ensures { result ≡ find (element_at (forest_of nodes.now))
@@ -57,7 +57,7 @@ impl TreeNodeOps {
         first_element_on(nodes, prev_sibling_id(nodes, id), true)
     }
 
-    /// Returns the first element among the children of a node.
+    /// Returns the first element among the children of a node, or `None` when there is none.
     pub fn first_element_child_of(nodes: &[TreeNode], id: &NodeId) -> Option<NodeId>
         requires { IsSoundArena nodes.now }
         ensures { result ≡ find (element_at (forest_of nodes.now))
@@ -67,7 +67,7 @@ impl TreeNodeOps {
     }
 }
 
-/// Returns the first one in the list of siblings that the node belongs to, which may be the node
+/// Returns the first node of the list of siblings that the node belongs to, which may be the node
 /// itself.
 pub fn first_sibling_of(nodes: &[TreeNode], x: NodeId) -> NodeId
     requires linked { IsArenaOf (forest_of nodes.now) nodes.now }
@@ -83,7 +83,7 @@ pub fn first_sibling_of(nodes: &[TreeNode], x: NodeId) -> NodeId
     at
 }
 
-/// Returns the first child of a node.
+/// Returns the first child of a node, or `None` when there is none.
 pub fn first_child_of(nodes: &[TreeNode], x: NodeId) -> Option<NodeId>
     requires linked { IsArenaOf (forest_of nodes.now) nodes.now }
     requires known { x < length nodes.now }
@@ -95,7 +95,7 @@ pub fn first_child_of(nodes: &[TreeNode], x: NodeId) -> Option<NodeId>
     nodes[x.value()].first_child.get()
 }
 
-/// Returns the parent of a node if that is an element.
+/// Returns the parent of a node if that is an element, and `None` otherwise.
 fn element_above_of(nodes: &[TreeNode], n: NodeId) -> Option<NodeId>
     requires linked { IsArenaOf (forest_of nodes.now) nodes.now }
     requires known { n < length nodes.now }
@@ -109,7 +109,8 @@ fn element_above_of(nodes: &[TreeNode], n: NodeId) -> Option<NodeId>
     }
 }
 
-/// Returns the parent of a node if both the parent and the grandparent are elements.
+/// Returns the parent of a node if both the parent and the grandparent are elements, and `None`
+/// otherwise.
 pub fn wrapper_of(nodes: &[TreeNode], x: NodeId) -> Option<NodeId>
     requires linked { IsArenaOf (forest_of nodes.now) nodes.now }
     requires known { x < length nodes.now }
@@ -138,7 +139,8 @@ fn first_element_on(nodes: &[TreeNode], from: Option<NodeId>, rev: bool) -> Opti
     None
 }
 
-/// Returns the next sibling of a node, or the previous one if `rev` is true.
+/// Returns the next sibling of a node, or the previous one if `rev` is true; `None` when there is
+/// none.
 pub(crate) fn neighbour(node: &TreeNode, rev: bool) -> Option<NodeId>
     ensures { result ≡ (if rev then node.now.prev_sibling else node.now.next_sibling) }
 {

@@ -61,8 +61,8 @@ fn parents_or_hosts(
     Ok(ups)
 }
 
-/// Returns whether the steps from a node to its parent, or to its host when it has no parent, lead
-/// back to a node.
+/// Returns whether a node leads back to itself by steps from each node to its parent, or to its
+/// host when it has no parent.
 pub(crate) fn has_ancestor_cycle(
     alloc: Global,
     nodes: &[TreeNode],
@@ -88,7 +88,7 @@ fn siblings_before(alloc: Global, nodes: &[TreeNode]) -> Result<Vec<Option<NodeI
     Ok(prevs)
 }
 
-/// Returns whether the steps from a node to its previous sibling lead back to a node.
+/// Returns whether a node leads back to itself by steps from each node to its previous sibling.
 pub(crate) fn has_sibling_cycle(alloc: Global, nodes: &[TreeNode]) -> Result<bool, AllocError>
     requires { AreLinksKnown nodes.now }
     ensures { IfOk result (λ ring. FindsCycle ring (prev_link nodes.now)) }

@@ -57,7 +57,7 @@ impl Document {
     }
 }
 
-/// Returns the parser's fault for a limit that copying met.
+/// Returns the parser's fault for an edit that ran out of node ids or memory.
 fn limit_of(fault: EditFault) -> MarkupFaultKind
     ensures is { result ≡ limit_kind fault }
     ensures limit { IsLimitFault result }
@@ -68,7 +68,7 @@ fn limit_of(fault: EditFault) -> MarkupFaultKind
     }
 }
 
-/// A node as a document of its own.
+/// Copying a node into a document of its own.
 pub trait NodeFragment {
     ghost use Rattle.dom_links.specs.Forest.{Forest};
     ghost use Rattle.std.specs.Prelude.{ℕ};

@@ -134,8 +134,8 @@ fn other_front<'a>(
     Ok((front, rest))
 }
 
-/// Returns the start tag, plain text or end tag at the start of markup, if it is one that can be
-/// read quickly.
+/// Returns the start tag, the text without character references or the end tag at the start of
+/// markup, if it is one that can be read quickly.
 #[inline(always)]
 fn common_lexeme(text: &str) -> Option<(Lexeme<'_>, &str)>
     requires { text.now ≢ [] }
@@ -153,8 +153,8 @@ fn common_lexeme(text: &str) -> Option<(Lexeme<'_>, &str)>
     Some((Lexeme::EndTag(name), rest))
 }
 
-/// Returns the token at the start of the text, and the text after it. Common tokens are read
-/// without a call.
+/// Returns the token at the start of the text, and the text after it. Fails with the kind of the
+/// fault if no token starts there. Common tokens are read without a call.
 #[inline(always)]
 pub fn front_at<'a>(
     text: &'a str,

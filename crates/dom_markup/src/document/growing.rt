@@ -236,7 +236,7 @@ fn move_behind(list: &mut Vec<Attr>, attrs: &mut Vec<Attr>) -> Result<(), OutOfM
     Ok(())
 }
 
-/// Gives each waiting element its range of the attributes; the elements share the list.
+/// Stores in each waiting element its range of the attributes; the elements share the list.
 fn give(
     tree: &mut DeferredTexts<'_>,
     attrs: Vec<Attr>,

@@ -72,7 +72,7 @@ impl<'a> DeferredTexts<'a> {
         })
     }
 
-    /// The allocator of the tree.
+    /// Returns the allocator of the tree.
     pub fn allocator(&self) -> Global {
         self.tree.allocator()
     }
@@ -154,7 +154,8 @@ impl<'a> DeferredTexts<'a> {
         }
     }
 
-    /// Adds those attributes to the element whose names it does not have yet.
+    /// Adds to the element those of the attributes whose names it doesn't have yet. Fails only when
+    /// memory runs out.
     pub fn add_attrs(&mut self, number: &NodeId, attrs: Attrs) -> Result<(), OutOfMemory>
         ensures { OnOk result (self.new
             ≡ with_content number.now (with_attrs (with_missing attrs)) self.old) }
@@ -192,7 +193,7 @@ impl<'a> DeferredTexts<'a> {
     }
 }
 
-/// Returns the parser's fault for a limit that an edit met.
+/// Returns the parser's fault for an edit that ran out of node ids or memory.
 fn limit_of(fault: EditFault) -> MarkupFaultKind
     requires { IsLimit fault }
     ensures { result ≡ limit_kind fault }
@@ -227,7 +228,7 @@ fn give(tree: &mut Tree, late: &[Late], bytes: usize) -> Result<(), OutOfMemory>
     share(tree, late, &block)
 }
 
-/// Gives each waiting text its part of the block.
+/// Stores in each waiting text its part of the block.
 fn share(tree: &mut Tree, late: &[Late], block: &TextBlock) -> Result<(), OutOfMemory>
     requires texts { block.now ≡ joined late.now }
     requires fits { length block.now < 18446744073709551616 }

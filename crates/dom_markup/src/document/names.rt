@@ -1,4 +1,4 @@
-//! Which elements the parser treats specially, asked by the name in a tag.
+//! Tests of whether the parser treats an element specially, by the name in its tag.
 
 ghost use Rattle.std.specs.Prelude.{◌≡◌, List, ℕ, MatchBool, true};
 ghost use Rattle.std.specs.List.{list_all, list_any};
@@ -24,7 +24,8 @@ pub fn is_void(name: &str) -> bool
     is_one_of(&VOID_NAMES, name)
 }
 
-/// Returns whether the element is a raw text element, in whose text nothing is resolved.
+/// Returns whether the element is a raw text element, in whose text character references aren't
+/// resolved.
 pub fn is_raw(name: &str) -> bool
     ensures { result ≡ is_among (folded name.now) raw_names }
 {

@@ -9,7 +9,7 @@ use crate::document::scan::{bytes_from, strip_all};
 use crate::document::tags::end_tag_end;
 use memchr::memchr;
 
-/// Returns what follows the end tag of this name, if the text starts with it.
+/// Returns what follows the end tag of this name, if the text starts with it; otherwise `None`.
 pub fn after_end<'a>(text: &'a str, name: &str) -> Option<&'a str>
     ensures { Leaves (BeginsEnd text.now (folded name.now)) result }
 {
@@ -21,7 +21,8 @@ pub fn after_end<'a>(text: &'a str, name: &str) -> Option<&'a str>
     Some(rest)
 }
 
-/// Splits the text before the first end tag of this name; `None` if there is none.
+/// Splits the text before the first end tag of this name, and returns the two parts; `None` if
+/// there is no such end tag.
 pub fn split_raw<'a>(text: &'a str, name: &str) -> Option<(&'a str, &'a str)>
     ensures some { IfSome result (λ f. EndsAtTag (folded name.now) text.now f.0.now f.1.now) }
     ensures none { IfNone result (LacksEnd (folded name.now) text.now) }

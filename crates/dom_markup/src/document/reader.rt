@@ -370,7 +370,7 @@ impl<'a> Reader<'a> {
     }
 
     /// Reads the token at the start of the text, and returns what follows it. Fails if no token
-    /// starts there, if the token is out of place, or with a limit.
+    /// starts there or if the token is out of place, and with `TooManyNodes` or `Memory`.
     #[inline(always)]
     pub fn read(
         &mut self,

@@ -134,7 +134,7 @@ pub fn split_front(byte_class: ByteClass, text: &str) -> (&str, &str)
     text.split_at(class_len(byte_class, text.as_bytes()))
 }
 
-/// Returns the rest of the text, if it starts with this ASCII character.
+/// Returns the text after this ASCII character, if it starts with the character; otherwise `None`.
 #[inline(always)]
 pub fn strip(text: &str, letter: char) -> Option<&str>
     requires { letter < 128 }
@@ -149,7 +149,7 @@ pub fn strip(text: &str, letter: char) -> Option<&str>
     Some(&text[1..])
 }
 
-/// Returns the rest of the text, if it starts with `front`.
+/// Returns the text after `front`, if it starts with `front`; otherwise `None`.
 pub fn strip_all<'a>(text: &'a str, front: &str) -> Option<&'a str>
     ensures { Leaves (λ rest. text.now ≡ front.now ++ rest) result }
 {
@@ -200,7 +200,8 @@ fn text_len(bytes: &[u8]) -> usize
     bytes.len()
 }
 
-/// Splits the text before the first tag, comment, doctype or processing instruction.
+/// Splits the text before the first tag, comment, doctype or processing instruction, and returns
+/// the two parts. Without any of these, the second part is empty.
 #[inline(always)]
 pub fn split_text(text: &str) -> (&str, &str)
     ensures front { result.0.now ≡ text_front text.now }
@@ -223,8 +224,9 @@ fn plain_len(bytes: &[u8]) -> Option<usize>
     Some(at)
 }
 
-/// Splits like `split_text`, in the common case alone: the first `<` starts a tag or the like, no
-/// `&` comes before it, and it is found at least sixteen bytes at a time. Otherwise `None`.
+/// Does what `split_text` does, but only in the common case: the first `<` starts a tag or the
+/// like, no `&` comes before it, and it isn't among the last bytes, which are not searched.
+/// Otherwise the result is `None`.
 #[inline(always)]
 pub fn split_plain(text: &str) -> Option<(&str, &str)>
     ensures front { IfSome result (λ found. found.0.now ≡ text_front text.now) }
@@ -266,7 +268,8 @@ pub fn comment_at(text: &str) -> Option<(&str, &str)>
 
 // ---- attributes
 
-/// Splits the text at the first occurrence of this ASCII character, which is left out.
+/// Splits the text at the first occurrence of this ASCII character, which belongs to neither part;
+/// `None` if the character doesn't occur.
 #[inline(always)]
 pub fn split_letter(text: &str, letter: u8) -> Option<(&str, &str)>
     requires { letter < 128 }
@@ -388,8 +391,8 @@ fn spaced_name(text: &str) -> Option<(&str, &str)>
     Some((name, behind))
 }
 
-/// Returns the attribute at the start and the rest, or `None`. Most tags end where there is no
-/// whitespace, so that is tested first.
+/// Returns the attribute at the start of the text and the text after it, or `None` if no attribute
+/// starts there. Most tags end where there is no whitespace, so that is tested first.
 #[inline(always)]
 pub fn attribute_at(text: &str) -> Option<(Written<'_>, &str)>
     ensures some { IfSome result (λ f. BeginsAttribute text.now (attribute_in f.0) f.1.now) }
@@ -411,7 +414,8 @@ pub fn attribute_at(text: &str) -> Option<(Written<'_>, &str)>
     ))
 }
 
-/// Returns the text after the end of a tag, which is `>`, or also `/>` if `slash` is true.
+/// Returns the text after the end of a tag, which is `>`, or also `/>` if `slash` is true; `None`
+/// if the text doesn't start with one of these.
 #[inline(always)]
 pub fn close_at(text: &str, slash: bool) -> Option<&str>
     ensures { Leaves (Closes slash text.now) result }

@@ -36,7 +36,7 @@ pub trait TreeSink {
     // The document that is filled.
     ghost document: { Self → Document };
 
-    /// Returns the document, once all is parsed.
+    /// Returns the document. A parser calls this at its end.
     fn finish(self) -> Document
         ensures { result ≡ document self };
 
@@ -126,9 +126,9 @@ pub trait TreeSink {
         ensures { EditsIn result (document self.old) (document self.new)
             (appending 0 (doctype_node name.now public_id.now system_id.now)) };
 
-    /// Adds those attributes to the element whose names, with prefix and namespace, it doesn't have
-    /// yet. A node that is no element is unchanged. Fails with `UnknownNode`, and for an element
-    /// also with `Memory`.
+    /// Adds to the element those of the attributes whose names, with prefix and namespace, it
+    /// doesn't have yet. A node that is no element is unchanged. Fails with `UnknownNode`, and for
+    /// an element also with `Memory`.
     fn add_attrs_if_missing(&mut self, target: &NodeId, attrs: Attrs) -> Result<(), EditFault>
         ensures { EditsIn result (document self.old) (document self.new)
             (adding_attrs target.now attrs) };

@@ -41,7 +41,7 @@ fn close_named<'a>(name: &str, close: &'a str) -> Result<&'a str, MarkupFaultKin
 }
 
 /// Returns the name of a start tag as in the source, and the text after the tag. The `<` is already
-/// read.
+/// read. Fails with `SlashOnOpen` or `BadTag`.
 pub fn start_tag_end(tag: &str) -> Result<(&str, &str), MarkupFaultKind>
     ensures { TakesStart (codes "<" ++ tag.now) result }
 {
@@ -53,8 +53,8 @@ pub fn start_tag_end(tag: &str) -> Result<(&str, &str), MarkupFaultKind>
     Ok((name, rest))
 }
 
-/// Returns the name of an end tag as in the source, and the text after the tag. The `</` is already
-/// read.
+/// Returns the name of an end tag as in the source, and the text after the tag; `None` if it is
+/// malformed. The `</` is already read.
 #[inline(always)]
 pub fn end_tag_end(tag: &str) -> Option<(&str, &str)>
     ensures some { IfSome result (λ f. BeginsEnd (codes "</" ++ tag.now) (folded f.0.now) f.1.now) }

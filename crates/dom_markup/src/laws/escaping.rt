@@ -18,12 +18,12 @@ pub fn value_is_inert()
     ensures { (text : List ℕ) → lacks double_quote (escaped_value text) ≡ true }
 {}
 
-/// Resolving the references of an escaped text gives the text again.
+/// Resolving the character references of an escaped text yields the text again.
 pub fn text_reads_back()
     ensures { (text : List ℕ) → IsUtf8 text → decoded (escaped_text text) ≡ text }
 {}
 
-/// Resolving the references of an escaped value gives the value again.
+/// Resolving the character references of an escaped value yields the value again.
 pub fn value_reads_back()
     ensures { (text : List ℕ) → IsUtf8 text → decoded (escaped_value text) ≡ text }
 {}

@@ -9,10 +9,10 @@ ghost use Rattle.dom_markup.specs.Names.{Mode, markup};
 ghost use Rattle.dom_markup.specs.Refusals.{Cause, IsFaultAt, Refused};
 ghost use Rattle.dom_markup.specs.ValueTrees.{ValueTrees};
 
-/// Which kinds of faults can occur. Where no token starts, only the six kinds of `IsTokenFault`;
-/// for a text of complete tokens, only faults of nesting and limits; for a text that is markup,
-/// only limits. A `BadComment` needs `<!--` in the text, an `Instruction` `<?`, and a `StrayEnd`
-/// `</`.
+/// Which kinds of faults can occur. Where no token starts, the kind is one of the six of
+/// `IsTokenFault`. For a text of complete tokens, tags are badly nested, a doctype is misplaced, or
+/// node ids or memory run out. For explicit markup, only node ids or memory can run out. A
+/// `BadComment` needs `<!--` in the text, an `Instruction` `<?`, and a `StrayEnd` `</`.
 pub fn kinds_of_faults()
     ensures tokens { (m : Mode) (t : List ℕ) (k : MarkupFaultKind) → Cause m t k → IsTokenFault k }
     ensures nesting { (text : List ℕ) (at : ℕ) (kind : MarkupFaultKind) (items : List Item)

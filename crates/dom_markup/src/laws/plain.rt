@@ -19,7 +19,8 @@ use crate::laws::one_reading;
 use dom_links::laws::trees_of_a_forest;
 use dom_nodes::node_data::NodeData;
 
-/// The HTML of nodes equals the HTML of the value trees that they are, and so for a whole document.
+/// The HTML of nodes is the HTML of the value trees that they represent. The same is true of a
+/// whole document.
 pub fn html_of_trees()
     ensures nodes { (forest : Forest) → IsForest forest → NodesAreWrittenAsTrees forest }
     ensures document { (forest : Forest) → IsForest forest → DocumentIsWrittenAsTrees forest }
@@ -41,25 +42,27 @@ pub fn what_is_read_is_plain()
         → HaveNoIdentifiers trees → IsPlain (document_of trees) }
 {}
 
-/// The nodes below the root of a document made from value trees are these value trees.
+/// The nodes below the root of a document that is made from value trees represent these value
+/// trees.
 pub fn documents_stand_for_their_trees()
     ensures { (t : ValueTrees) → Represents (document_of t) (children_of (document_of t) 0) t }
 {}
 
-/// A list of nodes is at most one list of value trees.
+/// A list of nodes represents at most one list of value trees.
 pub fn one_meaning()
     ensures { (f : Forest) (ns : List ℕ) (a b : ValueTrees) → Represents f ns a → Represents f ns b
         → a ≡ b }
 {}
 
-/// Documents with the same value trees below their roots are the same tree.
+/// Two documents whose nodes below the root represent the same value trees are the same tree, apart
+/// from node ids and the like (`SameTree`).
 pub fn documents_of_the_same_trees()
     ensures { (one other : Forest) → IsForest one → IsForest other → AreSameByTrees one other }
 {
     trees_of_a_forest();
 }
 
-/// The HTML of a plain document's root, and that of its children, is markup for the same tree.
+/// The HTML of a plain document's root, and that of its children, is markup whose tree is the same.
 pub fn plain_documents_are_spelled()
     ensures root { (f : Forest) → IsForest f → IsPlain f → SpellsDocument (html_of f 0) f }
     ensures children { (f : Forest) → IsForest f → IsPlain f

@@ -7,8 +7,8 @@ ghost use Rattle.dom_md.specs.Formatted.{block_names, cell_names, line_names};
 
 use dom_nodes::name::LocalRef;
 
-/// The kind of each known name, by its number: 1 for a block, 2 for an element that ends a line, 3
-/// for a table cell, 0 for all others.
+/// The kind of each known name, by its index in the table of known names: 1 for a block, 2 for an
+/// element that ends a line, 3 for a table cell, 0 for all others.
 #[rattlefmt::skip]
 static KINDS: [u8; 247] = [
     0, 0, 0, 0, 0, 1, 0, 0, 0, 2, 0, 1, 0, 0, 1, 1, 1, 1, 1, 1, 2, 0, 2, 1, 0, 0, 3, 3, 2, 0, 1,
@@ -21,10 +21,10 @@ static KINDS: [u8; 247] = [
     0, 0, 0, 0, 0, 0, 0, 0, 0, 0, 0, 0, 1, 0, 0, 0, 0, 0, 0, 0, 0, 0, 0, 0, 0, 0, 0, 0, 0, 0,
 ];
 
-/// The number of the known name `pre`.
+/// The index of `pre` in the table of known names.
 const PRE: u8 = 49;
 
-/// Whether the element keeps its text unchanged.
+/// Returns whether the element keeps its text unchanged.
 #[inline(always)]
 pub(super) fn is_pre(name: &LocalRef<'_>) -> bool
     ensures { result ≡ bytes_eq name.now (codes "pre") }
@@ -35,7 +35,7 @@ pub(super) fn is_pre(name: &LocalRef<'_>) -> bool
     }
 }
 
-/// Whether the element is a block: it begins on a new line and ends with a blank line.
+/// Returns whether the element is a block: it begins on a new line and ends with a blank line.
 pub(super) fn is_block(name: &LocalRef<'_>) -> bool
     ensures { result ≡ is_among name.now block_names }
 {
@@ -45,7 +45,7 @@ pub(super) fn is_block(name: &LocalRef<'_>) -> bool
     }
 }
 
-/// Whether the element ends a line.
+/// Returns whether the element ends a line.
 pub(super) fn is_line(name: &LocalRef<'_>) -> bool
     ensures { result ≡ is_among name.now line_names }
 {
@@ -55,7 +55,7 @@ pub(super) fn is_line(name: &LocalRef<'_>) -> bool
     }
 }
 
-/// Whether the element is a table cell, which ends with a space.
+/// Returns whether the element is a table cell, which ends with a space.
 pub(super) fn is_cell(name: &LocalRef<'_>) -> bool
     ensures { result ≡ is_among name.now cell_names }
 {

@@ -278,14 +278,14 @@ fn drop_spaces(text: &mut String)
     }
 }
 
-/// Whether the text is empty or ends in two line feeds.
+/// Returns whether the text is empty or ends in two line feeds.
 fn is_parted(text: &str) -> bool
     ensures { result ≡ is_parted text.now }
 {
     text.is_empty() || ends_with(text, "\n\n")
 }
 
-/// Whether the text is empty or ends in a line feed or a space.
+/// Returns whether the text is empty or ends in a line feed or a space.
 fn is_fresh(text: &str) -> bool
     ensures { result ≡ is_fresh text.now }
 {

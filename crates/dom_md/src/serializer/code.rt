@@ -123,7 +123,7 @@ fn is_blank(c: char) -> bool {
     c == ' ' || c == '\t'
 }
 
-/// Whether a text below the node has a line feed other than in the whitespace at its ends.
+/// Returns whether a text below the node has a line feed other than in the whitespace at its ends.
 fn has_lines(node: &NodeRef<'_>) -> bool {
     for below in node.descendants_it() {
         if let Some(text) = contents(&below) {
@@ -178,8 +178,8 @@ fn push_code(text: &mut String, code: &str) -> Result<(), OutOfMemory> {
     push_ticks(text, fence)
 }
 
-/// Whether spaces are needed between fence and code: if the code begins or ends with a backtick, or
-/// if it begins and ends with a space, since Markdown removes one space at each end.
+/// Returns whether spaces are needed between fence and code: if the code begins or ends with a
+/// backtick, or if it begins and ends with a space, since Markdown removes one space at each end.
 fn needs_space(code: &str) -> bool {
     if code.starts_with('`') || code.ends_with('`') {
         return true;

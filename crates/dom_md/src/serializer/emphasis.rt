@@ -38,8 +38,8 @@ impl<'a> Writer<'a> {
         push_emphasis(&mut self.text, content, marker)
     }
 
-    /// Whether no item of a list is being written in the text that this one will be part of. The
-    /// places where items begin count from the start of a text that is in one piece.
+    /// Returns whether no item of a list is being written in the text that this one will be part
+    /// of. The places where items begin count from the start of a text that is in one piece.
     fn has_no_items_outside(&self) -> bool {
         match self.outer.last() {
             Some(outer) => outer.items == self.items_before,

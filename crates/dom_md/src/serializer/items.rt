@@ -231,7 +231,7 @@ impl<'a> Writer<'a> {
     }
 }
 
-/// Whether the text ends in a line feed and `indent` spaces.
+/// Returns whether the text ends in a line feed and `indent` spaces.
 fn ends_in_indent(text: &str, indent: usize) -> bool {
     let Some((front, spaces)) = text.split_at_checked(text.len().saturating_sub(indent)) else {
         return false;

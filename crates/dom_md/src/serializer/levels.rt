@@ -7,7 +7,8 @@ use std::alloc::Global;
 #[derive(Drop)]
 pub(super) struct Front {
     pieces: Vec<String>,
-    /// Whether they and the text behind them were whitespace alone when that was put behind them.
+    /// Whether these pieces and the text behind them were whitespace alone when that text was put
+    /// behind them.
     is_blank: bool,
 }
 
@@ -23,7 +24,7 @@ impl Front {
         self.pieces.is_empty()
     }
 
-    /// Whether the text with these pieces before it is whitespace alone.
+    /// Returns whether the text with these pieces before it is whitespace alone.
     pub(super) fn is_blank_before(&self, text: &str) -> bool {
         if self.is_empty() {
             return text.trim().is_empty();
@@ -31,7 +32,7 @@ impl Front {
         self.is_blank
     }
 
-    /// The first byte of the text with these pieces before it.
+    /// Returns the first byte of the text with these pieces before it.
     pub(super) fn first_byte_before(&self, text: &str) -> Option<u8> {
         match self.pieces.last() {
             Some(first) => first.as_str().as_bytes().first().copied(),
@@ -39,7 +40,7 @@ impl Front {
         }
     }
 
-    /// Puts a text and the pieces before it to the front, if there are any.
+    /// Puts a text and the pieces before it in front of these pieces, if there are any.
     pub(super) fn put(
         &mut self,
         outer: Front,
@@ -54,7 +55,7 @@ impl Front {
         Ok(())
     }
 
-    /// The pieces and a text behind them, as one text.
+    /// Returns the pieces and a text behind them, as one text.
     pub(super) fn joined(self, text: String) -> Result<String, OutOfMemory> {
         let mut pieces = self.pieces;
         let Some(mut joined) = pieces.pop() else {
@@ -68,7 +69,7 @@ impl Front {
     }
 }
 
-/// A text that waits for one that will be part of it.
+/// A text that is interrupted, while another text is written that will be part of it.
 #[derive(Drop)]
 pub(super) struct Level {
     pub(super) front: Front,
@@ -80,8 +81,8 @@ pub(super) struct Level {
 /// So many bytes at the end of a text are searched for a letter.
 const NEAR: usize = 64;
 
-/// Whether there is a letter near the end of the text. No step on the end of a text looks further
-/// back than to a letter.
+/// Returns whether there is a letter near the end of the text. No step that looks at the end of a
+/// text looks further back than to a letter.
 pub(super) fn ends_near_letter(text: &str) -> bool {
     let bytes = text.as_bytes();
     let rest = match bytes.get(bytes.len().saturating_sub(NEAR)..) {

@@ -73,7 +73,7 @@ const H1: u8 = 14;
 
 const H6: u8 = 19;
 
-/// Whether the name is `href`.
+/// Returns whether the name is `href`.
 pub(super) fn is_href(name: &LocalRef<'_>) -> bool
     ensures { result ≡ bytes_eq name.now (codes "href") }
 {
@@ -83,7 +83,7 @@ pub(super) fn is_href(name: &LocalRef<'_>) -> bool
     }
 }
 
-/// Whether the name is `title`.
+/// Returns whether the name is `title`.
 pub(super) fn is_title(name: &LocalRef<'_>) -> bool
     ensures { result ≡ bytes_eq name.now (codes "title") }
 {
@@ -93,7 +93,8 @@ pub(super) fn is_title(name: &LocalRef<'_>) -> bool
     }
 }
 
-/// Whether elements with this name are left out by default: `script`, `style`, `meta`, `head`.
+/// Returns whether elements with this name are left out by default: `script`, `style`, `meta`,
+/// `head`.
 pub(super) fn is_default_skipped(name: &LocalRef<'_>) -> bool
     ensures { result ≡ is_among name.now skipped_names }
 {
@@ -141,8 +142,8 @@ pub(super) enum Tag {
     Other,
 }
 
-/// Returns the kind of an element with that name. All names with a kind but `Other` are known
-/// names, so one without a number is `Other`.
+/// Returns the kind of an element with that name. All names with a kind other than `Other` are in
+/// the table of known names, so a name outside the table is `Other`.
 pub(super) fn tag_of(name: &LocalRef<'_>) -> Tag
     ensures { result ≢ Other → result ≡ tag_named name.now }
 {
@@ -152,7 +153,7 @@ pub(super) fn tag_of(name: &LocalRef<'_>) -> Tag
     }
 }
 
-/// Returns the kind of an element by the number of its known name.
+/// Returns the kind of an element by the index of its name in the table of known names.
 fn tag_numbered(number: u8) -> Tag
     ensures { result ≡ tag_numbered number }
 {
@@ -180,7 +181,8 @@ fn tag_numbered(number: u8) -> Tag
     inner_numbered(number)
 }
 
-/// Returns the kind, by the number of the name, of an element that is not a block.
+/// Returns the kind of an element that is not a block, by the index of its name in the table of
+/// known names.
 fn inner_numbered(number: u8) -> Tag
     ensures { result ≡ inner_numbered number }
 {
@@ -218,7 +220,7 @@ fn inner_numbered(number: u8) -> Tag
 }
 
 impl Tag {
-    /// Whether the element is a block, on lines of its own.
+    /// Returns whether the element is a block, on lines of its own.
     pub(super) fn is_block(self) -> bool {
         match self {
             Tag::Heading(_) | Tag::Block | Tag::Quote | Tag::Table | Tag::Rule => true,
@@ -227,7 +229,7 @@ impl Tag {
         }
     }
 
-    /// Whether, in the text of a link, spaces separate the element from what is around it.
+    /// Returns whether spaces separate the element from what is around it in the text of a link.
     pub(super) fn is_link_block(self) -> bool {
         match self {
             Tag::Item | Tag::TableRow | Tag::TableCell => true,
@@ -235,7 +237,7 @@ impl Tag {
         }
     }
 
-    /// Whether text may be written at the end of the element.
+    /// Returns whether text may be written at the end of the element.
     pub(super) fn has_end(self) -> bool {
         self.is_link_block() || matches!(self, Tag::Break)
     }

@@ -1,4 +1,4 @@
-//! Questions about nodes.
+//! Tests of nodes.
 
 ghost use Rattle.std.specs.Prelude.{◌≡◌};
 ghost use Rattle.dom_md.specs.Words.{holds_texts};
@@ -33,7 +33,7 @@ pub(super) fn contents<'a>(node: &NodeRef<'a>) -> Option<&'a str> {
     }
 }
 
-/// Whether the node may have children, and all its children are texts.
+/// Returns whether the node may have children, and all its children are texts.
 pub(super) fn holds_texts(node: &NodeRef<'_>) -> bool
     ensures { result ≡ holds_texts node.now.tree.now node.now.id }
 {
@@ -48,7 +48,7 @@ pub(super) fn holds_texts(node: &NodeRef<'_>) -> bool
     true
 }
 
-/// Whether the node is a text of only ASCII whitespace.
+/// Returns whether the node is a text of only ASCII whitespace.
 pub(super) fn is_blank_text(node: &NodeRef<'_>) -> bool {
     match contents(node) {
         Some(text) => text.trim_ascii().is_empty(),
@@ -56,8 +56,8 @@ pub(super) fn is_blank_text(node: &NodeRef<'_>) -> bool {
     }
 }
 
-/// Whether the node is a block that needs lines of its own in an item: any block but a list, or a
-/// `pre`.
+/// Returns whether the node is a block that needs lines of its own in an item: any block but a
+/// list, or a `pre`.
 pub(super) fn is_item_block(node: &NodeRef<'_>) -> bool {
     let tag = tag(node);
     if tag.is_list() {
@@ -66,7 +66,7 @@ pub(super) fn is_item_block(node: &NodeRef<'_>) -> bool {
     tag.is_block() || tag == Tag::Preformatted
 }
 
-/// Whether a child of the node is such a block.
+/// Returns whether a child of the node is such a block.
 pub(super) fn has_item_blocks(node: &NodeRef<'_>) -> bool {
     for child in node.children_it(false) {
         if is_item_block(&child) {
@@ -76,9 +76,9 @@ pub(super) fn has_item_blocks(node: &NodeRef<'_>) -> bool {
     false
 }
 
-/// Whether the node only groups blocks: it is a `div`, `section` or `article`, at least one of its
-/// children is a block that needs lines of its own, and the others are such blocks, lists, comments
-/// or blank texts. Tables and rules are not allowed among them.
+/// Returns whether the node only groups blocks: it is a `div`, `section` or `article`, at least one
+/// of its children is a block that needs lines of its own, and the others are such blocks, lists,
+/// comments or blank texts. Tables and rules are not allowed among them.
 pub(super) fn is_block_wrapper(node: &NodeRef<'_>) -> bool {
     // The three names are of kind `Block`, which few nodes are, so this test comes first.
     if tag(node) != Tag::Block {
@@ -106,8 +106,8 @@ fn may_be_wrapped(node: &NodeRef<'_>) -> bool {
     node.is_comment() || is_blank_text(node)
 }
 
-/// Whether the list can follow a paragraph without a blank line: its first item begins with text,
-/// and an ordered list begins with the number 1.
+/// Returns whether the list can follow a paragraph without a blank line: its first item begins with
+/// text, and an ordered list begins with the number 1.
 pub(super) fn can_interrupt_paragraph(list: &NodeRef<'_>) -> bool {
     let Some(first) = list.first_element_child() else {
         return false;
@@ -121,7 +121,7 @@ pub(super) fn can_interrupt_paragraph(list: &NodeRef<'_>) -> bool {
     first_number(list, &first) == 1
 }
 
-/// Whether there is a text before the first list among the item's children.
+/// Returns whether there is a text before the first list among the item's children.
 fn begins_with_text(item: &NodeRef<'_>) -> bool {
     for child in item.children_it(false) {
         if tag(&child).is_list() {
@@ -134,7 +134,7 @@ fn begins_with_text(item: &NodeRef<'_>) -> bool {
     false
 }
 
-/// Whether there is a character other than whitespace in the text of the node.
+/// Returns whether there is a character other than whitespace in the text of the node.
 fn has_words(node: &NodeRef<'_>) -> bool {
     if let Some(text) = contents(node) {
         return !text.trim().is_empty();

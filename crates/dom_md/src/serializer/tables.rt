@@ -17,7 +17,7 @@ pub(super) struct Table {
     cells: Vec<NodeId>,
     /// The finished texts of its cells, in document order.
     texts: Vec<String>,
-    /// The number of cells in each row that has any.
+    /// The number of cells in each row that has cells.
     rows: Vec<usize>,
     /// Whether the first row is the heading.
     has_heading: bool,
@@ -83,8 +83,8 @@ impl Table {
 }
 
 impl<'a> Writer<'a> {
-    /// Begins a table. If it cannot be written as a Markdown table, only what is below it is
-    /// written.
+    /// Begins a table. If it cannot be written as a Markdown table, its contents are written
+    /// without it.
     pub(super) fn begin_table(&mut self, id: NodeId) -> Result<(), OutOfMemory> {
         let node = NodeRef::new(id, self.tree);
         if !self.table.read(&node)? {

@@ -5,7 +5,7 @@ use crate::context::FormatOpts;
 use crate::serializer::words::push_words;
 use dom_nodes::fault::OutOfMemory;
 
-/// Cuts the text off at an index, if a character begins there.
+/// Removes the text from this index on, if a character begins there.
 pub(super) fn cut_at(text: &mut String, end: usize) {
     if text.is_char_boundary(end) {
         text.truncate(end);
@@ -123,7 +123,7 @@ pub(super) fn push_text(
     Ok(())
 }
 
-/// Whether the text ends in one to nine digits that begin a line or a list item.
+/// Returns whether the text ends in one to nine digits that begin a line or a list item.
 pub(super) fn ends_in_marker_digits(text: &str) -> bool {
     let stem = text.trim_end_matches(|c: char| c.is_ascii_digit());
     let digits = text.len() - stem.len();
@@ -148,18 +148,18 @@ fn before_item_mark(text: &str) -> &str {
     text
 }
 
-/// Whether the text is empty or ends in a line feed.
+/// Returns whether the text is empty or ends in a line feed.
 pub(super) fn begins_line(text: &str) -> bool {
     text.is_empty() || ends_in_byte(text, b'\n')
 }
 
-/// Whether the text ends in a line feed or a space.
+/// Returns whether the text ends in a line feed or a space.
 fn ends_in_gap(text: &str) -> bool {
     ends_in_byte(text, b'\n') || ends_in_byte(text, b' ')
 }
 
-/// Whether the last byte of the text is this one. For ASCII this is faster than decoding the last
-/// character.
+/// Returns whether the last byte of the text is this one. For ASCII this is faster than decoding
+/// the last character.
 pub(super) fn ends_in_byte(text: &str, byte: u8) -> bool {
     match text.as_bytes().last() {
         Some(last) => *last == byte,

@@ -81,8 +81,8 @@ fn push_ampersands(text: &mut String, address: &str) -> Result<(), AllocError>
     text.push_str(rest)
 }
 
-/// Whether the address can be written without angle brackets: its parentheses are balanced, and it
-/// has no space, `<` or control character.
+/// Returns whether the address can be written without angle brackets: its parentheses are balanced,
+/// and it has no space, `<` or control character.
 fn is_plain(address: &str) -> bool {
     let mut open: usize = 0;
     for byte in address.as_bytes() {

@@ -195,7 +195,7 @@ static PLAIN: [u8; 256] = [
     1, 1, 1, 1, 1, 1, 1, 1, 1, 1, 1, 1, 1, 1, 1, 1, 1, 1, 1, 1, 1, 1, 1, 1, 1, 1, 1, 1, 1, 1, 1, 1,
 ];
 
-/// Whether the byte at this index is not written unchanged.
+/// Returns whether the byte at this index is not written unchanged.
 fn is_changed(bytes: &[u8], at: usize, escape: bool) -> bool
     requires { at < length bytes.now }
     ensures { result

@@ -1,5 +1,5 @@
-//! Paths of descendant combinators alone. One traversal keeps for each node how many steps are
-//! matched above it, one below the other, so a node is tested for one step.
+//! Paths of descendant combinators alone. One traversal keeps for each node how many steps of the
+//! path its ancestors match, one below the other, so a node is tested for one step only.
 
 ghost use Rattle.std.specs.Prelude.{◌≡◌, ◌<◌, ◌++◌, None, [], false, length, true, IfOk, OnOk};
 ghost use Rattle.dom_links.specs.Forest.{forest_of};

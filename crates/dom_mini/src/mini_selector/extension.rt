@@ -1,5 +1,5 @@
-//! Questions to one node with mini selectors and with paths of them: methods of `NodeRef` in the
-//! crate dom_query.
+//! Matching mini selectors against one node, and following paths of them from it, as methods of
+//! `NodeRef` do in the Rust crate dom_query.
 
 ghost use Rattle.std.specs.Prelude.{◌≡◌, ◌⊎◌, [], IfOk, MatchBool, MatchResult};
 ghost use Rattle.dom_trees.specs.Views.{refs_to};
@@ -37,8 +37,8 @@ pub trait MiniSelect<'a> {
     /// `BadQuotedValue` if a quoted value is empty or not closed, and with `Memory`.
     fn try_find_descendants(&self, path: &str) -> Result<Vec<NodeRef<'a>>, MiniFault>;
 
-    /// Returns whether the mini selector at the start of the text matches the node; `false` if
-    /// there is none. It parses the text on every call. Fails only when memory runs out.
+    /// Returns whether the mini selector at the start of the text matches the node; `false` if the
+    /// text starts with none. It parses the text on every call. Fails only when memory runs out.
     fn mini_is(&self, selector: &str) -> Result<bool, OutOfMemory>;
 
     /// Returns whether the mini selector matches the node. It allocates no memory.

@@ -13,8 +13,8 @@ use crate::fault::OutOfMemory;
 use crate::link::Link;
 use crate::text::RareText;
 
-/// A name, and beside it the flag and the template contents of an element. In the name of an
-/// attribute these two are false and empty.
+/// A name, and beside it the flag and the template contents of an element. For the name of an
+/// attribute the flag is false and the contents are empty.
 #[derive(Drop)]
 pub(crate) enum NameForm {
     /// A known name, by its table index, in the HTML namespace, without prefix.

@@ -1,6 +1,7 @@
-//! The table of known names: the elements of HTML and its common attributes. A name in the table is
-//! stored as its index, a byte, and needs no memory. It is found by a perfect hash: a name's length
-//! and three of its letters determine the one slot of the hash table in which it can be.
+//! The table of known names: those of the elements of HTML and of its common attributes. A name in
+//! the table is stored as its index, a byte, and needs no memory. It is found by a perfect hash: a
+//! name's length and three of its letters determine the one slot of the hash table in which it can
+//! be.
 
 ghost use Rattle.std.specs.Prelude.{◌≡◌, ◌<◌, ℕ, MatchOption};
 ghost use Rattle.std.specs.Str.{bytes_eq};

@@ -31,13 +31,13 @@ pub(super) enum AttrsForm {
     Two(Rc<[Attr; 2]>),
     /// No attribute yet, but room for two.
     Room(Rc<[Attr; 2]>),
-    /// The first attribute of the block. It is left when the second is removed, or it was put into
-    /// `Room`.
+    /// The first attribute of the block, after the second one was removed, or after an attribute
+    /// was put into `Room`.
     First(Rc<[Attr; 2]>),
-    /// The second attribute of the block. It is left when the first is removed.
+    /// The second attribute of the block, after the first one was removed.
     Second(Rc<[Attr; 2]>),
     /// The one attribute at this index of a shared list. The index has more bits here than in
-    /// `TwoOf`, so that the second of any such two has one.
+    /// `TwoOf`, so that it is also large enough for the second of any two.
     OneOf(u32, Rc<Vec<Attr>>),
     /// The two attributes from this index on in a shared list.
     TwoOf(u16, Rc<Vec<Attr>>),
@@ -77,7 +77,8 @@ pub(super) enum Kept<'a> {
     NoneOf(&'a [&'a str]),
     /// Keeps the attributes whose local name is in the list.
     OneOf(&'a [&'a str]),
-    /// Keeps the attributes whose name (prefix, namespace and local name) none of these has.
+    /// Keeps the attributes whose name (prefix, namespace and local name) differs from the names of
+    /// all of these.
     MissingIn(&'a [Attr]),
 }
 

@@ -15,7 +15,7 @@ use dom_selectors::fault::SelectorFault;
 use std::alloc::Global;
 
 /// Returns what comes after `word` and one space, or the empty text if the line is `word` alone. It
-/// returns `None` if the line doesn't begin with `word` in this way.
+/// returns `None` if the line is neither `word` alone nor begins with `word` and a space.
 pub fn argument_of<'a>(line: &'a str, word: &str) -> Option<&'a str>
     ensures { MatchOption result (HasNoArgument line.now word.now)
         (λ argument. HasArgument line.now word.now argument.now) }

@@ -32,7 +32,7 @@ pub fn navigation_of(line: &str) -> Option<Navigation>
     None
 }
 
-/// Returns what the line writes, or `None` if it is no such line.
+/// Returns what the line writes, or `None` if it isn't one of the lines that write.
 pub fn rendering_of(line: &str) -> Option<Rendering>
     ensures { IsWordOf rendering_word line.now result }
 {

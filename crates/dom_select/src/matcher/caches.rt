@@ -13,9 +13,9 @@ use std::marker::Model;
 /// The least number of siblings that an index outside the cache counts for.
 const FEW: u64 = 16;
 
-/// Caches of the sibling indexes that selectors ask for in one tree. They borrow the tree, so no
-/// edit can come between two questions. A contract sees the forest of the tree: a cached index is
-/// right, and no answer depends on what is cached.
+/// Caches of the sibling indexes that selectors ask for in one tree. They borrow the tree, so the
+/// tree can't change while they are in use. A contract sees the forest of the tree: a cached index
+/// is right, and no answer depends on what is cached.
 #[derive(Drop)]
 pub struct SelectorCaches<'t> {
     tree: &'t Tree,

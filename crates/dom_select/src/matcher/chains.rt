@@ -54,8 +54,8 @@ pub(crate) fn may_be_operand(
     }
 }
 
-/// States how parents and siblings are linked in the tree. It does nothing and is called for its
-/// contract.
+/// States how parents and siblings are linked in the tree. It does nothing at run time; a call of
+/// it brings its `ensures` clauses into the caller's proof.
 pub(crate) fn line_laws(tree: &Tree)
     ensures { AreLines tree.now }
 {

@@ -50,7 +50,7 @@ impl<'a, 'b, 'r> MatcherIter<'a, 'b, 'r> {
     }
 
     /// Returns an iterator like `new`, for roots that are node references. Each is taken as the
-    /// node with its id in `tree`.
+    /// node with its id in `tree`. Fails as `new` does.
     pub fn below_nodes(
         tree: &'a Tree,
         nodes: &'r [NodeRef<'a>],

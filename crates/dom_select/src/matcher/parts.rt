@@ -1,6 +1,6 @@
 //! Tests of simple selectors against one node.
 
-ghost use Rattle.std.specs.Prelude.{◌≡◌, ◌↔◌, Some, slice_get, codes, IsTrue, MatchBool};
+ghost use Rattle.std.specs.Prelude.{◌≡◌, ◌↔◌, Some, slice_get, codes, IsTrue, MatchBool, false};
 ghost use Rattle.std.specs.List.{list_any};
 ghost use Rattle.std.specs.Str.{bytes_eq};
 ghost use Rattle.dom_links.specs.ListMoves.{element_at};
@@ -8,7 +8,7 @@ ghost use Rattle.dom_nodes.specs.Names.{namespace_of};
 ghost use Rattle.dom_select.specs.Meaning.{PartsHold};
 ghost use Rattle.dom_select.specs.Parts.{EachHolds, PartHolds, attr_passes, element_passes};
 ghost use Rattle.dom_select.specs.Parts.{is_attr, is_without, name_within, node_passes};
-ghost use Rattle.dom_select.specs.Parts.{comparison_passes, data_passes};
+ghost use Rattle.dom_select.specs.Parts.{comparison_passes, data_passes, asks_for_index};
 ghost use Rattle.dom_selectors.specs.Spelling.{Decides};
 
 use crate::matcher::caches::SelectorCaches;
@@ -80,10 +80,22 @@ fn part_holds(part: &Part, caches: &mut SelectorCaches<'_>, id: &NodeId, node: &
     ensures is { IsTrue result ↔ PartHolds part.now caches.old id.now }
     ensures kept { caches.new ≡ caches.old }
 {
-    let tree = caches.tree();
+    match part {
+        Part::Position(position) => has_position(*position, caches, id),
+        _ => holds_without_index(part, caches.tree(), id, node),
+    }
+}
+
+/// Returns the answer of `part_holds` for a simple selector that doesn't ask for an index among
+/// siblings.
+#[inline(always)]
+pub(crate) fn holds_without_index(part: &Part, tree: &Tree, id: &NodeId, node: &NodeData) -> bool
+    requires { slice_get tree.now.content id.now ≡ Some node.now }
+    ensures { asks_for_index part.now ≡ false → IsTrue result ↔ PartHolds part.now tree.now id.now }
+{
     match part {
         Part::Type(name) => is_named_node(node, name),
-        Part::Position(position) => has_position(*position, caches, id),
+        Part::Position(_) => false,
         Part::Empty => is_empty(tree, id),
         Part::OnlyText => is_only_text(tree, id),
         Part::HasText(text) => has_text(tree, id, text.as_str()),
@@ -93,8 +105,8 @@ fn part_holds(part: &Part, caches: &mut SelectorCaches<'_>, id: &NodeId, node: &
     }
 }
 
-/// Returns whether the tree has the node and the simple selector matches its data, apart from its
-/// place.
+/// Returns whether the tree has the node and the simple selector matches its data. Where the node
+/// is in the tree isn't tested.
 pub(crate) fn data_passes(part: &Part, tree: &Tree, id: &NodeId) -> bool
     ensures { result ≡ data_passes part.now tree.now id.now }
 {

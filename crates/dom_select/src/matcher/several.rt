@@ -163,7 +163,7 @@ impl<'a, 'b, 'r> Matches<'a, 'b, 'r> {
     }
 
     /// Returns an iterator like `new`, for roots that are node references. Each is taken as the
-    /// node with its id in `tree`.
+    /// node with its id in `tree`. Fails only when memory runs out.
     pub fn below_nodes(
         tree: &'a Tree,
         nodes: &'r [NodeRef<'a>],
@@ -199,8 +199,8 @@ impl<'a, 'b, 'r> Matches<'a, 'b, 'r> {
     }
 }
 
-/// States in which order a traversal visits the tree. It does nothing and is called for its
-/// contract.
+/// States in which order a traversal visits the tree. It does nothing at run time; a call of it
+/// brings its `ensures` clauses into the caller's proof.
 fn tree_laws(tree: &Tree)
     ensures { AreTrees tree.now }
 {

@@ -1,4 +1,5 @@
-//! The types of the elements that selectors can match, by the numbers of their names.
+//! The types of the elements that selectors can match, by the indexes of their names in the table
+//! of known names.
 
 ghost use Rattle.std.specs.Prelude.{◌≡◌, false, true, IfSome, MatchBool};
 ghost use Rattle.dom_nodes.specs.Kinds.{is_element};
@@ -9,9 +10,9 @@ use crate::matcher::matches::subject_type;
 use dom_nodes::node_data::NodeData;
 use dom_selectors::syntax::Selector;
 
-/// Returns a flag for each name number: an HTML element that the selectors match has a name with a
-/// flag. Returns `None` if some selector doesn't end in a type selector, or in one whose name has
-/// no number.
+/// Returns a flag for each index of a known name: an HTML element that the selectors match has a
+/// name whose flag is set. Returns `None` if some selector doesn't end in a type selector, or in
+/// one whose name isn't in the table.
 pub(crate) fn subject_types(selectors: &[Selector]) -> Option<[bool; 256]>
     ensures { IfSome result (λ types. SubjectIsAmong types (read_list selectors.now)) }
 {
@@ -24,8 +25,8 @@ pub(crate) fn subject_types(selectors: &[Selector]) -> Option<[bool; 256]>
     Some(types)
 }
 
-/// Returns whether the node is an element that can have one of the types, if any are known: its
-/// name has a flag, or no number, or it is not in the HTML namespace.
+/// Returns whether the node is an element that can have one of the types, if any are known: the
+/// flag of its name is set, or its name isn't in the table, or it is not in the HTML namespace.
 #[inline(always)]
 pub(crate) fn may_be_subject(types: &Option<[bool; 256]>, node: &NodeData) -> bool
     ensures { MatchBool result (is_element node.now ≡ true) (MayBeSubject types.now node.now → ⊥) }

@@ -1,5 +1,5 @@
-//! The attributes and the HTML of a selection's first node. For an empty selection the answer is
-//! nothing, false or the default.
+//! The attributes and the HTML of a selection's first node. For an empty selection they are empty,
+//! `None`, `false` or the default.
 
 ghost use Rattle.std.specs.Prelude.{◌≡◌, [], None, codes, false, is_some, string_bytes, unwrap_or};
 ghost use Rattle.std.specs.Prelude.{IfOk};

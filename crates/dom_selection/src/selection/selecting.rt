@@ -18,8 +18,8 @@ use dom_selectors::fault::SelectorFault;
 impl<'a> Selection<'a> {
     /// Returns the elements below the nodes that match one of the matcher's selectors, each once.
     /// The descendants of the first node come first, in document order, then those of the second,
-    /// and so on. Each candidate is tested, or an index of the tree is built when that is cheaper.
-    /// It fails with `OutOfMemory` when memory is refused.
+    /// and so on. Each node is tested by itself, or an index of the tree is built when that is
+    /// cheaper. It fails with `OutOfMemory` when memory is refused.
     pub fn select_matcher(&self, matcher: &Matcher) -> Result<Selection<'a>, OutOfMemory>
         ensures { IfOk result (Selects matcher.now self.now) }
     {
@@ -84,7 +84,7 @@ impl<'a> Selection<'a> {
     }
 
     /// Returns the first of the elements that `select_matcher` returns, or the empty selection when
-    /// there is none. No candidate after it is tested. It fails with `OutOfMemory` when memory is
+    /// there is none. No node after it is tested. It fails with `OutOfMemory` when memory is
     /// refused.
     pub fn select_single_matcher(&self, matcher: &Matcher) -> Result<Selection<'a>, OutOfMemory>
         ensures { IfOk result (SelectsFirst matcher.now self.now) }

@@ -110,7 +110,8 @@ pub(crate) fn take_word(text: &str) -> Option<(&str, &str)>
     Some((word, rest))
 }
 
-/// Splits off a mark and the word after it, if the text starts so; returns the word and the rest.
+/// Splits off a mark and the word after it, if the text starts with them; returns the word and the
+/// rest.
 pub(crate) fn take_marked(text: &str, mark: char) -> Option<(&str, &str)>
     requires { mark < 128 }
     ensures { TakesSlice result (SpellsMarked mark) text.now }

@@ -100,7 +100,7 @@ impl<'a> MiniSelector<'a> {
         self.attrs.as_slice()
     }
 
-    /// Returns the combinator before the selector; without a sign it is `Descendant`.
+    /// Returns the combinator before the selector; if none is written, it is `Descendant`.
     pub fn combinator(&self) -> Combinator
         ensures { result ≡ combinator_of self.now }
     {
@@ -110,7 +110,7 @@ impl<'a> MiniSelector<'a> {
         }
     }
 
-    /// Returns whether the selector has any part or a combinator with a sign.
+    /// Returns whether the selector has any part or a written combinator.
     pub(crate) fn has_part(&self) -> bool
         ensures { result ≡ has_part self.now }
     {

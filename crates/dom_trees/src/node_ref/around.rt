@@ -32,8 +32,8 @@ impl<'a> NodeRef<'a> {
         self.node_of(parent_id(self.tree.nodes(), &self.id))
     }
 
-    /// Returns the parent, whatever kind of node it is, or `None` when there is none. It is the
-    /// same as `parent`, since the crate dom_query has both names.
+    /// Returns the parent, whatever kind of node it is, or `None` when there is none. It is another
+    /// name of `parent`, since the Rust crate dom_query has both.
     pub fn parent_element(&self) -> Option<NodeRef<'a>>
         ensures { result ≡ ref_to self.now.tree (parent self.now.tree.now self.now.id) }
     {

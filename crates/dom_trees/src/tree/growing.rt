@@ -15,7 +15,7 @@ use dom_nodes::name::QualName;
 use dom_nodes::node_data::{Attrs, Element, NodeData};
 use dom_nodes::node_id::NodeId;
 
-/// What an element is made with besides name and attributes: template contents of its own, and the
+/// What a new element gets besides name and attributes: whether it gets template contents, and the
 /// flag that a MathML `annotation-xml` element is an HTML integration point (HTML Standard,
 /// 13.2.6).
 #[derive(Clone, Copy, PartialEq, Eq, Debug, Drop)]

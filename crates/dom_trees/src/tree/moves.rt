@@ -30,9 +30,9 @@ impl Tree {
         Ok(())
     }
 
-    /// Moves nodes to an insertion point, if the caller has proved that this move is allowed
-    /// (`MayMove`). It searches no ancestors for a cycle, so its time depends only on the nodes that
-    /// are moved.
+    /// Moves nodes to an insertion point. The caller must have proved that this move is allowed
+    /// (`MayMove`). It searches no ancestors for a cycle, so its time depends only on the nodes
+    /// that are moved.
     pub fn move_allowed(&mut self, gap: InsertionPoint, moving: MovedNodes)
         requires { MayMove gap moving self.old }
         ensures { self.new ≡ moved_to (moved_nodes self.old moving) gap self.old }
@@ -164,7 +164,7 @@ impl Tree {
     }
 
     /// Moves a node to the place immediately before the node `id`, and then detaches that one. It
-    /// fails when the first step does, with the faults of `move_to`.
+    /// fails as `move_to` does for the first of these steps.
     pub fn replace_with(&mut self, id: &NodeId, new_node: &NodeId) -> Result<(), EditFault>
         ensures { Edits result self.old self.new (replacing id.now new_node.now) }
     {
@@ -178,7 +178,7 @@ impl Tree {
     }
 
     /// Moves `wrapper` to the place immediately before the node `id`, and then that node to the end
-    /// of the wrapper's children. It fails with the faults of `move_to` when one of the steps isn't
+    /// of the wrapper's children. It fails as `move_to` does when one of the two steps isn't
     /// allowed.
     pub fn wrap_node(&mut self, id: &NodeId, wrapper: &NodeId) -> Result<(), EditFault>
         ensures { Edits result self.old self.new (wrapping id.now wrapper.now) }

@@ -1,4 +1,4 @@
-//! The tag that is being read.
+//! The tag that is being read. A call that returns a `Result` fails only when memory runs out.
 
 ghost use Rattle.std.specs.Prelude.{◌≡◌, ◌<◌, [], true, false, length, map, string_bytes};
 ghost use Rattle.std.specs.Option.{IsSomeAnd};

@@ -36,7 +36,7 @@ impl Tokenizer {
     }
 
     /// Takes the parse errors that were collected, in the order in which they were found. In each
-    /// part of the page, the characters that may not occur are found before the other errors.
+    /// part of the page, characters that aren't allowed are found before the other errors.
     pub fn take_errors(&mut self) -> Vec<ErrorAt> {
         match &mut self.errors {
             Some(errors) => mem::replace(errors, Vec::new(self.alloc)),

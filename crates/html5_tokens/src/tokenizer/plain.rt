@@ -12,7 +12,7 @@ use super::{State, Tokenizer, append};
 use crate::token::{TagKind, TokenKind};
 use std::alloc::AllocError;
 
-/// The most frequent references without their `&`, and what they mean.
+/// The most frequent references without their `&`, and what they stand for.
 static REFERENCES: [(&str, &str); 5] = [
     ("amp;", "&"),
     ("gt;", ">"),

@@ -241,9 +241,9 @@ impl Tokenizer {
     ghost use Rattle.html5_tokens.specs.Reading.{ReadsNoToken, ReadsRun, ReadsWhole};
     ghost use Rattle.html5_tokens.specs.Tags.{ReadsPlainTag, TakesPlainTag};
 
-    /// Reads a part of a page in which [`MARKS`] occurs at the end at most, as
-    /// `split_inclusive(MARKS)` cuts it. Returns the token that ends there, if one does. Fails only
-    /// when memory runs out.
+    /// Reads a part of a page that contains [`MARKS`] at its end or not at all;
+    /// `split_inclusive(MARKS)` splits a page into such parts. Returns the token that ends there,
+    /// if one does. Fails only when memory runs out.
     pub fn read_stretch(&mut self, stretch: &str) -> Step
         ensures text { IsInText self.old → IsRun stretch.now →
             ReadsNoToken self.old self.new stretch.now result }

@@ -10,7 +10,7 @@ use dom_trees::tree::Tree;
 use std::alloc::Global;
 use std::collections::{BTreeMap, BTreeSet};
 
-/// How far the ranks of neighbours lie apart at first, so that others fit between them.
+/// The distance between the ranks of neighbours that are appended, so that others fit between them.
 const STEP: u64 = 1 << 32;
 
 /// Pairs of what an entry is looked up by, and the entry's rank.
@@ -47,7 +47,7 @@ impl FormattingIndex {
         }
     }
 
-    /// The likeness of an element.
+    /// Returns the likeness of an element. Fails when memory runs out.
     pub fn likeness_of(&mut self, tree: &Tree, id: NodeId) -> Result<u32, PageFault> {
         match tree.tree_node(&id) {
             Some(node) => match node.content.as_element() {
@@ -58,7 +58,7 @@ impl FormattingIndex {
         }
     }
 
-    /// The number of a name with attributes, which is the next one where no element had them.
+    /// Returns the number of a name with attributes: the next number, if no element had them yet.
     fn number_of(&mut self, written: String) -> Result<u32, PageFault> {
         if let Some(number) = self.numbers.get(written.as_str()) {
             return Ok(*number);
@@ -70,7 +70,7 @@ impl FormattingIndex {
         Ok(number)
     }
 
-    /// Indexes an entry that is put at a position of the list.
+    /// Adds an entry that is inserted at a position of the list. Fails when memory runs out.
     pub fn add(&mut self, position: usize, entry: &Entry, likeness: u32) -> Result<(), PageFault> {
         let position = position.min(self.ranks.len());
         let rank = self.rank_for(position)?;
@@ -91,7 +91,7 @@ impl FormattingIndex {
         Ok(())
     }
 
-    /// A rank for a new entry at a position. There may be none left between two neighbours.
+    /// Returns a rank for a new entry at a position. Fails if none is left between its neighbours.
     fn rank_for(&self, position: usize) -> Result<u64, PageFault> {
         let below = match position.checked_sub(1) {
             Some(before) => self.ranks.get(before).copied().unwrap_or(0),
@@ -108,7 +108,7 @@ impl FormattingIndex {
         }
     }
 
-    /// Forgets an entry that leaves a position of the list.
+    /// Removes an entry that is removed from a position of the list.
     pub fn remove(&mut self, position: usize, entry: &Entry) {
         if position >= self.ranks.len() || position >= self.likenesses.len() {
             return;
@@ -127,7 +127,7 @@ impl FormattingIndex {
         }
     }
 
-    /// Indexes a copy of an element, which takes its place in the list.
+    /// Replaces the id of an entry's element by that of its copy. Fails when memory runs out.
     pub fn replace(&mut self, position: usize, old: NodeId, copy: NodeId) -> Result<(), PageFault> {
         if let Some(rank) = self.ranks.get(position) {
             self.by_id.remove(&(id_key(old), *rank));
@@ -140,7 +140,7 @@ impl FormattingIndex {
         self.ranks.binary_search(&rank).ok()
     }
 
-    /// Whether an entry is behind the last marker.
+    /// Returns whether an entry is after the last marker.
     fn is_after_marker(&self, rank: u64) -> bool {
         match self.markers.last() {
             Some(marker) => rank > *marker,
@@ -148,12 +148,12 @@ impl FormattingIndex {
         }
     }
 
-    /// Where the entry of an element is.
+    /// Returns the position of an element's entry.
     pub fn position_of(&self, id: NodeId) -> Option<usize> {
         self.position(nth_last(&self.by_id, id_key(id), 0)?)
     }
 
-    /// Where the last element of that name behind the last marker is.
+    /// Returns the position of the last element with that name, if it is after the last marker.
     pub fn last_named(&self, name: Name) -> Option<usize> {
         let rank = nth_last(&self.by_name, name as u32, 0)?;
         if !self.is_after_marker(rank) {
@@ -162,7 +162,8 @@ impl FormattingIndex {
         self.position(rank)
     }
 
-    /// Where the third element of that likeness from the end is, if behind the last marker.
+    /// Returns the position of the third element of that likeness, counted from the end, if it is
+    /// after the last marker.
     pub fn third_alike(&self, likeness: u32) -> Option<usize> {
         let rank = nth_last(&self.by_likeness, likeness, 2)?;
         if !self.is_after_marker(rank) {
@@ -176,14 +177,14 @@ fn id_key(id: NodeId) -> u32 {
     (id.value() & 0xffff_ffff) as u32
 }
 
-/// The rank of the entry of a key from the end, where 0 is the last one.
+/// Returns the rank of an entry with that key, counted from the end; 0 stands for the last one.
 fn nth_last(ranked: &Ranked, key: u32, nth: usize) -> Option<u64> {
     let (found, rank) = *ranked.range(..=(key, u64::MAX)).rev().nth(nth)?;
     if found == key { Some(rank) } else { None }
 }
 
-/// The name and the attributes in the order of their names, with bytes between them that none of
-/// them holds.
+/// Returns the element's name and its attributes in the order of their names, with NUL characters
+/// between them, which none of them contains.
 fn written(alloc: Global, element: &Element) -> Result<String, PageFault> {
     let mut attrs = BTreeMap::new(alloc);
     for attr in element.attrs().as_slice() {

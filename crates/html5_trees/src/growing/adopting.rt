@@ -1,5 +1,5 @@
 //! Reconstructing the active formatting elements (13.2.4.3), and the adoption agency algorithm
-//! (13.2.6.4.7).
+//! (13.2.6.4.7). A call that returns a `Result` fails only when memory or node ids run out.
 
 ghost use Rattle.std.specs.Prelude.{◌≡◌};
 ghost use Rattle.html5_trees.specs.Elements.{IsElement};
@@ -46,7 +46,7 @@ impl Bookmark {
 }
 
 impl GrowingTree {
-    /// Reconstructs the active formatting elements: inserts those again that are not open.
+    /// Reconstructs the active formatting elements: inserts copies of those that are not open.
     pub fn reconstruct(&mut self, placing: Placing) -> Result<(), PageFault> {
         for index in self.first_closed()..self.formatting.len() {
             self.reconstruct_formatting(index, placing)?;
@@ -233,7 +233,7 @@ impl GrowingTree {
         Ok(())
     }
 
-    /// Adds an entry of that likeness at an index of the list.
+    /// Inserts an entry of that likeness at an index of the list.
     fn insert_entry(&mut self, index: usize, element: &Open, likeness: u32) -> Result<(), PageFault>
         requires { IsElement self.old element.now.id }
         ensures { self.new ≡ self.old }

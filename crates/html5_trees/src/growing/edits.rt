@@ -1,5 +1,5 @@
-//! The edits of the tree that tree construction makes. They fail only because of limits, and
-//! elements stay elements.
+//! The edits of the tree that tree construction makes. They fail only when memory or node ids run
+//! out, and an element never becomes a node of another kind.
 
 ghost use Rattle.std.specs.Prelude.{◌≡◌, ◌∷◌, [], IfOk, None, OnErr, Some, false};
 ghost use Rattle.dom_links.specs.ListMoves.{reparented};
@@ -22,7 +22,8 @@ use dom_nodes::node_id::NodeId;
 use dom_trees::tree::{ElementFlags, Tree};
 use html5_tokens::token::Tag;
 
-/// Every tree is a well-formed forest. The function does nothing; it is called for its contract.
+/// Every tree is a well-formed forest. The function does nothing at run time; a call of it brings
+/// its `ensures` clauses into the caller's proof.
 pub fn is_forest(tree: &Tree)
     ensures { IsForest tree.now }
 {
@@ -98,7 +99,7 @@ pub fn put_doctype(tree: &mut Tree, parts: [&str; 3]) -> Result<(), PageFault>
     Ok(())
 }
 
-/// Makes an element, which stands alone.
+/// Makes a detached element and returns its id.
 fn create(
     tree: &mut Tree,
     name: QualName,

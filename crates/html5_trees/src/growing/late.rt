@@ -22,7 +22,8 @@ pub struct LateAttrs {
 }
 
 impl LateAttrs {
-    /// Nothing that is to be added to an element yet.
+    /// Returns the state for an element to which nothing is to be added yet. Fails only when memory
+    /// runs out.
     pub fn new(tree: &Tree, id: NodeId) -> Result<LateAttrs, PageFault> {
         let alloc = tree.allocator();
         Ok(LateAttrs {
@@ -32,11 +33,13 @@ impl LateAttrs {
         })
     }
 
+    /// Returns whether they are the attributes of the element with that id.
     pub fn is_of(&self, id: NodeId) -> bool {
         self.id == id
     }
 
-    /// Collects the attributes of a tag whose names the element lacks.
+    /// Collects those of a tag's attributes whose names the element doesn't have yet. Fails only
+    /// when memory runs out.
     pub fn add(&mut self, alloc: Global, tag: &Tag) -> Result<(), PageFault> {
         for attr in tag.attrs.as_slice() {
             if !self.names.contains(attr.name.as_str()) {
@@ -48,7 +51,8 @@ impl LateAttrs {
         Ok(())
     }
 
-    /// Adds the collected attributes to the element, behind its own.
+    /// Adds the collected attributes to the element, after its own. Fails only when memory runs
+    /// out.
     pub fn put_into(self, tree: &mut Tree) -> Result<(), PageFault> {
         let mut attrs = attrs_at(tree, self.id)?;
         for attr in self.added {
@@ -68,14 +72,14 @@ pub struct LateTags {
 }
 
 impl LateTags {
-    /// No element has later tags yet.
+    /// Returns the state in which no element has later tags yet.
     pub fn new(alloc: Global) -> LateTags {
         LateTags {
             elements: Vec::new(alloc),
         }
     }
 
-    /// Collects the attributes of a later tag of an element.
+    /// Collects the attributes of a later tag of an element. Fails only when memory runs out.
     pub fn add(&mut self, tree: &Tree, id: NodeId, tag: &Tag) -> Result<(), PageFault> {
         let place = self.place_of(tree, id)?;
         match self.elements.get_mut(place) {
@@ -94,6 +98,7 @@ impl LateTags {
         Ok(place)
     }
 
+    /// Returns where an element is in the list.
     fn find(&self, id: NodeId) -> Option<usize> {
         for (place, late) in self.elements.as_slice().iter().enumerate() {
             if late.is_of(id) {
@@ -103,7 +108,8 @@ impl LateTags {
         None
     }
 
-    /// Adds the collected attributes to their elements, behind those that the elements have.
+    /// Adds the collected attributes to their elements, after those that the elements have. Fails
+    /// only when memory runs out.
     pub fn put_into(self, tree: &mut Tree) -> Result<(), PageFault> {
         for late in self.elements {
             late.put_into(tree)?;
@@ -112,7 +118,7 @@ impl LateTags {
     }
 }
 
-/// Gives an element these attributes in place of its own. False where memory is refused.
+/// Gives an element these attributes in place of its own. Returns false where memory is refused.
 fn replace_attrs(tree: &mut Tree, id: NodeId, attrs: Attrs) -> bool {
     if tree.try_change_of(&id, Change::RemoveAllAttrs).is_err() {
         return false;
@@ -120,7 +126,7 @@ fn replace_attrs(tree: &mut Tree, id: NodeId, attrs: Attrs) -> bool {
     tree.add_missing_attrs_of(&id, attrs).is_ok()
 }
 
-/// A copy of the attributes of an element.
+/// Returns a copy of the attributes of an element.
 fn attrs_at(tree: &Tree, id: NodeId) -> Result<Attrs, PageFault> {
     if let Some(node) = tree.tree_node(&id)
         && let Some(element) = node.content.as_element()
@@ -130,7 +136,7 @@ fn attrs_at(tree: &Tree, id: NodeId) -> Result<Attrs, PageFault> {
     Ok(Attrs::new(tree.allocator()))
 }
 
-/// The names of the attributes of an element.
+/// Returns the names of the attributes of an element.
 fn names_of(tree: &Tree, id: NodeId) -> Result<BTreeSet<String>, PageFault> {
     let alloc = tree.allocator();
     let mut names = BTreeSet::new(alloc);

@@ -28,6 +28,16 @@ pub struct Placing {
     pub max_depth: usize,
 }
 
+impl Placing {
+    /// Returns the same without a limit on depth: for texts and comments, which hold nothing.
+    pub fn at_any_depth(self) -> Placing {
+        Placing {
+            max_depth: usize::MAX,
+            ..self
+        }
+    }
+}
+
 /// A place for a node.
 #[derive(Clone, Copy, Drop)]
 pub enum Place {

@@ -1,5 +1,5 @@
 //! Removing elements from the stack of open elements and from the list of active formatting
-//! elements.
+//! elements. A call that returns a `Result` fails only when memory runs out.
 
 ghost use Rattle.std.specs.Prelude.{◌≡◌};
 
@@ -163,14 +163,14 @@ impl GrowingTree {
         self.push_current(likeness)
     }
 
-    /// The likeness of an element that is to be added to the list.
+    /// Returns the likeness of an element that is to be added to the list.
     pub fn likeness_of(&mut self, id: NodeId) -> u32
         ensures { self.new ≡ self.old }
     {
         self.formatting.likeness_of(&self.tree, id)
     }
 
-    /// Adds the current node, of that likeness, to the list.
+    /// Appends the current node, of that likeness, to the list.
     fn push_current(&mut self, likeness: u32) -> Result<(), PageFault> {
         let Some(open) = self.stack.current() else {
             return Ok(());

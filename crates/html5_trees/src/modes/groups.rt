@@ -158,7 +158,7 @@ fn rare_group_of(name: Name) -> Group {
     }
 }
 
-/// Returns whether the rules for "in head" process the start tag, wherever it is.
+/// Returns whether the rules for "in head" process a start tag with this name, wherever it is.
 pub fn is_metadata(name: Name) -> bool {
     matches!(group_of(name), Group::Metadata | Group::Template)
 }

@@ -1,4 +1,5 @@
-//! A search index over the stack of open elements: each search takes constant time.
+//! A search index over the stack of open elements: each search takes constant time. A call that
+//! returns a `Result` fails only when memory runs out.
 
 use super::{ElementNamespace, Open};
 use crate::fault::PageFault;

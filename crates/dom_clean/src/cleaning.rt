@@ -1,0 +1,109 @@
+//! Cleans the text of a fragment or of a page.
+
+ghost use Rattle.std.specs.Prelude.{◌≡◌, IfOk, MatchOption, string_bytes};
+ghost use Rattle.dom_clean.specs.Cleaned.{body_of, cleaned_below, cleaned_body};
+ghost use Rattle.dom_clean.specs.Laws.{IsSafePage, IsSafeText, page_around, page_of};
+ghost use Rattle.dom_clean.specs.Policies.{policy_of};
+ghost use Rattle.dom_clean.specs.Policy.{is_sound};
+ghost use Rattle.dom_clean.specs.Written.{text_of};
+ghost use Rattle.dom_html5.specs.Calm.{IsCalmPage};
+ghost use Rattle.dom_markup.specs.Numbered.{document_of};
+ghost use Rattle.dom_markup.specs.ValueTrees.{ValueTrees};
+
+use crate::policy::Policy;
+use crate::writer::clean_below;
+use dom_html5::{Context, Options, PageFault, parse_page, parse_page_fragment, read_calm};
+use dom_links::iters::first_child_id;
+use dom_markup::document::Document;
+use dom_nodes::fault::OutOfMemory;
+use dom_nodes::node_id::NodeId;
+use dom_trees::tree::Tree;
+use std::alloc::Global;
+
+/// The id of the body of a calm page whose head is empty: the root, the doctype, `html` and `head`
+/// come before it.
+const BODY: usize = 4;
+
+/// Returns the text of what the policy leaves of a fragment, which is read as the contents of a
+/// `div`. Fails only if memory is refused or the node ids run out.
+pub fn clean(alloc: Global, source: &str, policy: &Policy) -> Result<String, PageFault>
+    ensures safe { IfOk result (λ text. IsSafeText policy.now (string_bytes text)) }
+    ensures calm { (body : ValueTrees) → IsCalmPage (page_around source.now) (page_of body)
+        → IfOk result (λ text. string_bytes text
+        ≡ text_of (cleaned_below policy.now (document_of (page_of body)) 4)) }
+{
+    let body = NodeId::new(BODY).unwrap_or(NodeId::root());
+    match calm_page(alloc, source)? {
+        Some(document) => clean_node(&document.tree, body, policy),
+        None => clean_fragment(alloc, source, policy),
+    }
+}
+
+/// Returns a page with what the policy leaves of the body of a page, or of the whole document if it
+/// has no body: `<!DOCTYPE html>`, then `html` with an empty `head` and a `body`, all without
+/// attributes. Fails only if memory is refused or the node ids run out.
+pub fn clean_page(alloc: Global, source: &str, policy: &Policy) -> Result<String, PageFault>
+    ensures safe { IfOk result (λ page. IsSafePage policy.now (string_bytes page)) }
+    ensures calm { (trees : ValueTrees) → IsCalmPage source.now trees → IfOk result (λ page.
+        string_bytes page
+        ≡ page_around (text_of (cleaned_body policy.now (document_of trees)))) }
+{
+    let options = Options {
+        scripting: false,
+        max_depth: None,
+        errors: false,
+    };
+    let document = parse_page(alloc, source, options)?;
+    let text = clean_node(&document.tree, body_of(&document.tree), policy)?;
+    Ok(page_around(alloc, text.as_str())?)
+}
+
+/// Returns the body of a page, or the root if the page has none.
+fn body_of(tree: &Tree) -> NodeId
+    ensures { result ≡ body_of tree.now }
+{
+    match tree.body() {
+        Some(body) => body.id,
+        None => NodeId::root(),
+    }
+}
+
+/// Returns the page with the text in its body.
+fn page_around(alloc: Global, text: &str) -> Result<String, OutOfMemory>
+    ensures { IfOk result (λ page. string_bytes page ≡ page_around text.now) }
+{
+    let mut page = String::from_str(alloc, "<!DOCTYPE html><html><head></head><body>")?;
+    page.push_str(text)?;
+    page.push_str("</body></html>")?;
+    Ok(page)
+}
+
+/// Returns the text of what the policy leaves of the children of a node.
+fn clean_node(tree: &Tree, id: NodeId, policy: &Policy) -> Result<String, PageFault>
+    ensures text { IfOk result (λ text. string_bytes text
+        ≡ text_of (cleaned_below policy.now tree.now id)) }
+    ensures safe { IfOk result (λ text. IsSafeText policy.now (string_bytes text)) }
+{
+    Ok(clean_below(tree, &id, policy.lists())?)
+}
+
+/// Returns the text of what the policy leaves of a fragment with parse errors or without.
+fn clean_fragment(alloc: Global, source: &str, policy: &Policy) -> Result<String, PageFault>
+    ensures { IfOk result (λ text. IsSafeText policy.now (string_bytes text)) }
+{
+    let document = parse_page_fragment(alloc, source, Context::Html("div"), Options::default())?;
+    let tree = &document.tree;
+    let top = first_child_id(tree.nodes(), &tree.root_id());
+    clean_node(tree, top.unwrap_or(NodeId::root()), policy)
+}
+
+/// Returns the document of the page with the fragment in its body, if that is a calm page. It is
+/// read as explicit markup, without tree construction.
+fn calm_page(alloc: Global, source: &str) -> Result<Option<Document>, PageFault>
+    ensures { (body : ValueTrees) → IsCalmPage (page_around source.now) (page_of body)
+        → IfOk result (λ found. MatchOption found ⊥
+        (λ document. document.tree ≡ document_of (page_of body))) }
+{
+    let page = page_around(alloc, source)?;
+    read_calm(alloc, page.as_str())
+}

@@ -1,0 +1,19 @@
+//! Theorems about what a policy leaves. The functions do nothing; their contracts state the
+//! theorems.
+
+ghost use Rattle.std.specs.Prelude.{◌≡◌, true, ℕ, List};
+ghost use Rattle.dom_clean.specs.Addresses.{LeadsByItsScheme};
+ghost use Rattle.dom_clean.specs.Laws.{CleansSafely};
+ghost use Rattle.dom_clean.specs.Policy.{Policy, is_sound};
+
+/// Whatever the base is, the parser of the URL Standard gives an address the scheme that is in
+/// front of it, or else the scheme of the base, if it accepts the address.
+pub fn addresses_lead_by_their_schemes()
+    ensures { (address : List ℕ) → LeadsByItsScheme address }
+{}
+
+/// What a sound policy leaves of any tree is allowed by the policy, and the page with its text in
+/// the body is a calm page with exactly the tree that was left.
+pub fn what_is_left_is_safe()
+    ensures { (policy : Policy) → is_sound policy ≡ true → CleansSafely policy }
+{}

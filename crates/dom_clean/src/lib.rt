@@ -1,0 +1,23 @@
+//! A cleaner of HTML from strangers. `clean` returns the text of what a `Policy` leaves of a
+//! fragment, and `clean_page` that of a page.
+//!
+//! The page with that text in its body is a calm page, so `parse_page` reads it as exactly the tree
+//! that was left. The module `laws` has the theorems about the definitions.
+#![tactic(auto)]
+
+mod addresses;
+mod attributes;
+mod cleaning;
+mod common;
+mod fates;
+pub mod laws;
+mod lists;
+mod policy;
+mod rules;
+mod values;
+mod writer;
+
+pub use cleaning::{clean, clean_page};
+pub use policy::{Policy, PolicyFault};
+pub use rules::Rules;
+pub use writer::clean_tree;

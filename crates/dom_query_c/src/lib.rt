@@ -1,0 +1,524 @@
+//! HTML documents behind handles, for C and for what calls C. `include/dom_query.h` describes the
+//! functions as C sees them.
+#![tactic(auto)]
+
+ghost use Rattle.std.specs.Prelude.{◌≡◌, ◌∷◌, [], IfOk, None, Some, string_bytes, ⊤};
+ghost use Rattle.std.specs.List.{flat_map};
+ghost use Rattle.dom_links.specs.Texts.{text_of};
+ghost use Rattle.dom_markup.specs.Documents.{IsDocumentOf};
+ghost use Rattle.dom_markup.specs.Html.{html_of, inner_html_of};
+ghost use Rattle.dom_md.specs.Formatted.{formatted_below};
+ghost use Rattle.dom_md.specs.Words.{ReadsAsWords};
+ghost use Rattle.dom_select.specs.ByText.{ByText};
+ghost use Rattle.dom_select.specs.Descendants.{IsMatch};
+ghost use Rattle.dom_select.specs.Selected.{Selected};
+ghost use Rattle.dom_trees.specs.Edits.{making, normalizing, removing, setting_text};
+ghost use Rattle.dom_trees.specs.NewNodes.{bare_element, html_name, text_node};
+ghost use Rattle.dom_nodes.specs.Words.{class_words};
+ghost use Rattle.dom_trees.specs.Views.{node_attr, node_attrs, node_name};
+ghost use Rattle.html5_trees.specs.Shape.{IsPage};
+ghost use Rattle.c_state.specs.Answers.{ChangesTree, EditsTree, GivesNodes, GivesText};
+ghost use Rattle.c_state.specs.Answers.{GivesTextThat, MakesNode, SaysWhether};
+ghost use Rattle.c_state.specs.Edits.{IsMoved, IsPut, IsSanitized, attr_removed, attr_set};
+ghost use Rattle.c_state.specs.Edits.{element_renamed, unwrapped_node};
+ghost use Rattle.c_state.specs.KindNumbers.{HasKind};
+ghost use Rattle.c_state.specs.Neighbours.{IsFirst, along, neighbour};
+ghost use Rattle.c_state.specs.Pieces.{GivesPieces, attr_pieces};
+ghost use Rattle.dom_query_c.specs.Calls.{Asks, GivesKept, Reads};
+
+mod handle;
+mod parts;
+mod slot;
+
+use c_state::{Fault, State, fault_text};
+use handle::Handle;
+use std::alloc::Global;
+
+/// Asks the state that the handle holds.
+macro_rules! ask {
+    ($alloc:expr, $handle:expr, $state:ident => $question:expr) => {
+        match $handle.take($alloc) {
+            Some(boxed) => {
+                let mut $state = boxed;
+                let given = $question;
+                $handle.put($state);
+                $handle.answer(given)
+            }
+            None => $handle.note(Fault::Closed),
+        }
+    };
+}
+
+/// Reads a page, as browsers do, in place of what the handle held.
+#[unsafe(no_mangle)]
+pub extern "C" fn dq_parse_page(
+    alloc: Global,
+    handle: &mut Handle,
+    html: &[u8],
+    max_depth: usize,
+) -> i64
+    ensures { Reads handle.old.slot.state handle.new.slot.state result
+        (λ state. IsPage state.document.tree) }
+{
+    handle.fill(alloc, State::parse_page(alloc, html, max_depth))
+}
+
+/// Reads explicit markup, in place of what the handle held.
+#[unsafe(no_mangle)]
+pub extern "C" fn dq_parse(alloc: Global, handle: &mut Handle, html: &[u8]) -> i64
+    ensures { Reads handle.old.slot.state handle.new.slot.state result
+        (λ state. IsDocumentOf html.now state.document) }
+{
+    handle.fill(alloc, State::parse(alloc, html))
+}
+
+/// Reads a fragment of a page, as browsers do inside an element of that name.
+#[unsafe(no_mangle)]
+pub extern "C" fn dq_parse_fragment(
+    alloc: Global,
+    handle: &mut Handle,
+    html: &[u8],
+    context: &[u8],
+) -> i64
+    ensures { Reads handle.old.slot.state handle.new.slot.state result
+        (λ _. ⊤) }
+{
+    handle.fill(alloc, State::parse_fragment(alloc, html, context))
+}
+
+/// Frees what the handle holds; it is then empty.
+#[unsafe(no_mangle)]
+pub extern "C" fn dq_free(alloc: Global, handle: &mut Handle)
+    ensures { handle.new.slot.state ≡ None }
+{
+    drop(handle.take(alloc));
+}
+
+/// Finds the elements below the node that match the selectors: how many there are.
+#[unsafe(no_mangle)]
+pub extern "C" fn dq_select(
+    alloc: Global,
+    handle: &mut Handle,
+    root: u32,
+    selectors: &[u8],
+    to: &mut [u32],
+) -> i64
+    ensures { Asks handle.old.slot.state handle.new.slot.state result
+        (λ given s t. GivesNodes given s t to.old to.new (λ ids. ByText selectors.now
+            (λ list. Selected s.document.tree (root ∷ []) list ids))) }
+{
+    ask!(alloc, handle, state => state.select(root, selectors, to))
+}
+
+/// The first element below the node that matches the selectors.
+#[unsafe(no_mangle)]
+pub extern "C" fn dq_select_first(
+    alloc: Global,
+    handle: &mut Handle,
+    root: u32,
+    selectors: &[u8],
+) -> i64
+    ensures { Asks handle.old.slot.state handle.new.slot.state result
+        (λ given s t. (t ≡ s) × IfOk given (λ found. ByText selectors.now
+            (λ list. IsFirst list s.document.tree root found))) }
+{
+    ask!(alloc, handle, state => state.select_first(root, selectors))
+}
+
+/// Whether the node matches the selectors: 1 or 0.
+#[unsafe(no_mangle)]
+pub extern "C" fn dq_matches(
+    alloc: Global,
+    handle: &mut Handle,
+    node: u32,
+    selectors: &[u8],
+) -> i64
+    ensures { Asks handle.old.slot.state handle.new.slot.state result
+        (λ given s t. (t ≡ s) × IfOk given (λ answer. ByText selectors.now
+            (λ list. SaysWhether answer (IsMatch list s.document.tree node)))) }
+{
+    ask!(alloc, handle, state => state.matches(node, selectors))
+}
+
+/// The texts of the elements below the node that match the selectors: how many there are.
+#[unsafe(no_mangle)]
+pub extern "C" fn dq_select_texts(
+    alloc: Global,
+    handle: &mut Handle,
+    root: u32,
+    selectors: &[u8],
+) -> i64
+    ensures { Asks handle.old.slot.state handle.new.slot.state result
+        (λ given s t. GivesPieces given s t (λ n. Some (text_of s.document.tree n))
+            (λ ids. ByText selectors.now
+            (λ list. Selected s.document.tree (root ∷ []) list ids))) }
+{
+    ask!(alloc, handle, state => state.select_texts(root, selectors))
+}
+
+/// The HTML of the elements below the node that match the selectors: how many there are.
+#[unsafe(no_mangle)]
+pub extern "C" fn dq_select_html(
+    alloc: Global,
+    handle: &mut Handle,
+    root: u32,
+    selectors: &[u8],
+) -> i64
+    ensures { Asks handle.old.slot.state handle.new.slot.state result
+        (λ given s t. GivesPieces given s t (λ n. Some (html_of s.document.tree n))
+            (λ ids. ByText selectors.now
+            (λ list. Selected s.document.tree (root ∷ []) list ids))) }
+{
+    ask!(alloc, handle, state => state.select_html(root, selectors))
+}
+
+/// An attribute of each element below the node that matches the selectors: how many there are.
+#[unsafe(no_mangle)]
+pub extern "C" fn dq_select_attrs(
+    alloc: Global,
+    handle: &mut Handle,
+    root: u32,
+    selectors: &[u8],
+    name: &[u8],
+) -> i64
+    ensures { Asks handle.old.slot.state handle.new.slot.state result
+        (λ given s t. GivesPieces given s t (λ n. node_attr s.document.tree n name.now)
+            (λ ids. ByText selectors.now
+            (λ list. Selected s.document.tree (root ∷ []) list ids))) }
+{
+    ask!(alloc, handle, state => state.select_attrs(root, selectors, name))
+}
+
+/// The nodes that were found last: how many there are.
+#[unsafe(no_mangle)]
+pub extern "C" fn dq_found(alloc: Global, handle: &mut Handle, to: &mut [u32]) -> i64
+    ensures { Asks handle.old.slot.state handle.new.slot.state result
+        (λ given s t. (t ≡ s) × GivesKept given to.old to.new s.ids.items) }
+{
+    ask!(alloc, handle, state => Ok(state.write_ids(to)))
+}
+
+/// The text that was taken last: its length.
+#[unsafe(no_mangle)]
+pub extern "C" fn dq_taken(alloc: Global, handle: &mut Handle, to: &mut [u8]) -> i64
+    ensures { Asks handle.old.slot.state handle.new.slot.state result
+        (λ given s t. (t ≡ s) × GivesKept given to.old to.new (string_bytes s.text)) }
+{
+    ask!(alloc, handle, state => Ok(state.write_text(to)))
+}
+
+/// The lengths of the pieces of the text that was taken last: how many there are.
+#[unsafe(no_mangle)]
+pub extern "C" fn dq_lengths(alloc: Global, handle: &mut Handle, to: &mut [u32]) -> i64
+    ensures { Asks handle.old.slot.state handle.new.slot.state result
+        (λ given s t. (t ≡ s) × GivesKept given to.old to.new s.lengths.items) }
+{
+    ask!(alloc, handle, state => Ok(state.write_lengths(to)))
+}
+
+/// Takes the text at the node: its length.
+#[unsafe(no_mangle)]
+pub extern "C" fn dq_text(alloc: Global, handle: &mut Handle, node: u32, to: &mut [u8]) -> i64
+    ensures { Asks handle.old.slot.state handle.new.slot.state result
+        (λ given s t. GivesText given s t to.old to.new (text_of s.document.tree node)) }
+{
+    ask!(alloc, handle, state => state.take_text(node, to))
+}
+
+/// Takes the HTML of the node: its length.
+#[unsafe(no_mangle)]
+pub extern "C" fn dq_html(alloc: Global, handle: &mut Handle, node: u32, to: &mut [u8]) -> i64
+    ensures { Asks handle.old.slot.state handle.new.slot.state result
+        (λ given s t. GivesText given s t to.old to.new (html_of s.document.tree node)) }
+{
+    ask!(alloc, handle, state => state.take_html(node, to))
+}
+
+/// Takes the HTML of the node's children: its length.
+#[unsafe(no_mangle)]
+pub extern "C" fn dq_inner_html(alloc: Global, handle: &mut Handle, node: u32, to: &mut [u8]) -> i64
+    ensures { Asks handle.old.slot.state handle.new.slot.state result
+        (λ given s t. GivesText given s t to.old to.new
+            (inner_html_of s.document.tree node)) }
+{
+    ask!(alloc, handle, state => state.take_inner_html(node, to))
+}
+
+/// Takes the Markdown of the node: its length.
+#[unsafe(no_mangle)]
+pub extern "C" fn dq_md(alloc: Global, handle: &mut Handle, node: u32, to: &mut [u8]) -> i64
+    ensures { Asks handle.old.slot.state handle.new.slot.state result
+        (λ given s t. GivesTextThat given s t to.old to.new
+            (ReadsAsWords s.document.tree node)) }
+{
+    ask!(alloc, handle, state => state.take_md(node, to))
+}
+
+/// Takes the formatted text of the node: its length.
+#[unsafe(no_mangle)]
+pub extern "C" fn dq_formatted_text(
+    alloc: Global,
+    handle: &mut Handle,
+    node: u32,
+    to: &mut [u8],
+) -> i64
+    ensures { Asks handle.old.slot.state handle.new.slot.state result
+        (λ given s t. GivesText given s t to.old to.new
+            (formatted_below s.document.tree node)) }
+{
+    ask!(alloc, handle, state => state.take_formatted_text(node, to))
+}
+
+/// Takes the name of the element: its length.
+#[unsafe(no_mangle)]
+pub extern "C" fn dq_name(alloc: Global, handle: &mut Handle, node: u32, to: &mut [u8]) -> i64
+    ensures { Asks handle.old.slot.state handle.new.slot.state result
+        (λ given s t. GivesTextThat given s t to.old to.new
+            (λ text. Some (string_bytes text) ≡ node_name s.document.tree node)) }
+{
+    ask!(alloc, handle, state => state.take_name(node, to))
+}
+
+/// Takes the value of an attribute: its length.
+#[unsafe(no_mangle)]
+pub extern "C" fn dq_attr(
+    alloc: Global,
+    handle: &mut Handle,
+    node: u32,
+    name: &[u8],
+    to: &mut [u8],
+) -> i64
+    ensures { Asks handle.old.slot.state handle.new.slot.state result
+        (λ given s t. GivesTextThat given s t to.old to.new
+            (λ text. Some (string_bytes text) ≡ node_attr s.document.tree node name.now)) }
+{
+    ask!(alloc, handle, state => state.take_attr(node, name, to))
+}
+
+/// Takes the names and values of the attributes, by turns: how many pieces there are.
+#[unsafe(no_mangle)]
+pub extern "C" fn dq_attrs(alloc: Global, handle: &mut Handle, node: u32) -> i64
+    ensures { Asks handle.old.slot.state handle.new.slot.state result
+        (λ given s t. GivesPieces given s t Some
+            (λ pieces. pieces ≡ flat_map attr_pieces (node_attrs s.document.tree node))) }
+{
+    ask!(alloc, handle, state => state.take_attrs(node))
+}
+
+/// Takes the classes of the element: how many there are.
+#[unsafe(no_mangle)]
+pub extern "C" fn dq_classes(alloc: Global, handle: &mut Handle, node: u32) -> i64
+    ensures { Asks handle.old.slot.state handle.new.slot.state result
+        (λ given s t. GivesPieces given s t Some
+            (λ pieces. pieces ≡ class_words (node_attrs s.document.tree node))) }
+{
+    ask!(alloc, handle, state => state.take_classes(node))
+}
+
+/// The kind of the node, as the DOM's `nodeType`.
+#[unsafe(no_mangle)]
+pub extern "C" fn dq_kind(alloc: Global, handle: &mut Handle, node: u32) -> i64
+    ensures { Asks handle.old.slot.state handle.new.slot.state result
+        (λ given s t. (t ≡ s) × IfOk given (λ kind. HasKind s.document.tree node kind)) }
+{
+    ask!(alloc, handle, state => state.kind(node))
+}
+
+/// The node in that direction.
+#[unsafe(no_mangle)]
+pub extern "C" fn dq_step(alloc: Global, handle: &mut Handle, node: u32, direction: u32) -> i64
+    ensures { Asks handle.old.slot.state handle.new.slot.state result
+        (λ given s t. (t ≡ s) × IfOk given (λ found.
+            neighbour s.document.tree node direction ≡ Some found)) }
+{
+    ask!(alloc, handle, state => state.step(node, direction))
+}
+
+/// Finds the nodes along an axis: how many there are.
+#[unsafe(no_mangle)]
+pub extern "C" fn dq_list(
+    alloc: Global,
+    handle: &mut Handle,
+    node: u32,
+    axis: u32,
+    to: &mut [u32],
+) -> i64
+    ensures { Asks handle.old.slot.state handle.new.slot.state result
+        (λ given s t. GivesNodes given s t to.old to.new
+            (λ ids. along s.document.tree node axis ≡ Some ids)) }
+{
+    ask!(alloc, handle, state => state.list(node, axis, to))
+}
+
+/// Sets an attribute.
+#[unsafe(no_mangle)]
+pub extern "C" fn dq_set_attr(
+    alloc: Global,
+    handle: &mut Handle,
+    node: u32,
+    name: &[u8],
+    value: &[u8],
+) -> i64
+    ensures { Asks handle.old.slot.state handle.new.slot.state result
+        (λ given s t. ChangesTree given s t
+            (λ old new. new ≡ attr_set node name.now value.now old)) }
+{
+    ask!(alloc, handle, state => state.set_attr(node, name, value))
+}
+
+/// Removes an attribute.
+#[unsafe(no_mangle)]
+pub extern "C" fn dq_remove_attr(
+    alloc: Global,
+    handle: &mut Handle,
+    node: u32,
+    name: &[u8],
+) -> i64
+    ensures { Asks handle.old.slot.state handle.new.slot.state result
+        (λ given s t. ChangesTree given s t
+            (λ old new. new ≡ attr_removed node name.now old)) }
+{
+    ask!(alloc, handle, state => state.remove_attr(node, name))
+}
+
+/// Changes the name of an element.
+#[unsafe(no_mangle)]
+pub extern "C" fn dq_rename(alloc: Global, handle: &mut Handle, node: u32, name: &[u8]) -> i64
+    ensures { Asks handle.old.slot.state handle.new.slot.state result
+        (λ given s t. ChangesTree given s t
+            (λ old new. new ≡ element_renamed node name.now old)) }
+{
+    ask!(alloc, handle, state => state.rename(node, name))
+}
+
+/// Puts a text in the place of the node's children.
+#[unsafe(no_mangle)]
+pub extern "C" fn dq_set_text(alloc: Global, handle: &mut Handle, node: u32, text: &[u8]) -> i64
+    ensures { Asks handle.old.slot.state handle.new.slot.state result
+        (λ given s t. EditsTree given s t (setting_text node text.now)) }
+{
+    ask!(alloc, handle, state => state.set_text(node, text))
+}
+
+/// Puts explicit markup at a place at the node.
+#[unsafe(no_mangle)]
+pub extern "C" fn dq_put_html(
+    alloc: Global,
+    handle: &mut Handle,
+    node: u32,
+    place: u32,
+    html: &[u8],
+) -> i64
+    ensures { Asks handle.old.slot.state handle.new.slot.state result
+        (λ given s t. ChangesTree given s t (IsPut place node html.now)) }
+{
+    ask!(alloc, handle, state => state.put_html(node, place, html))
+}
+
+/// Makes an element: its number.
+#[unsafe(no_mangle)]
+pub extern "C" fn dq_new_element(alloc: Global, handle: &mut Handle, name: &[u8]) -> i64
+    ensures { Asks handle.old.slot.state handle.new.slot.state result
+        (λ given s t. MakesNode given s t (making (bare_element (html_name name.now)))) }
+{
+    ask!(alloc, handle, state => state.new_element(name))
+}
+
+/// Makes a text: its number.
+#[unsafe(no_mangle)]
+pub extern "C" fn dq_new_text(alloc: Global, handle: &mut Handle, text: &[u8]) -> i64
+    ensures { Asks handle.old.slot.state handle.new.slot.state result
+        (λ given s t. MakesNode given s t (making (text_node text.now))) }
+{
+    ask!(alloc, handle, state => state.new_text(text))
+}
+
+/// Moves the node to a place at the target.
+#[unsafe(no_mangle)]
+pub extern "C" fn dq_move(
+    alloc: Global,
+    handle: &mut Handle,
+    node: u32,
+    place: u32,
+    target: u32,
+) -> i64
+    ensures { Asks handle.old.slot.state handle.new.slot.state result
+        (λ given s t. ChangesTree given s t (IsMoved node place target)) }
+{
+    ask!(alloc, handle, state => state.move_node(node, place, target))
+}
+
+/// Detaches the node.
+#[unsafe(no_mangle)]
+pub extern "C" fn dq_remove(alloc: Global, handle: &mut Handle, node: u32) -> i64
+    ensures { Asks handle.old.slot.state handle.new.slot.state result
+        (λ given s t. EditsTree given s t (removing node)) }
+{
+    ask!(alloc, handle, state => state.remove(node))
+}
+
+/// Puts the children of the node in its place.
+#[unsafe(no_mangle)]
+pub extern "C" fn dq_unwrap(alloc: Global, handle: &mut Handle, node: u32) -> i64
+    ensures { Asks handle.old.slot.state handle.new.slot.state result
+        (λ given s t. ChangesTree given s t (λ old new. new ≡ unwrapped_node node old)) }
+{
+    ask!(alloc, handle, state => state.unwrap_node(node))
+}
+
+/// Joins the neighbouring texts below the node.
+#[unsafe(no_mangle)]
+pub extern "C" fn dq_normalize(alloc: Global, handle: &mut Handle, node: u32) -> i64
+    ensures { Asks handle.old.slot.state handle.new.slot.state result
+        (λ given s t. EditsTree given s t (normalizing node)) }
+{
+    ask!(alloc, handle, state => state.normalize(node))
+}
+
+/// Keeps the elements and attributes of these names.
+#[unsafe(no_mangle)]
+pub extern "C" fn dq_sanitize(
+    alloc: Global,
+    handle: &mut Handle,
+    elements: &[u8],
+    attrs: &[u8],
+    dropped: &[u8],
+) -> i64
+    ensures { Asks handle.old.slot.state handle.new.slot.state result
+        (λ given s t. ChangesTree given s t
+            (IsSanitized elements.now attrs.now dropped.now)) }
+{
+    ask!(alloc, handle, state => state.sanitize(elements, attrs, dropped))
+}
+
+/// The fault of the last call: its number, or 0.
+#[unsafe(no_mangle)]
+pub extern "C" fn dq_fault(handle: &Handle) -> i64
+    ensures { result ≡ handle.now.fault }
+{
+    handle.fault
+}
+
+/// The byte of the markup at which the last fault was met.
+#[unsafe(no_mangle)]
+pub extern "C" fn dq_fault_byte(handle: &Handle) -> usize
+    ensures { result ≡ handle.now.byte }
+{
+    handle.byte
+}
+
+/// What a number of a fault means, in English: its length. As much is written as there is room for.
+#[unsafe(no_mangle)]
+pub extern "C" fn dq_fault_text(fault: i64, to: &mut [u8]) -> usize {
+    match fault_text(fault) {
+        Some(text) => {
+            let count = text.len().min(to.len());
+            to[..count].copy_from_slice(&text.as_bytes()[..count]);
+            text.len()
+        }
+        None => 0,
+    }
+}
+
+#[cfg(test)]
+mod tests;

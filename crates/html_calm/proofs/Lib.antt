@@ -1,0 +1,4 @@
+pub mod CalmDocuments
+pub mod CalmPlain
+pub mod CategoryPlaces
+pub mod CharTexts

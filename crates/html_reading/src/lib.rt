@@ -1,0 +1,55 @@
+//! Parsing by the HTML Standard, the tokenizer and tree construction together, and what it makes of
+//! calm documents. The crate has no code that runs: its functions are laws.
+#![tactic(auto)]
+
+ghost use Rattle.dom_nodes.specs.Escaping.{value_char};
+ghost use Rattle.html_laws.specs.Values.{safe_char};
+ghost use Rattle.html_reading.specs.Examples.{ImpliedTagsAreParsed, TextStatesAreParsed};
+ghost use Rattle.html_reading.specs.Laws.{CalmDocumentsAreParsed, CalmFragmentsAreParsed};
+ghost use Rattle.html_reading.specs.Laws.{CalmHtmlIsParsed, CalmPagesAreParsed};
+ghost use Rattle.html_reading.specs.Laws.{FragmentsAreParsedOneWay, PagesAreParsedOneWay};
+
+use dom_markup::laws::plain::{
+    documents_stand_for_their_trees, html_of_trees, one_meaning, what_is_read_is_plain,
+};
+
+/// The HTML of a calm document is parsed as that document (`html`), and so is every calm page that
+/// is written so (`page`) and the HTML of a calm and readable document (`document`). The HTML of
+/// calm and readable trees is parsed as these trees where the context element is a `body`, `div`,
+/// `li`, `td` or `blockquote` (`fragment`).
+pub fn calm_html_is_parsed()
+    ensures html { CalmHtmlIsParsed }
+    ensures page { CalmPagesAreParsed value_char }
+    ensures document { CalmDocumentsAreParsed value_char }
+    ensures fragment { CalmFragmentsAreParsed value_char }
+{
+    // Laws are called for their contracts alone.
+    documents_stand_for_their_trees();
+    html_of_trees();
+    one_meaning();
+    what_is_read_is_plain();
+}
+
+/// The same where `<` and `>` are escaped in values too.
+pub fn safe_html_is_parsed()
+    ensures page { CalmPagesAreParsed safe_char }
+    ensures document { CalmDocumentsAreParsed safe_char }
+    ensures fragment { CalmFragmentsAreParsed safe_char }
+{
+    documents_stand_for_their_trees();
+    one_meaning();
+    what_is_read_is_plain();
+}
+
+/// A text is parsed as one document at most, and in one context as one fragment at most.
+pub fn one_parse()
+    ensures page { PagesAreParsedOneWay }
+    ensures fragment { FragmentsAreParsedOneWay }
+{}
+
+/// Two pages that are parsed as the trees that are given with them: one without most of its tags,
+/// and one with elements whose text has states of its own.
+pub fn examples()
+    ensures implied { ImpliedTagsAreParsed }
+    ensures texts { TextStatesAreParsed }
+{}

@@ -1,0 +1,3 @@
+pub mod Decoding
+pub mod Pages
+pub mod Utf8

@@ -1,0 +1,255 @@
+"""The library for C and the package for Python, over the archive that the gate built.
+
+`c_and_python()` returns how many checks passed and how many failed:
+
+- The archive is built over the libraries that the gate left in crates/*/out, if it isn't there or they changed: the gate proves a static
+  library, but doesn't build it.
+- `./install-c` links the archive into a folder of its own, by gcc and, where it is there, by the kit's clang.
+- tests/checks/c_exports.c asks every function of include/dom_query.h: as C and as C++, under Valgrind or AddressSanitizer where there
+  is one, and with each request for memory refused in turn (tests/checks/refuse.c), after which no block may be left.
+- Each function of the header is one that the archive defines, and the other way around, and c_exports.c and the package name each.
+- The programs of examples/c are built with the pkg-config file and run, and so is each program that docs/C.md shows.
+- The tests of the package (python/tests) are run, and those of its types, where mypy is there. A wheel is made and installed."""
+import hashlib
+import os
+import pathlib
+import re
+import shutil
+import subprocess
+import sys
+import tempfile
+
+sys.path.insert(0, str(pathlib.Path(__file__).resolve().parents[1] / "tools"))
+import documents  # noqa: E402
+from rows import ROOT  # noqa: E402
+
+HERE = pathlib.Path(__file__).resolve().parent
+ARCHIVE = ROOT / "crates" / "dom_query_c" / "out" / "libdom_query_c.a"
+SECONDS = 1200
+
+
+def run(words, **more):
+    """How a command ended, and what it printed."""
+    more.setdefault("env", os.environ)
+    ran = subprocess.run([str(word) for word in words], stdout=subprocess.PIPE, stderr=subprocess.STDOUT, timeout=SECONDS, **more)
+    return ran.returncode, ran.stdout.decode("utf-8", "replace")
+
+
+class Checks:
+    """What passed, and what failed."""
+
+    def __init__(self):
+        self.passed, self.failed = 0, 0
+
+    def check(self, name, is_right, printed=""):
+        if is_right:
+            self.passed += 1
+        else:
+            self.failed += 1
+            print(f"c_and_python: {name}: {printed[-1500:]}")
+        return is_right
+
+    def runs(self, name, words, **more):
+        status, printed = run(words, **more)
+        return self.check(name, status == 0, f"status {status}: {printed}")
+
+
+def install(checks, archive, folder, compiler):
+    env = {**os.environ, "DOM_QUERY_ARCHIVE": str(archive)}
+    if compiler:
+        env |= {"CC": compiler, "DOM_QUERY_PYTHON": "no"}
+    return checks.runs(f"install-c with {compiler or 'gcc'}", [ROOT / "install-c", folder], env=env)
+
+
+def names(checks, folder):
+    """The header, the archive, the test program and the package agree on the functions."""
+    header = set(re.findall(r"\b(dq_[a-z0-9_]+)\(", (ROOT / "include" / "dom_query.h").read_text()))
+    status, printed = run(["nm", "-D", "--defined-only", folder / "lib" / "libdom_query.so"])
+    built = set(re.findall(r" T (dq_[a-z0-9_]+)", printed))
+    checks.check("functions of the header", status == 0 and header == built, f"{sorted(header ^ built)}")
+    for path in (HERE / "c_exports.c", ROOT / "python" / "dom_query" / "_library.py"):
+        missing = {name for name in header if not re.search(rf"\b{name}\b", path.read_text())}
+        checks.check(f"functions in {path.name}", not missing, f"{sorted(missing)}")
+
+
+def build(checks, folder, name, words, source=HERE / "c_exports.c"):
+    program = folder / name
+    flags = ["-Wall", "-Wextra", "-I", folder / "include", "-o", program, source, "-L", folder / "lib", "-ldom_query"]
+    flags.append(f"-Wl,-rpath,{folder / 'lib'}")
+    return program if checks.runs(f"building {name}", [*words, *flags]) else None
+
+
+def programs(checks, folder):
+    """The test program, in each way."""
+    plain = build(checks, folder, "c_exports", ["gcc", "-std=c11", "-O1", "-g"])
+    if not plain:
+        return
+    checks.runs("c_exports", [plain])
+    if shutil.which("g++"):
+        as_cpp = build(checks, folder, "c_exports_cpp", ["g++", "-x", "c++", "-fpermissive", "-w", "-x", "c++"])
+        if as_cpp:
+            checks.runs("c_exports as C++", [as_cpp])
+    if shutil.which("valgrind"):
+        checks.runs("c_exports under Valgrind", ["valgrind", "-q", "--error-exitcode=9", "--leak-check=full", plain])
+    sanitized = build(checks, folder, "c_exports_asan", ["gcc", "-std=c11", "-g", "-fsanitize=address"])
+    if sanitized:
+        checks.runs("c_exports under AddressSanitizer", [sanitized])
+    refusals(checks, folder, plain)
+
+
+def refusals(checks, folder, program):
+    """Each request for memory is refused in turn; every block is given back."""
+    counter = folder / "refuse.so"
+    if not checks.runs("building refuse.c", ["gcc", "-shared", "-fPIC", "-O2", "-o", counter, HERE / "refuse.c"]):
+        return
+    at, wrong = 0, []
+    while at < 100_000:
+        at += 1
+        into, out = os.pipe()
+        env = {**os.environ, "LD_PRELOAD": str(counter), "REFUSE": str(at), "REFUSE_TO": str(out)}
+        ran = subprocess.run([program, "refusing"], env=env, pass_fds=[out], stdout=subprocess.PIPE, timeout=SECONDS)
+        os.close(out)
+        counts = os.read(into, 100).split()
+        os.close(into)
+        _, refused, left = (int(count) for count in counts)
+        # stdio keeps its buffer where the program printed
+        if ran.returncode != 0 or (left > 0 and not ran.stdout):
+            wrong.append(f"request {at}: status {ran.returncode}, {left} blocks left, {ran.stdout.decode()}")
+        if refused == 0:
+            break
+    checks.check("each request for memory refused", not wrong and at > 100, "; ".join(wrong[:5]) or f"{at} requests alone")
+
+
+EXAMPLES = {
+    "links": (b'<p><a href="/tea">Tea <b>hot</b></a><a>no</a><a href="/milk">Milk</a>', b"Tea hot: /tea\nMilk: /milk\n"),
+    "clean": (
+        b"<p onclick=x()>Tea <a href=javascript:x()>free</a> <a href=HTTPS://tea.example>here</a><script>x()</script>",
+        b'<p>Tea <a>free</a> <a href="HTTPS://tea.example">here</a></p>\n',
+    ),
+}
+
+
+def examples(checks, folder):
+    """The examples in C, built by the pkg-config file."""
+    env = {**os.environ, "PKG_CONFIG_PATH": str(folder / "lib" / "pkgconfig")}
+    for name, (page, wanted) in EXAMPLES.items():
+        source, program = ROOT / "examples" / "c" / f"{name}.c", folder / name
+        if not shutil.which("pkg-config"):
+            if not build(checks, folder, name, ["gcc", "-std=c11"], source):
+                continue
+        else:
+            _, flags = run(["pkg-config", "--cflags", "--libs", "dom_query"], env=env)
+            command = ["gcc", "-std=c11", "-Wall", "-o", program, source, *flags.split(), f"-Wl,-rpath,{folder / 'lib'}"]
+            if not checks.runs(f"building {name}.c by pkg-config", command):
+                continue
+        ran = subprocess.run([program], input=page, stdout=subprocess.PIPE, timeout=SECONDS)
+        checks.check(f"{name}.c", ran.stdout == wanted and ran.returncode == 0, ran.stdout.decode())
+
+
+def documented(checks, folder):
+    """The C programs that docs/C.md shows, and what they print."""
+    shown = documents.blocks(ROOT / "docs" / "C.md")
+    program, source = None, folder / "documented.c"
+    for words, start, lines in shown:
+        if words == ["c"]:
+            source.write_text("\n".join(lines) + "\n", encoding="utf-8")
+            program = build(checks, folder, "documented", ["gcc", "-std=c11"], source)
+        elif words == ["c", "output"] and program:
+            status, printed = run([program])
+            checks.check(f"C.md:{start}", status == 0 and printed == "\n".join(lines) + "\n", printed)
+
+
+def package(checks, folder):
+    """The tests of the Python package, and its types."""
+    env = {**os.environ, "PYTHONPATH": str(ROOT / "python"), "DOM_QUERY_LIBRARY": str(folder / "lib" / "libdom_query.so")}
+    words = [sys.executable, "-W", "error::ResourceWarning", "-m", "unittest", "discover", "-s", ROOT / "python" / "tests", "-t", ROOT / "python"]
+    status, printed = run(words, env=env)
+    count = re.search(r"Ran (\d+) tests?", printed)
+    checks.check("tests of the package", status == 0 and count and int(count[1]) >= 30, printed)
+    checks.passed += int(count[1]) - 1 if status == 0 and count else 0
+    wheel(checks, folder)
+    if shutil.which("mypy"):
+        checks.runs("types of the package", ["mypy", "--strict", ROOT / "python" / "dom_query"])
+
+
+def wheel(checks, folder):
+    """A wheel is made and installed without a network, and works."""
+    pip = [sys.executable, "-m", "pip", "--disable-pip-version-check"]
+    if run([*pip, "--version"])[0] != 0:
+        return
+    env = {**os.environ, "PIP_NO_INDEX": "1"}
+    if checks.runs("pip wheel ./python", [*pip, "wheel", "-w", folder / "wheels", ROOT / "python"], env=env):
+        made = sorted((folder / "wheels").glob("dom_query-*.whl"))
+        checks.runs("installing the wheel", [*pip, "install", "--target", folder / "installed", *made], env=env)
+        script = "import dom_query; assert 'installed' in dom_query.__file__; assert dom_query.parse('<p>a').text == 'a'"
+        checks.runs("the installed package", [sys.executable, "-c", script], env={"PYTHONPATH": str(folder / "installed")}, cwd=folder)
+
+
+def built_libraries():
+    """The libraries that the gate left, by their names."""
+    return {rlib.stem: rlib for rlib in sorted((ROOT / "crates").glob("*/out/rlib/*.rlib"))}
+
+
+def inputs():
+    """What the archive is built from: a checksum of its own files, and of which libraries are below it."""
+    digest = hashlib.sha256()
+    crate = ROOT / "crates" / "dom_query_c"
+    for file in sorted(it for name in ("src", "specs", "proofs") for it in (crate / name).rglob("*") if it.is_file()):
+        digest.update(f"{file.relative_to(crate)}\0".encode() + file.read_bytes())
+    for name, rlib in built_libraries().items():
+        file = (rlib / "format").stat()
+        digest.update(f"{name} {file.st_mtime_ns} {file.st_ino}\n".encode())
+    return digest.hexdigest()
+
+
+def build_archive(archive):
+    """Builds the static library over the libraries that the gate left, which proves it once more, unless it is there already."""
+    mark, of = archive.with_suffix(".inputs"), inputs()
+    if archive.exists() and mark.exists() and mark.read_text() == of:
+        return 0, ""
+    kit, made = pathlib.Path(run(["rt", "doc"])[1].strip()).parent, built_libraries()
+    below = re.search(r"(?m)^dom_query_c staticlib:(.*)$", (ROOT / "crates.txt").read_text())[1].split()
+    found = {name: made.get(name, kit / "rlibs" / f"{name}.rlib") for name in ["std", *below]}
+    words = [kit / "bin" / "rattle", "build", "--crate-name", "dom_query_c", "src/lib.rt", "--crate-type", "staticlib"]
+    words += [word for name, rlib in found.items() for word in ("--extern", f"{name}={rlib}")]
+    words += ["-L", f"dependency={kit / 'rlibs'}"]
+    words += [word for rlib in made.values() for word in ("-L", f"dependency={rlib.parent}")]
+    words += ["--antt-project", kit / "rattle" / "logic" / "antt-project.json", "--logic-built", kit / "logic_built"]
+    words += ["--links", "dom_query_c=", "--toolchain", kit / "toolchain", "-o", archive]
+    archive.parent.mkdir(exist_ok=True)
+    status, printed = run(words, cwd=ROOT / "crates" / "dom_query_c")
+    if status == 0:
+        mark.write_text(of)
+    return status, printed
+
+
+def c_and_python(archive=None):
+    checks = Checks()
+    if archive is None:
+        archive = ARCHIVE
+        status, printed = build_archive(archive)
+        checks.check("building the archive", status == 0, printed)
+    if checks.check("the archive", archive.exists(), f"there is no {archive}"):
+        with tempfile.TemporaryDirectory() as made:
+            linked(checks, archive, pathlib.Path(made))
+    print(f"C and Python: {checks.passed} passed, {checks.failed} failed")
+    return checks.passed, checks.failed
+
+
+def linked(checks, archive, folder):
+    """All checks of what is linked from the archive."""
+    if install(checks, archive, folder, None):
+        names(checks, folder)
+        programs(checks, folder)
+        examples(checks, folder)
+        documented(checks, folder)
+        package(checks, folder)
+    kit = pathlib.Path(run(["rt", "doc"])[1].strip()).parent
+    clang = kit / "toolchain" / "bin" / "clang"
+    if clang.exists():
+        install(checks, archive, folder / "by_clang", f"{clang} -fuse-ld=lld")
+
+
+if __name__ == "__main__":
+    _, FAILED = c_and_python(*(pathlib.Path(word).resolve() for word in sys.argv[1:2]))
+    sys.exit(FAILED != 0)

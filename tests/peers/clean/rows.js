@@ -1,0 +1,95 @@
+// rows.js FOLDER writes the rows of tests/rows/test_clean: the text is the model's, and `read` is what parse5 makes of that text in
+// a div. The three rows with `noframes` are not the model's: parse5 7.1 reads what is in a `noframes` of a body as markup, where
+// the standard reads a text.
+"use strict";
+const fs = require("fs");
+const path = require("path");
+const { clean, policyOf, readIn } = require("./model.js");
+const folder = process.argv[2];
+function row(args, markup, more) {
+  const output = clean(policyOf(args), markup);
+  const read = readIn("div", output, true);
+  return { ...more, args, markup, output, ...(more || read !== output ? { read } : {}) };
+}
+const refused = (args, fault) => ({ args, markup: "x", output: fault + "\n" });
+function write(name, rows) {
+  fs.writeFileSync(path.join(folder, name + ".jsonl"), rows.map((one) => JSON.stringify(one) + "\n").join(""));
+  console.log(name, rows.length);
+}
+const attacks = JSON.parse(fs.readFileSync(path.join(__dirname, "attacks.json")));
+const OPEN = ["common", "element form", "element input", "element button", "element label", "element video", "element audio", "element source", "element font", "element fieldset", "element menu", "element center", "attribute class", "attribute id", "attribute name", "attribute href", "attribute src", "attribute action", "attribute formaction", "attribute poster", "attribute background", "data-attributes"];
+write("attacks", attacks.flatMap(([name, markup]) => [row(["common"], markup, { name }), row(OPEN, markup, { name })]));
+
+// each element that may be kept, alone, where it stands, and what it is left with when it isn't allowed
+const KEEPABLE = "a abbr acronym address area article aside audio b bdi bdo big blockquote br button canvas caption center cite code col colgroup data datalist dd del details dfn dialog dir div dl dt em fieldset figcaption figure font footer form h1 h2 h3 h4 h5 h6 header hgroup hr i img input ins kbd label legend li main map mark menu meter nav ol output p picture pre progress q s samp search section slot small source span strike strong sub summary sup table tbody td tfoot th thead time tr track tt u ul var video wbr".split(" ");
+const AROUND = { li: "<ul>|</ul>", dd: "<dl>|</dl>", dt: "<dl>|</dl>", caption: "<table>|</table>", colgroup: "<table>|</table>", col: "<table><colgroup>|</colgroup></table>", tbody: "<table>|</table>", thead: "<table>|</table>", tfoot: "<table>|</table>", tr: "<table><tbody>|</tbody></table>", td: "<table><tbody><tr>|</tr></tbody></table>", th: "<table><tbody><tr>|</tr></tbody></table>" };
+const TABLE = ["element table", "element tbody", "element tr", "element td", "element colgroup"];
+write("elements", KEEPABLE.flatMap((name) => {
+  const [before, after] = (AROUND[name] || "|").split("|");
+  const markup = `${before}<${name}>x</${name}>${after}`;
+  const around = AROUND[name] ? [...TABLE, "element ul", "element dl"] : [];
+  const args = [...new Set([...around, "element " + name, ...(name === "table" ? TABLE : [])])];
+  return [row(args, markup), row(around.filter((line) => line !== "element " + name && (name !== "td" && name !== "tr" && name !== "tbody")), markup)];
+}));
+const common = policyOf(["common"]);
+write("common", [
+  ...[...common.elements].map((name) => { const [before, after] = (AROUND[name] || "|").split("|"); return row(["common"], `${before}<${name}>x</${name}>${after}`); }),
+  ...[...common.attributes].map((name) => row(["common"], `<b ${name}="v" no${name}="v">x</b>`)),
+  ...common.own.map(([element, name]) => { const [before, after] = (AROUND[element] || "|").split("|"); return row(["common", "element tfoot"], `${before}<${element} ${name}="v">x</${element}>${after}<b ${name}="v">y</b>`); }),
+  ...[...common.schemes].map((scheme) => row(["common"], `<a href="${scheme}:x">x</a><a href="${scheme.toUpperCase()}://x/">x</a><a href="x${scheme}:x">y</a>`)),
+  ...["script", "style"].map((name) => row(["common"], `a<${name}>b</${name}>c`)),
+  ...["title", "base", "link", "meta", "head", "template", "svg", "math", "iframe", "noscript", "textarea", "select", "object", "embed", "xmp", "noembed", "noframes", "plaintext", "ruby", "x-y"].map((name) => row(["common"], `a<${name}>b<i>c</i></${name}>d`)),
+]);
+const ADDRESSES = "action background cite classid codebase data dynsrc formaction href icon longdesc lowsrc manifest poster profile src usemap".split(" ");
+const VALUES = ["http://h/", "HTTPS:/h", "javascript:alert(1)", " \t\njava\tscript:x", "data:text/html,x", "/y?a=1&b", "?q", "#f", "//h/x", "\\\\h\\x", "mailto:x", "http:y", "x y:z", "1a:b", "a+b-c.d:e", ":x", "", "http://[x", "é:x", "h\nttp://h/"];
+write("addresses", [
+  ...ADDRESSES.map((name) => row(["common", "attribute " + name], `<b ${name}="javascript:x">1</b><b ${name}="http://h/">2</b><b ${name}="/y">3</b>`)),
+  ...VALUES.flatMap((value) => ["keep-relative", "drop-relative", "resolve-relative https://b.example/d/e?f#g"].map((rule) => row(["common", rule], `<a href="${value.replace(/&/g, "&amp;")}">x</a>`))),
+  row(["element a", "attribute href", "scheme http", "resolve-relative http://b.example/"], "<a href='y'>x</a><a href='https://h/'>y</a>"),
+]);
+write("rules", [
+  row(["element b"], "<b onclick=x>a</b><!--c--><i>d</i>"),
+  row([], "<b>a</b>&lt;i&gt;"),
+  row(["element b", "attribute title"], "<b title='&lt;&gt;&amp;&quot;&apos;&nbsp;é' title=2>x</b>"),
+  row(["element b", "value b class x", "value b class y"], "<b class=x>1</b><b class=y>2</b><b class=z>3</b>"),
+  row(["element b", "element i", "attribute-of b class"], "<b class=x>1</b><i class=x>2</i>"),
+  row(["element b", "attribute class", "class x", "class y"], "<b class='z x  q y x'>1</b><b class='q'>2</b><b class=''>3</b>"),
+  row(["element b", "attribute id", "id-prefix u-"], "<b id=x>1</b><b id=u-x>2</b><b id=''>3</b>"),
+  row(["element b", "data-attributes"], "<b data-x=1 data-=2 data-Y=3 data-é=4 datax=5 data-a.b=6>1</b>"),
+  row(["element a", "element area", "rel nofollow noopener"], "<a rel=x>1</a><area rel=x>"),
+  row(["element a", "attribute rel"], "<a rel=x>1</a>"),
+  row(["common", "no-rel"], "<a href=/x>1</a>"),
+  ...[0, 1, 2, 3].map((depth) => row(["element div", "depth " + depth], "<div>a<div>b<div>c<div>d</div></div></div></div>")),
+  row(["element div", "drop i"], "<div>a<i>b<b>c</b></i>d</div>"),
+  row(["element div", "element i", "drop i"], "<div>a<i>b</i>d</div>"),
+  row(["element p", "element b"], "<p>a<b>b<p>c</p></b></p>"),
+  row(["common"], "<p>a<table><tr><td>b</td></tr></table></p>"),
+  row(["common"], "<table>a<tr>b<td>c</td></tr></table>"),
+  row(["common"], "<a href=/1>a<table><tr><td><a href=/2>b</a></td></tr></table></a>"),
+  row(["common"], "<ul><li>a<ul><li>b</ul><li>c</ul>d"),
+  row(["common"], "<dl><dt>a<dd>b<div><dt>c</div></dl>"),
+  row(["common"], "<h1>a<div><h2>b</h2></div></h1>"),
+  row(["common"], "a\0b\rc\r\nd"),
+  row(["common"], "<pre>\n\n\na</pre><pre><b>\nc</b>\nd</pre><pre><i></i>\ne</pre><pre>\n</pre><pre><x>\n</x>\nf</pre>"),
+  row(["element pre"], "<pre><x>\n</x>\n\ng\nh</pre>"),
+]);
+write("refusals", [
+  ...["script", "style", "title", "textarea", "template", "noscript", "svg", "math", "select", "option", "optgroup", "iframe", "object", "embed", "applet", "frame", "frameset", "base", "link", "meta", "head", "body", "html", "plaintext", "xmp", "noembed", "noframes", "listing", "marquee", "nobr", "image", "keygen", "param", "x-y", "DIV", "", "foreignobject", "bgsound"].map((name) => refused(["element " + name], `element \`${name}\` can't be kept safely`)),
+  ...["onclick", "on", "onx", "style", "srcset", "srcdoc", "imagesrcset", "ping", "is", "nonce", "http-equiv", "archive", "attributionsrc", "xmlns", "xlink:href", "xml:lang", "HREF", "a b", "a=b", "\"", "", "é"].map((name) => refused(["attribute " + name], `attribute \`${name}\` can't be kept safely`)),
+  refused(["element b", "attribute-of b onclick"], "attribute `onclick` can't be kept safely"),
+  refused(["element b", "value b style x"], "attribute `style` can't be kept safely"),
+  ...["javascript", "vbscript", "data"].map((name) => refused(["scheme " + name], `scheme \`${name}\` can't be kept safely`)),
+  ...["tbody", "tr", "td"].map((part) => refused(["table", "tbody", "tr", "td"].filter((name) => name !== part).map((name) => "element " + name), `\`table\` is allowed without \`${part}\``)),
+  refused(["resolve-relative http://h/"], "the scheme of the base isn't allowed"),
+  refused(["scheme https", "resolve-relative http://h/"], "the scheme of the base isn't allowed"),
+  refused(["rel no<follow"], "the `rel` of links can't be written"),
+  refused(["rel nofollow", "attribute rel"], "the `rel` of links can't be written"),
+  refused(["rel nofollow", "attribute-of a rel"], "the `rel` of links can't be written"),
+  refused(["class a b"], "class `a b` can't be written"),
+  refused(["class "], "class `` can't be written"),
+  refused(["class é"], "class `é` can't be written"),
+  refused(["id-prefix A"], "the prefix of ids can't be written"),
+  refused(["id-prefix a b"], "the prefix of ids can't be written"),
+  refused(["depth 257"], "the depth is above 256"),
+  row(["depth 256"], "x"),
+]);

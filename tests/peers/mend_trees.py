@@ -1,0 +1,72 @@
+"""mend_trees.py SOURCE TARGET: copies the folder of parse5 7.1.2, and mends where its trees aren't those of the HTML Standard:
+
+- the step of the adoption agency that standard/mend_parse5.py adds;
+- "in row", an end tag `tbody`, `tfoot` or `thead` is ignored unless that element is in table scope;
+- "in select", a start tag `hr` closes an open `option` and `optgroup`, and is inserted;
+- a CDATA section may begin wherever the adjusted current node isn't an HTML element, integration points included;
+- "any other end tag" looks for an HTML element of that name;
+- "in body", the content of `noframes` is text;
+- in a fragment, the content of `noscript` is text only with scripting;
+- `feDropShadow` is an SVG element.
+
+table_rows.py knows of one more: parse5 7.1.2 doesn't know the element `search`."""
+import pathlib
+import subprocess
+import sys
+
+HERE = pathlib.Path(__file__).resolve().parent
+CHANGES = {
+    "dist/cjs/parser/index.js": [
+        (
+            "p.openElements.hasInTableScope(token.tagID) || p.openElements.hasInTableScope(html_js_1.TAG_ID.TR)",
+            "p.openElements.hasInTableScope(token.tagID) && p.openElements.hasInTableScope(html_js_1.TAG_ID.TR)",
+        ),
+        (
+            "        case html_js_1.TAG_ID.INPUT:\n        case html_js_1.TAG_ID.KEYGEN:\n        case html_js_1.TAG_ID.TEXTAREA:\n        case html_js_1.TAG_ID.SELECT: {\n",
+            "        case html_js_1.TAG_ID.HR: {\n"
+            "            if (p.openElements.currentTagId === html_js_1.TAG_ID.OPTION) p.openElements.pop();\n"
+            "            if (p.openElements.currentTagId === html_js_1.TAG_ID.OPTGROUP) p.openElements.pop();\n"
+            "            p._appendElement(token, html_js_1.NS.HTML);\n            break;\n        }\n"
+            "        case html_js_1.TAG_ID.INPUT:\n        case html_js_1.TAG_ID.KEYGEN:\n        case html_js_1.TAG_ID.TEXTAREA:\n        case html_js_1.TAG_ID.SELECT: {\n",
+        ),
+        ("        this.currentNotInHTML = !isHTML;\n", "        this.currentNotInHTML = !isHTML;\n        this.tokenizer.allowsCdata = !isHTML;\n"),
+        (
+            "        if (tid === elementId && (tid !== html_js_1.TAG_ID.UNKNOWN || p.treeAdapter.getTagName(element) === tn)) {\n",
+            "        if (tid === elementId && p.treeAdapter.getNamespaceURI(element) === html_js_1.NS.HTML &&\n"
+            "            (tid !== html_js_1.TAG_ID.UNKNOWN || p.treeAdapter.getTagName(element) === tn)) {\n",
+        ),
+        (
+            "        case html_js_1.TAG_ID.BASE:\n        case html_js_1.TAG_ID.LINK:\n        case html_js_1.TAG_ID.META:\n        case html_js_1.TAG_ID.STYLE:\n"
+            "        case html_js_1.TAG_ID.TITLE:\n",
+            "        case html_js_1.TAG_ID.NOFRAMES:\n"
+            "        case html_js_1.TAG_ID.BASE:\n        case html_js_1.TAG_ID.LINK:\n        case html_js_1.TAG_ID.META:\n        case html_js_1.TAG_ID.STYLE:\n"
+            "        case html_js_1.TAG_ID.TITLE:\n",
+        ),
+        (
+            "            case html_js_1.TAG_ID.NOSCRIPT: {\n                this.tokenizer.state = index_js_1.TokenizerMode.RAWTEXT;\n",
+            "            case html_js_1.TAG_ID.NOSCRIPT: {\n"
+            "                if (this.fragmentContextID === html_js_1.TAG_ID.NOSCRIPT && !this.options.scriptingEnabled) break;\n"
+            "                this.tokenizer.state = index_js_1.TokenizerMode.RAWTEXT;\n",
+        ),
+    ],
+    "dist/cjs/common/foreign-content.js": [("    'feDistantLight',\n", "    'feDistantLight',\n    'feDropShadow',\n")],
+    "dist/cjs/tokenizer/index.js": [
+        ("        this.inForeignNode = false;\n", "        this.inForeignNode = false;\n        this.allowsCdata = false;\n"),
+        ("            if (this.inForeignNode) {\n", "            if (this.allowsCdata) {\n"),
+    ],
+}
+
+
+def main(source, target):
+    subprocess.run([sys.executable, HERE / "standard" / "mend_parse5.py", source, target], check=True)
+    for name, changes in CHANGES.items():
+        path = pathlib.Path(target) / name
+        text = path.read_text()
+        for old, new in changes:
+            assert text.count(old) == 1, (name, old, text.count(old))
+            text = text.replace(old, new)
+        path.write_text(text)
+
+
+if __name__ == "__main__":
+    main(*sys.argv[1:])

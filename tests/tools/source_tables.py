@@ -1,0 +1,252 @@
+"""Reads the tables of the crates that read pages: arrays of names and identifiers, and functions that match names of elements.
+
+An entry is a text such as `QUIRKY: -//sq//dtd html 2.0 hotmetal + extensions//` or `in table: td`. Each has a row in
+tests/rows/hq/tables_*.jsonl, whose field `entry` is that text (`in table: <td>` and `in table: </td>` for a start and an end tag).
+table_rows.py makes the rows, and tests/checks/tables.py looks for an entry that has none."""
+import re
+
+from rows import ROOT
+
+CRATES = ("html5_tokens", "html5_trees", "hq_pages")
+ARRAY = re.compile(r"^[ ]*(?:pub )?(?:static|const) (\w+): \[(?:[^;\]]|\[[^\]]*\])+; ?\w+\] = \[(.*?)\];", re.M | re.S)
+FUNCTION = re.compile(r"^( *)(?:pub(?:\(\w+\))? )?fn (\w+)", re.M)
+STRING = re.compile(r'"((?:[^"\\]|\\.)*)"')
+
+# Which rows the entries of a function have that matches names of elements: the insertion modes that use it, or the question
+# that it answers. A function that isn't here is new, and so is one that is gone.
+HEAD = ["before html", "before head", "in head", "after head"]
+TABLE = ["in table", "in table body", "in row"]
+FUNCTIONS = {
+    # chars.rt, growing/placing.rt
+    "holds_table_text": ["table text"],
+    "is_foster_target": ["table text"],
+    "table_place": ["foster parent"],
+    # attributes.rt, inserting.rt, growing.rt, growing/edits.rt
+    "local_name": ["in body"],
+    "holds_html": ["foreign"],
+    "insert_implied": ["before html"],
+    "insert_html": ["before html"],
+    "flags_of": ["in body"],
+    "ignores_form": ["form in table"],
+    # foreign.rt
+    "is_text_point": ["in math"],
+    "is_html_point": ["in svg"],
+    "is_tag_foreign": ["text point"],
+    "foreign_start": ["in svg"],
+    "foreign_end": ["in svg"],
+    # growing/popping.rt
+    "pop_options": ["in select"],
+    "end_optgroup": ["in select"],
+    # modes
+    "imply_html": ["before html"],
+    "before_html_tag": ["before html"],
+    "imply_head": ["before head"],
+    "before_head_tag": ["before head"],
+    "start_head": ["before head"],
+    "add_html_attrs": ["html in template"],
+    "head_element": ["in head"],
+    "start_template": ["in head"],
+    "close_template": ["in head"],
+    "head_tag": ["in head"],
+    "noscript_tag": ["in head noscript"],
+    "imply_body": ["after head"],
+    "after_head_tag": ["after head"],
+    "after_body_tag": ["after body"],
+    "after_after_body_tag": ["after after body"],
+    "frameset_tag": ["in frameset"],
+    "end_frameset": ["in frameset"],
+    "after_frameset_tag": ["after frameset"],
+    "after_after_frameset_tag": ["after after frameset"],
+    "select_tag": ["in select"],
+    "select_start": ["in select"],
+    "end_select": ["in select"],
+    "leaves_select": ["in select in table"],
+    "select_in_table_tag": ["in select in table"],
+    "template_tag": ["in template"],
+    "is_table_part": [*TABLE, "in caption", "in cell"],
+    "is_section": ["in table body", "in row", "in cell"],
+    "is_cell": ["in row", "in cell"],
+    "is_dropped_end": [*TABLE, "in caption", "in cell"],
+    "table_tag": ["in table"],
+    "end_table": ["in table"],
+    "table_start": ["in table"],
+    "start_table_part": ["in table"],
+    "start_table_form": ["form in table"],
+    "end_caption": ["in caption"],
+    "caption_tag": ["in caption"],
+    "leave_column_group": ["in column group"],
+    "column_group_tag": ["in column group"],
+    "has_section_in_scope": ["in table body"],
+    "table_body_tag": ["in table body"],
+    "table_body_start": ["in table body"],
+    "leave_row": ["in row"],
+    "row_tag": ["in row"],
+    "leave_cell": ["in cell"],
+    "cell_tag": ["in cell"],
+    "mode_at": ["fragment"],
+    "first_state": ["fragment"],
+    "begin_fragment": ["fragment"],
+    "begin_in": ["fragment"],
+    # "in body"
+    "body_start": ["in body", "in p"],
+    "start_inline": ["in body"],
+    "start_body": ["in body"],
+    "start_frameset": ["frameset behind"],
+    "start_form": ["in body", "in p"],
+    "start_item": ["in p"],
+    "start_button": ["in body"],
+    "start_a": ["in body"],
+    "start_nobr": ["in body"],
+    "start_table": ["in p"],
+    "start_input": ["in body"],
+    "start_select": ["in body"],
+    "start_option": ["in body"],
+    "start_ruby": ["in body"],
+    "body_end": ["in body"],
+    "end_html": ["in body"],
+    "end_p": ["in body"],
+    "end_other": ["in body"],
+    "end_form": ["in body"],
+    "group_of": ["in body", "in p", "formatting closed", "frameset behind"],
+    "rare_group_of": ["in body", "in p", "formatting closed", "frameset behind"],
+    # sets.rt, stack.rt
+    "is_heading": ["in heading"],
+    "ends_default_scope": ["scope"],
+    "ends_select_scope": ["in select"],
+    "ends_at": ["table context"],
+    "is_special_name": ["special"],
+    "is_crossed_by_items": ["in li", "in dd"],
+    "has_implied_end": ["implied end"],
+    "breaks_out": ["in svg", "in math"],
+    "has_body": ["frameset behind"],
+    "scope_end": ["button scope", "item scope"],
+    "item_before": ["in li", "in dd"],
+    "is_in_table": ["in select in table"],
+}
+# The arrays of names that are checked like functions.
+NAME_ARRAYS = {"ASKING": ["fragment"], "HEADINGS": ["in heading"]}
+# Arrays whose entries have rows in other files, or are no names, with the reason.
+OTHER_ARRAYS = {
+    "LETTERS": "the names of character references, which are proved to be those of the standard; `references` has a row for each",
+    "STARTS": "as LETTERS",
+    "FIRSTS": "as LETTERS",
+    "SECONDS": "as LETTERS",
+    "CODES": "parse errors; tests/rows/test_batch/noted.jsonl has each",
+    "NAMED": "the categories of element_kinds.rt; the names in each have the rows `calm`",
+    "KNOWN": "names by their number in the tree; each name has rows",
+}
+# Options that no row can show, with what shows them.
+OTHER_OPTIONS = {
+    "in-place": "it writes files; tests/checks/documents.py runs it in docs/HQ.md",
+    "verbose": "it prints nothing yet",
+    "progress": "it prints a time; tests/rows/hq/lines.jsonl and tests/checks/documents.py",
+}
+
+
+def element(variant):
+    """The element name that a variant of the enum `Name` stands for."""
+    if variant == "Other":
+        return "x-y"
+    return re.sub(r"(?<!^)([A-Z])", r"-\1", variant).lower()
+
+
+def plain(literal):
+    """The text that a string literal stands for."""
+    return literal.replace('\\"', '"').replace("\\\\", "\\")
+
+
+def sources():
+    """Each file of the crates, with its text."""
+    for crate in CRATES:
+        for file in sorted((ROOT / "crates" / crate / "src").rglob("*.rt")):
+            yield crate, file, file.read_text(encoding="utf-8")
+
+
+def functions(text):
+    """The name and the text of each function in a file; the files are formatted, so a function ends at its own indentation."""
+    for found in FUNCTION.finditer(text):
+        end = text.find(f"\n{found[1]}}}\n", found.end())
+        yield found[2], text[found.end() : end]
+
+
+def variants(text):
+    """The variants of the enum `Name` that a text mentions."""
+    return sorted(set(re.findall(r"\bName::([A-Z]\w*)", text)) - {"Other"})
+
+
+def arrays():
+    """The name and the contents of each array of the crates, with its crate."""
+    for crate, _, text in sources():
+        for name, inside in ARRAY.findall(text):
+            yield crate, name, inside
+
+
+def names():
+    """All element names that the rules of tree construction mention."""
+    text = (ROOT / "crates" / "html5_trees" / "src" / "name.rt").read_text(encoding="utf-8")
+    inside = re.search(r"pub enum Name \{(.*?)\n\}", text, re.S)[1]
+    return [element(it) for it in re.findall(r"^    (\w+),$", inside, re.M)]
+
+
+def named_entries():
+    """The entries of the functions and arrays that hold names of elements: pairs of a question and a name. Functions that aren't
+    in FUNCTIONS come as pairs of their name and None."""
+    for crate, _, text in sources():
+        if crate != "html5_trees":
+            continue
+        for name, body in functions(text):
+            found = variants(body)
+            if found and name not in FUNCTIONS:
+                yield name, None
+            for question in FUNCTIONS.get(name, []) if found else []:
+                yield from ((question, element(it)) for it in found)
+    for _, name, inside in arrays():
+        for question in NAME_ARRAYS.get(name, []):
+            yield from ((question, element(it)) for it in variants(inside))
+
+
+def known_functions():
+    """The names of all functions of html5_trees that mention names of elements."""
+    return {name for crate, _, text in sources() if crate == "html5_trees" for name, body in functions(text) if variants(body)}
+
+
+def text_entries():
+    """The entries of the arrays of texts and characters, each as (array, text); of an array of tuples it is the first text."""
+    for crate, name, inside in arrays():
+        if name in OTHER_ARRAYS or name in NAME_ARRAYS:
+            continue
+        prefix = {"ADDRESSES": "--base" if "longdesc" in inside else "--sanitize"}.get(name, "")
+        label = f"{prefix} {name}".strip()
+        if "(" in inside and name not in ("FORMATS",):
+            texts = [STRING.search(line)[1] for line in re.findall(r"\(\s*\"[^)]*", inside)]
+        elif name in ("WINDOWS", "SPACES"):
+            texts = [str(at) for at in range(len(re.findall(r"'(?:[^'\\]|\\.[^']*)'", inside)))]
+        elif name == "FORMATS":
+            texts = STRING.findall("".join(re.findall(r'(?<=, )"[^"]*"', inside)))
+        else:
+            texts = STRING.findall(inside)
+        yield from ((label, plain(text)) for text in texts)
+    yield from matched_texts()
+
+
+def matched_texts():
+    """The texts that functions match."""
+    for _, file, text in sources():
+        for name, body in functions(text):
+            if name == "names" and file.name == "element_kinds.rt":
+                yield from (("calm", it) for it in STRING.findall(body))
+            if name in ("is_harmless_scheme", "mathml_attr"):
+                found = dict.fromkeys(STRING.findall(body))
+                yield from ((name, it) for it in found if it != "definitionURL")
+
+
+def options(text):
+    """The long name and the short one, or an empty text, of each option of `hq`."""
+    found = re.findall(r'^    \("([a-z-]+)", (NONE|\'.\'),', text, re.M)
+    return [(name, "" if short == "NONE" else short.strip("'")) for name, short in found]
+
+
+def pairs(text):
+    """The pairs of texts in an array of pairs."""
+    found = re.findall(r'\(\s*("(?:[^"\\]|\\.)*"),\s*("(?:[^"\\]|\\.)*"),?\s*\)', text)
+    return [(plain(one[1:-1]), plain(other[1:-1])) for one, other in found]
