@@ -120,6 +120,10 @@ PATTERNS = {
         page("<font x={i}>", closing="<b><b><b><b></b></b></b></b>"),
         COUNT + NONE,
     ),
+    "formatting: three of each font, then each again": (
+        page("<font x={i}><font x={i}><font x={i}>", closing="<font x={i}>"),
+        COUNT + NONE,
+    ),
     "formatting: a over b and div": (page("<a><b><div></a>"), COUNT + NONE),
     "formatting: a over div": (page("<a><div>"), COUNT + NONE),
     "formatting: b over p, closed": (page("<b><p>", closing="</b>"), COUNT + NONE),
