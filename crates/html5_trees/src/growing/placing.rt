@@ -59,20 +59,20 @@ pub fn is_foster_target(target: &Open) -> bool
     }
 }
 
-fn is_template(open: &Open) -> bool
-    ensures { result ≡ is_a_template open.now }
+fn is_template(element: &Open) -> bool
+    ensures { result ≡ is_a_template element.now }
 {
-    match open.ns {
-        ElementNamespace::Html => matches!(open.name, Name::Template),
+    match element.ns {
+        ElementNamespace::Html => matches!(element.name, Name::Template),
         _ => false,
     }
 }
 
-fn is_table(open: &Open) -> bool
-    ensures { result ≡ is_a_table open.now }
+fn is_table(element: &Open) -> bool
+    ensures { result ≡ is_a_table element.now }
 {
-    match open.ns {
-        ElementNamespace::Html => matches!(open.name, Name::Table),
+    match element.ns {
+        ElementNamespace::Html => matches!(element.name, Name::Table),
         _ => false,
     }
 }
