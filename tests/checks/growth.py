@@ -8,10 +8,14 @@ A pattern of n, 2n and 4n repetitions has an exponent: 1 where the cost is in pr
     growth.py HQ            prints the exponents of all patterns, the greatest first
     growth.py HQ WORD..     the same of the patterns whose names have one of these words
 
-`growth()` is the part of it that runs in `check`: every pattern at one small size and at four times that size must grow by
-less than MOST."""
+GROWTH_N=n sets n, and GROWTH_BY=seconds measures by processor time in any case.
+
+`growth()` is the part of it that runs in `check`: the processor time of every pattern at four times a small size must be less than
+MOST times that at the small size, in one of TRIES measurements."""
+import functools
 import math
 import os
+import re
 import resource
 import subprocess
 import sys
@@ -116,6 +120,10 @@ PATTERNS = {
         page("<font x={i}>", closing="<b><b><b><b></b></b></b></b>"),
         COUNT + NONE,
     ),
+    "formatting: three of each font, then each again": (
+        page("<font x={i}><font x={i}><font x={i}>", closing="<font x={i}>"),
+        COUNT + NONE,
+    ),
     "formatting: a over b and div": (page("<a><b><div></a>"), COUNT + NONE),
     "formatting: a over div": (page("<a><div>"), COUNT + NONE),
     "formatting: b over p, closed": (page("<b><p>", closing="</b>"), COUNT + NONE),
@@ -204,20 +212,31 @@ PATTERNS = {
 }
 # How often the part is repeated in the check, at first.
 SMALL = 4000
+# How often a pattern is measured before it counts as one that grows too fast.
+TRIES = 3
 
 
-def instructions(program, words, given):
-    """The instructions that the program executes, or nothing where they can't be counted."""
-    with tempfile.NamedTemporaryFile() as out:
+def by_perf(program, words, given):
+    """The instructions that the program executes, as `perf stat` counts them, or nothing where the machine doesn't."""
+    with tempfile.NamedTemporaryFile("r") as out:
         counting = ["perf", "stat", "-x,", "-e", "instructions:u", "-o", out.name]
         try:
             subprocess.run([*counting, program, *words], stdin=given, stdout=subprocess.DEVNULL, stderr=subprocess.DEVNULL)
         except OSError:
             return None
-        for line in open(out.name):
-            if "instructions" in line and line.split(",")[0].isdigit():
-                return int(line.split(",")[0])
-    return None
+        counts = [line.split(",")[0] for line in out if "instructions" in line]
+    return int(counts[0]) if counts and counts[0].isdigit() else None
+
+
+def by_valgrind(program, words, given):
+    """The instructions that the program executes, as `valgrind` counts them, or nothing where there is none."""
+    counting = ["valgrind", "--tool=callgrind", "--callgrind-out-file=/dev/null"]
+    try:
+        ran = subprocess.run([*counting, program, *words], stdin=given, stdout=subprocess.DEVNULL, stderr=subprocess.PIPE)
+    except OSError:
+        return None
+    found = re.search(rb"Collected : ([0-9]+)", ran.stderr)
+    return int(found[1]) if found else None
 
 
 def seconds(program, words, given):
@@ -236,18 +255,39 @@ def cost(measure, program, words, markup):
         return measure(program, words, given)
 
 
+@functools.lru_cache(None)
+def cost_of_start(measure, program, words):
+    """What an empty page costs."""
+    return cost(measure, program, list(words), b"")
+
+
 def measure_for(program):
-    """Instructions where they can be counted, else seconds."""
-    with open(os.devnull) as nothing:
-        return instructions if instructions(program, COUNT + NONE, nothing) else seconds
+    """How the cost is measured: instructions where they can be counted, else seconds. GROWTH_BY=seconds chooses seconds."""
+    if os.environ.get("GROWTH_BY") != "seconds":
+        for measure in (by_perf, by_valgrind):
+            with open(os.devnull) as nothing:
+                if measure(program, COUNT + NONE, nothing):
+                    return measure
+    return seconds
 
 
 def exponent(measure, program, name, n):
     """The exponent of a pattern from n repetitions to four times as many, and the costs."""
     made, words = PATTERNS[name]
-    begun = cost(measure, program, words, b"")
+    begun = cost_of_start(measure, program, tuple(words))
     costs = [max(cost(measure, program, words, made(n * times)) - begun, 1e-9) for times in (1, 2, 4)]
     return math.log(costs[2] / costs[0], 4), costs
+
+
+def is_steep(program, name):
+    """Whether a pattern grows too fast, by processor time, each time that it is measured."""
+    made, words = PATTERNS[name]
+    for _ in range(TRIES):
+        small, large = (cost(seconds, program, words, made(SMALL * times)) for times in (1, 4))
+        if large <= LITTLE or large <= MOST * max(small, LITTLE / 4):
+            return False
+    print(f"growth: {name}: four times the input costs {large / max(small, 1e-9):.1f} times as much")
+    return True
 
 
 def growth(program=None):
@@ -256,32 +296,23 @@ def growth(program=None):
         from rows import built
 
         program = built("hq")
-    measure = measure_for(program)
-    passed, failed = 0, 0
-    for name, (made, words) in PATTERNS.items():
-        small, large = (cost(measure, program, words, made(SMALL * times)) for times in (1, 4))
-        least = LITTLE if measure is seconds else 0
-        if large > least and large > MOST * max(small, least / 4):
-            print(f"growth: {name}: four times the input costs {large / max(small, 1e-9):.1f} times as much")
-            failed += 1
-        else:
-            passed += 1
-    return passed, failed
+    steep = [name for name in PATTERNS if is_steep(program, name)]
+    return len(PATTERNS) - len(steep), len(steep)
 
 
 def main():
     program, words = os.path.abspath(sys.argv[1]), sys.argv[2:]
     measure = measure_for(program)
-    n = int(os.environ.get("GROWTH_N", "10000"))
+    n = int(os.environ.get("GROWTH_N", "10000" if measure is seconds else "1000"))
     rows = []
     for name in PATTERNS:
         if not words or any(word in name for word in words):
             found, costs = exponent(measure, program, name, n)
             rows.append((found, name, costs))
-    unit = "instructions" if measure is instructions else "seconds"
+    unit = "seconds" if measure is seconds else "instructions"
     print(f"{len(rows)} patterns, {unit} at {n}, {2 * n} and {4 * n} repetitions")
     for found, name, costs in sorted(rows, reverse=True):
-        shown = " ".join(f"{it:>14,}" if measure is instructions else f"{it:8.3f}" for it in costs)
+        shown = " ".join(f"{it:8.3f}" if measure is seconds else f"{it:>14,}" for it in costs)
         print(f"{found:6.2f} {shown}  {name}")
 
 

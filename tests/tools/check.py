@@ -45,6 +45,7 @@ import depth  # noqa: E402
 import documents  # noqa: E402
 import edits  # noqa: E402
 import encodings_of_pages  # noqa: E402
+import growth  # noqa: E402
 import hostile  # noqa: E402
 import options  # noqa: E402
 import paths  # noqa: E402
@@ -287,7 +288,8 @@ def main():
         counts += [clock.timed("the callers that must not compile", refused_callers)]
         counts += clock.timed("the rows and checks", lambda: [each() for each in tables])
         counts += [it.result() for it in beside]
-    alone = [("streams that fail", streams.streams), ("small address spaces", refusals.limited), ("deep and wide trees", depth.depth)]
+    alone = [("streams that fail", streams.streams), ("small address spaces", refusals.limited)]
+    alone += [("deep and wide trees", depth.depth), ("the growth of the work", growth.growth)]
     counts += [clock.timed(part, each) for part, each in alone]
     clock.note("all", time.monotonic() - clock.begun, used())
     clock.show()

@@ -2,6 +2,7 @@
 use Rattle.std.proofs.Common.{ℕ, ◌≡◌, ◌+◌, suc, List, [], ◌∷◌, ◌++◌, Option, Some, take, drop, Result, Ok, Err, sym, ap, subst}
 use Rattle.std.specs.Prelude.{All, OnErr, OnOk, insert, remove, slice_get, slice_set}
 use Rattle.std.specs.Option.{option_to_list}
+use Rattle.std.proofs.lemmas.List.{take-append-drop}
 use Rattle.std.proofs.lemmas.List.Elements.{All-append, All-cons, All-drop, All-pop, All-push, All-same, All-set, All-take, All-weaker}
 use Rattle.std.proofs.lemmas.Option.{IfSome_then}
 use Rattle.dom_links.specs.Forest.{Forest}
@@ -15,6 +16,8 @@ use Rattle.html5_trees.specs.declared.formatting.Entry.TheVariants.{Element, Mar
 use Rattle.html5_trees.specs.declared.pointers.FormPointer.{FormPointer}
 use Rattle.html5_trees.specs.declared.pointers.FormPointer.TheVariants.{Context, Element as TheForm, None as NoForm}
 use Rattle.html5_trees.specs.declared.stack.Open.{Open}
+use Rattle.html5_trees.specs.Popping.{before_last, is_a_marker}
+use Rattle.html5_trees.proofs.PoppingLemmas.{all_before_last}
 use Rattle.html5_trees.proofs.MadeNodes.{Keeps, keeps_contents}
 use Rattle.html5_trees.proofs.StackOrder.{order_copied, order_front, order_grown, order_moved, order_pushed, order_removed, order_renewed}
 
@@ -39,11 +42,13 @@ pub stack_taken : (f : Forest) (os ns : List Open) (es : List Entry) (h : Option
 stack_taken f os ns es h m c r all e =
     with_stack f os ns es h m c all (All-pop (λ o. IsElement f o.id) os ns r e all.stack).0 (order_front f ns (option_to_list r) (subst (IsInOrder f) e all.order))
 
+pub stack_cut : (f : Forest) (os ns : List Open) (es : List Entry) (h : Option ℕ) (m : FormPointer) (c : Option Open) (n : ℕ) → AreElements f os es h m c → ns ≡ take n os → AreElements f ns es h m c
+stack_cut f os ns es h m c n all e =
+    let order = order_front f (take n os) (drop n os) (subst (IsInOrder f) (sym (take-append-drop n os)) all.order) in
+    with_stack f os ns es h m c all (All-same (λ (o : Open). IsElement f o.id) ns (take n os) e (All-take (λ (o : Open). IsElement f o.id) n os all.stack)) (subst (IsInOrder f) (sym e) order)
+
 pub entries_removed : (f : Forest) (os : List Open) (es ns : List Entry) (h : Option ℕ) (m : FormPointer) (c : Option Open) (i : ℕ) → AreElements f os es h m c → ns ≡ remove es i → AreElements f os ns h m c
 entries_removed f os es ns h m c i all e = with_entries f os es ns h m c all (all_removed (IsEntry f) es ns i e all.formatting)
-
-pub entries_taken : (f : Forest) (os : List Open) (es ns : List Entry) (h : Option ℕ) (m : FormPointer) (c : Option Open) (r : Option Entry) → AreElements f os es h m c → es ≡ ns ++ option_to_list r → AreElements f os ns h m c
-entries_taken f os es ns h m c r all e = with_entries f os es ns h m c all (All-pop (IsEntry f) es ns r e all.formatting).0
 
 pub entries_inserted : (f : Forest) (os : List Open) (es ns : List Entry) (h : Option ℕ) (m : FormPointer) (c : Option Open) (i : ℕ) (o : Open) (r : Result Unit PageFault) → AreElements f os es h m c → IsElement f o.id →
     OnOk r (ns ≡ insert es i (Element o)) → OnErr r (ns ≡ es) → AreElements f os ns h m c
@@ -119,3 +124,7 @@ pub stack_moved : (f g : Forest) (os : List Open) (es : List Entry) (h : Option 
 stack_moved f g os es h m c n gap last good all there opens lies e =
     let keeps = keeps_contents f g (ap (λ (k : Forest). k.content) e) in
     kept f g os os es h m c all keeps (open_kept f g os keeps all.stack) (order_moved f g os n gap last good all.stack all.order there opens lies e)
+
+-- the list is cleared up to its last marker
+pub entries_cleared : (f : Forest) (os : List Open) (es ns : List Entry) (h : Option ℕ) (m : FormPointer) (c : Option Open) → AreElements f os es h m c → ns ≡ before_last is_a_marker es → AreElements f os ns h m c
+entries_cleared f os es ns h m c all e = with_entries f os es ns h m c all (All-same (IsEntry f) ns (before_last is_a_marker es) e (all_before_last (IsEntry f) is_a_marker es all.formatting))

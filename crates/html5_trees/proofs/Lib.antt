@@ -5,3 +5,5 @@ mod KindLemmas
 mod MadeNodes
 mod StackOrder
 mod Ways
+mod PoppingLemmas
+mod PlacingLemmas

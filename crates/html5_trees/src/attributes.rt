@@ -109,8 +109,8 @@ fn attr_name(alloc: Global, ns: ElementNamespace, name: &str) -> Result<QualName
     Ok(QualName::plain(local))
 }
 
-/// Returns an attribute of the element that a tag makes.
-fn attr_of(alloc: Global, ns: ElementNamespace, given: &TagAttr) -> Result<Attr, PageFault> {
+/// Returns an attribute of the element that a tag makes. Fails only when memory runs out.
+pub fn attr_of(alloc: Global, ns: ElementNamespace, given: &TagAttr) -> Result<Attr, PageFault> {
     let name = attr_name(alloc, ns, given.name.as_str())?;
     let value = Text::new(alloc, given.value.as_str())?;
     Ok(Attr { name, value })

@@ -1,5 +1,8 @@
 //! Foreign content: SVG and MathML (13.2.6.5).
 
+ghost use Rattle.std.specs.Prelude.{◌≡◌};
+ghost use Rattle.html5_trees.specs.Sets.{has_foreign_content, is_a_text_point, is_an_html_point};
+
 use crate::attributes::value_of;
 use crate::builder::{Next, TreeBuilder};
 use crate::growing::ForeignEnd;
@@ -10,7 +13,9 @@ use html5_tokens::token::{Tag, TagKind};
 
 impl Open {
     /// Returns whether the element is a MathML text integration point.
-    pub fn is_text_point(&self) -> bool {
+    pub fn is_text_point(&self) -> bool
+        ensures { result ≡ is_a_text_point self.now }
+    {
         self.ns == ElementNamespace::MathMl
             && matches!(
                 self.name,
@@ -19,7 +24,9 @@ impl Open {
     }
 
     /// Returns whether the element is an HTML integration point.
-    pub fn is_html_point(&self) -> bool {
+    pub fn is_html_point(&self) -> bool
+        ensures { result ≡ is_an_html_point self.now }
+    {
         match self.ns {
             ElementNamespace::Svg => matches!(
                 self.name,
@@ -34,7 +41,9 @@ impl Open {
 impl Open {
     /// Returns whether the content of the element is parsed by the rules for foreign content, apart
     /// from some tags.
-    pub fn holds_foreign(&self) -> bool {
+    pub fn holds_foreign(&self) -> bool
+        ensures { result ≡ has_foreign_content self.now }
+    {
         self.ns != ElementNamespace::Html && !self.is_text_point() && !self.is_html_point()
     }
 }

@@ -9,6 +9,7 @@ ghost use Rattle.html5_trees.specs.Elements.{IsRooted};
 
 mod adopting;
 mod edits;
+mod late;
 mod placing;
 mod popping;
 
@@ -22,8 +23,9 @@ use dom_nodes::node_data::NodeData;
 use dom_nodes::node_id::NodeId;
 use dom_trees::quirks::QuirksMode;
 use dom_trees::tree::Tree;
-use edits::{add_attrs, cut_out, put_comment, put_copy, put_doctype, put_element, put_text};
+use edits::{cut_out, put_comment, put_copy, put_doctype, put_element, put_text};
 use html5_tokens::token::Tag;
+use late::LateTags;
 use placing::gap;
 pub use placing::{Placing, is_foster_target};
 pub use popping::ForeignEnd;
@@ -51,6 +53,8 @@ pub struct GrowingTree {
     form: FormPointer,
     /// The context element of a fragment, with the id of the root that represents it.
     context: Option<Open>,
+    /// The attributes that later tags add to `html` and to `body`.
+    late: LateTags,
 }
 
 impl Model for GrowingTree {
@@ -90,16 +94,19 @@ impl GrowingTree {
             head: None,
             form: FormPointer::None,
             context: None,
+            late: LateTags::new(alloc),
         }
     }
 
-    /// Returns the finished tree.
-    pub fn into_built(self) -> BuiltTree {
-        BuiltTree {
-            tree: self.tree,
+    /// Returns the finished tree. Fails only when memory runs out.
+    pub fn into_built(self) -> Result<BuiltTree, PageFault> {
+        let mut tree = self.tree;
+        self.late.put_into(&mut tree)?;
+        Ok(BuiltTree {
+            tree,
             errors: self.errors,
             quirks_mode: self.quirks_mode,
-        }
+        })
     }
 
     /// Returns the stack of open elements.
@@ -212,7 +219,6 @@ impl GrowingTree {
             name,
             number: 0,
             holds_html: false,
-            fingerprint: 0,
         });
     }
 
@@ -286,12 +292,12 @@ impl GrowingTree {
     }
 
     /// Adds to the element at an index of the stack those of a tag's attributes whose names it
-    /// doesn't have yet.
+    /// doesn't have yet. They are in the tree once all is read.
     pub fn add_attrs(&mut self, place: usize, tag: &Tag) -> Result<(), PageFault> {
-        let Some(open) = self.stack.get(place) else {
-            return Ok(());
-        };
-        add_attrs(&mut self.tree, open.id, tag)
+        match self.stack.get(place) {
+            Some(open) => self.late.add(&self.tree, open.id, tag),
+            None => Ok(()),
+        }
     }
 
     /// Detaches the element at an index of the stack.

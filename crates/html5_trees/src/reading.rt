@@ -108,7 +108,7 @@ impl PageReader {
     pub fn finish(self) -> Result<BuiltTree, PageFault> {
         let mut reader = self;
         reader.read_end()?;
-        Ok(reader.builder.tree.into_built())
+        reader.builder.tree.into_built()
     }
 
     /// Processes the end of the text.

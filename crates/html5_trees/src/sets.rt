@@ -1,5 +1,9 @@
 //! Sets of elements that the standard names: scopes, special elements and so on.
 
+ghost use Rattle.std.specs.Prelude.{◌≡◌};
+ghost use Rattle.html5_trees.specs.Sets.{ends_context, ends_scope, ends_select, is_a_heading};
+ghost use Rattle.html5_trees.specs.Sets.{is_implied, is_special_element, is_special_name_of_html};
+
 use crate::name::Name;
 use crate::stack::{ElementNamespace, Open};
 
@@ -13,18 +17,22 @@ pub enum Scope {
     Select,
 }
 
-pub fn is_heading(open: &Open) -> bool {
-    open.ns == ElementNamespace::Html
+pub fn is_heading(element: &Open) -> bool
+    ensures { result ≡ is_a_heading element.now }
+{
+    element.ns == ElementNamespace::Html
         && matches!(
-            open.name,
+            element.name,
             Name::H1 | Name::H2 | Name::H3 | Name::H4 | Name::H5 | Name::H6
         )
 }
 
-pub fn ends_default_scope(open: &Open) -> bool {
-    match open.ns {
+pub fn ends_default_scope(element: &Open) -> bool
+    ensures { result ≡ ends_scope element.now }
+{
+    match element.ns {
         ElementNamespace::Html => matches!(
-            open.name,
+            element.name,
             Name::Applet
                 | Name::Caption
                 | Name::Html
@@ -36,19 +44,21 @@ pub fn ends_default_scope(open: &Open) -> bool {
                 | Name::Template
         ),
         ElementNamespace::MathMl => matches!(
-            open.name,
+            element.name,
             Name::Mi | Name::Mo | Name::Mn | Name::Ms | Name::Mtext | Name::AnnotationXml
         ),
         ElementNamespace::Svg => matches!(
-            open.name,
+            element.name,
             Name::Foreignobject | Name::Desc | Name::Title
         ),
     }
 }
 
 /// Returns whether the element ends the select scope.
-pub fn ends_select_scope(open: &Open) -> bool {
-    !(open.ns == ElementNamespace::Html && matches!(open.name, Name::Optgroup | Name::Option))
+pub fn ends_select_scope(element: &Open) -> bool
+    ensures { result ≡ ends_select element.now }
+{
+    !(element.ns == ElementNamespace::Html && matches!(element.name, Name::Optgroup | Name::Option))
 }
 
 /// The contexts to which the stack is cleared in a table: a table, a table section or a row. A
@@ -61,11 +71,13 @@ pub enum TableContext {
 }
 
 impl TableContext {
-    pub(crate) fn ends_at(self, open: &Open) -> bool {
-        if open.ns != ElementNamespace::Html {
+    pub(crate) fn ends_at(self, element: &Open) -> bool
+        ensures { result ≡ ends_context self element.now }
+    {
+        if element.ns != ElementNamespace::Html {
             return false;
         }
-        match open.name {
+        match element.name {
             Name::Html | Name::Template => true,
             Name::Table => matches!(self, TableContext::Table),
             Name::Tbody | Name::Tfoot | Name::Thead => matches!(self, TableContext::Section),
@@ -75,15 +87,19 @@ impl TableContext {
     }
 }
 
-pub fn is_special(open: &Open) -> bool {
-    match open.ns {
-        ElementNamespace::Html => is_special_name(open.name),
-        _ => ends_default_scope(open),
+pub fn is_special(element: &Open) -> bool
+    ensures { result ≡ is_special_element element.now }
+{
+    match element.ns {
+        ElementNamespace::Html => is_special_name(element.name),
+        _ => ends_default_scope(element),
     }
 }
 
 #[rattlefmt::skip]
-fn is_special_name(name: Name) -> bool {
+fn is_special_name(name: Name) -> bool
+    ensures { result ≡ is_special_name_of_html name }
+{
     matches!(
         name,
         Name::Address | Name::Applet | Name::Area | Name::Article | Name::Aside | Name::Base
@@ -109,10 +125,12 @@ pub fn is_crossed_by_items(open: &Open) -> bool {
 }
 
 /// Returns whether the element's end tag can be implied (13.2.6.3).
-pub fn has_implied_end(open: &Open) -> bool {
-    open.ns == ElementNamespace::Html
+pub fn has_implied_end(element: &Open) -> bool
+    ensures { result ≡ is_implied element.now }
+{
+    element.ns == ElementNamespace::Html
         && matches!(
-            open.name,
+            element.name,
             Name::Dd
                 | Name::Dt
                 | Name::Li

@@ -2,15 +2,18 @@
 //! with `TooManyNodes` if there are too many names.
 
 ghost use Rattle.std.specs.Prelude.{◌≡◌, [], ◌∷◌, ◌++◌, Contains, IfNone, IfSome, OnErr, OnOk};
-ghost use Rattle.std.specs.Prelude.{◌+◌, ◌-◌, insert, length, remove, slice_get, slice_set, take};
+ghost use Rattle.std.specs.Prelude.{◌+◌, ◌-◌, drop, insert, length, remove, slice_get};
+ghost use Rattle.std.specs.Prelude.{slice_set, take};
 ghost use Rattle.std.specs.Option.{option_to_list};
+ghost use Rattle.html5_trees.specs.Popping.{first_from, up_to_last};
+ghost use Rattle.html5_trees.specs.Sets.{ends_context, has_html_content, is_special_element};
 
 mod marks;
 mod others;
 
 use crate::fault::PageFault;
 use crate::name::Name;
-use crate::sets::{Scope, ends_select_scope, is_special};
+use crate::sets::{Scope, TableContext, ends_select_scope, is_special};
 use dom_nodes::node_id::NodeId;
 use marks::Marks;
 use others::OtherNames;
@@ -34,22 +37,11 @@ pub struct Open {
     pub number: u32,
     /// Whether it is an `annotation-xml` whose encoding is HTML.
     pub holds_html: bool,
-    /// A hash of its attributes, or 0 if none was computed.
-    pub fingerprint: u32,
 }
 
 impl Open {
     pub fn is_html(&self, name: Name) -> bool {
         self.ns == ElementNamespace::Html && self.name == name
-    }
-
-    /// Returns whether it may have the name and the attributes of another formatting element. If
-    /// not, the two certainly differ.
-    pub fn is_like(&self, other: &Open) -> bool {
-        if self.name != other.name {
-            return false;
-        }
-        self.fingerprint == other.fingerprint || self.fingerprint == 0 || other.fingerprint == 0
     }
 }
 
@@ -176,6 +168,46 @@ impl OpenElements {
         let place = self.elements.len().saturating_sub(1);
         self.marks.cut(place, self.elements.as_slice());
         self.elements.pop()
+    }
+
+    /// Pops elements until only the first `count` are open.
+    pub fn truncate(&mut self, count: usize)
+        ensures { self.new.elements.items ≡ take count self.old.elements.items }
+    {
+        while self.elements.len() > count {
+            let _ = self.take();
+        }
+    }
+
+    /// Returns how many elements stay when the stack is cleared back to a table context.
+    pub fn depth_of_context(&self, context: TableContext) -> usize
+        ensures { let all = self.now.elements.items in
+            take result all ≡ up_to_last (ends_context context) all }
+    {
+        let mut rest = self.elements.as_slice();
+        while let Some((open, below)) = rest.split_last() {
+            if context.ends_at(open) {
+                return rest.len();
+            }
+            rest = below;
+        }
+        0
+    }
+
+    /// Returns how many elements stay when foreign content is left: the last of them is the current
+    /// node then, and its content is HTML.
+    pub fn depth_of_html(&self) -> usize
+        ensures { let all = self.now.elements.items in
+            take result all ≡ up_to_last has_html_content all }
+    {
+        let mut rest = self.elements.as_slice();
+        while let Some((open, below)) = rest.split_last() {
+            if !open.holds_foreign() {
+                return rest.len();
+            }
+            rest = below;
+        }
+        0
     }
 
     /// Removes the element at an index of the stack. The caller calls `mark` afterwards.
@@ -341,13 +373,21 @@ impl OpenElements {
 
     /// Returns the index of the first special element after an index of the stack: the furthest
     /// block.
-    pub fn furthest_block(&self, place: usize) -> Option<usize> {
-        for index in place.saturating_add(1)..self.elements.len() {
-            if let Some(open) = self.get(index)
-                && is_special(&open)
-            {
+    pub fn furthest_block(&self, place: usize) -> Option<usize>
+        ensures { let after = drop (place + 1) self.now.elements.items in
+            result ≡ first_from is_special_element (place + 1) after }
+    {
+        if place >= self.elements.len() {
+            return None;
+        }
+        let mut index = place + 1;
+        let mut rest = &self.elements.as_slice()[place + 1..];
+        while let Some((open, others)) = rest.split_first() {
+            if is_special(open) {
                 return Some(index);
             }
+            index += 1;
+            rest = others;
         }
         None
     }

@@ -226,17 +226,18 @@ impl GrowingTree {
             self.remove_entry(gone);
             index = bookmark.without(gone).index;
         }
-        self.insert_entry(index, copy)?;
+        let likeness = self.likeness_of(copy.id);
+        self.insert_entry(index, copy, likeness)?;
         self.remove_at(place);
         self.mark();
         Ok(())
     }
 
-    /// Inserts an entry at an index of the list.
-    fn insert_entry(&mut self, index: usize, element: &Open) -> Result<(), PageFault>
+    /// Inserts an entry of that likeness at an index of the list.
+    fn insert_entry(&mut self, index: usize, element: &Open, likeness: u32) -> Result<(), PageFault>
         requires { IsElement self.old element.now.id }
         ensures { self.new ≡ self.old }
     {
-        self.formatting.insert(index, element)
+        self.formatting.insert(index, element, likeness)
     }
 }

@@ -99,19 +99,6 @@ pub fn put_doctype(tree: &mut Tree, parts: [&str; 3]) -> Result<(), PageFault>
     Ok(())
 }
 
-/// Adds to an element those of a tag's attributes whose names it doesn't have yet.
-pub fn add_attrs(tree: &mut Tree, id: NodeId, tag: &Tag) -> Result<(), PageFault>
-    requires { IsElement tree.old id }
-    ensures { Grows tree.old tree.new }
-{
-    let attrs = attrs_of(
-        tree.allocator(),
-        ElementNamespace::Html,
-        tag.attrs.as_slice(),
-    )?;
-    settled(tree.add_missing_attrs_of(&id, attrs))
-}
-
 /// Makes a detached element and returns its id.
 fn create(
     tree: &mut Tree,
@@ -158,7 +145,6 @@ pub fn put_element(
         name,
         number: 0,
         holds_html: flags.mathml_annotation_xml_integration_point,
-        fingerprint: 0,
     })
 }
 
@@ -247,7 +233,6 @@ fn copy_of(tree: &mut Tree, element: Open) -> Result<Open, PageFault>
         name: element.name,
         number: element.number,
         holds_html: false,
-        fingerprint: element.fingerprint,
     })
 }
 

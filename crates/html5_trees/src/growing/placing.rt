@@ -1,10 +1,13 @@
 //! The appropriate place for inserting a node (13.2.6.1), with foster parenting.
 
-ghost use Rattle.std.specs.Prelude.{◌≡◌, IfSome, List, ℕ, true};
+ghost use Rattle.std.specs.Prelude.{◌≡◌, List, ℕ, reverse, true};
 ghost use Rattle.dom_links.specs.Sound.{IsOpenGap, children_allowed_at};
 ghost use Rattle.dom_links.specs.Sound.{AtOrBelow, target};
 ghost use Rattle.html5_trees.specs.Elements.{AreOpen, IsElement, IsPlace, IsRooted};
 ghost use Rattle.html5_trees.specs.Elements.{LiesAt, LiesIn};
+ghost use Rattle.html5_trees.specs.Placing.{fosters, foster_place_of, inner, is_a_table};
+ghost use Rattle.html5_trees.specs.Placing.{is_a_template, place_of, point_of};
+ghost use Rattle.html5_trees.specs.declared.growing.placing.Place.TheVariants.{EndOf as AtEnd};
 ghost use Rattle.html5_trees.specs.declared.stack.Open.{Open as AnOpen};
 
 use super::edits::is_forest;
@@ -44,12 +47,34 @@ pub enum Place {
 }
 
 /// Returns whether foster parenting applies to what is inserted into that element.
-pub fn is_foster_target(target: &Open) -> bool {
-    target.ns == ElementNamespace::Html
-        && matches!(
+pub fn is_foster_target(target: &Open) -> bool
+    ensures { result ≡ fosters target.now }
+{
+    match target.ns {
+        ElementNamespace::Html => matches!(
             target.name,
             Name::Table | Name::Tbody | Name::Tfoot | Name::Thead | Name::Tr
-        )
+        ),
+        _ => false,
+    }
+}
+
+fn is_template(element: &Open) -> bool
+    ensures { result ≡ is_a_template element.now }
+{
+    match element.ns {
+        ElementNamespace::Html => matches!(element.name, Name::Template),
+        _ => false,
+    }
+}
+
+fn is_table(element: &Open) -> bool
+    ensures { result ≡ is_a_table element.now }
+{
+    match element.ns {
+        ElementNamespace::Html => matches!(element.name, Name::Table),
+        _ => false,
+    }
 }
 
 /// Returns the contents fragment of a template, and otherwise the element itself.
@@ -58,6 +83,7 @@ fn inside(tree: &Tree, id: NodeId) -> NodeId
     ensures open { children_allowed_at tree.now result ≡ true }
     ensures held { (x : ℕ) → IsElement tree.now x → AtOrBelow tree.now x result
         → AtOrBelow tree.now x id }
+    ensures value { result ≡ inner tree.now id }
 {
     is_forest(tree);
     match tree.tree_node(&id) {
@@ -72,8 +98,9 @@ fn place_in(tree: &Tree, elements: &[Open], foster: bool) -> Place
     requires open { AreOpen tree.now elements.now }
     ensures place { IsPlace tree.now result }
     ensures lies { LiesAt tree.now elements.now result }
+    ensures value { result ≡ place_of tree.now foster (reverse elements.now) }
 {
-    let Some(target) = elements.last() else {
+    let Some((target, _)) = elements.split_last() else {
         return root_place(tree);
     };
     if foster && is_foster_target(target) {
@@ -87,6 +114,7 @@ fn root_place(tree: &Tree) -> Place
     requires { IsRooted tree.now }
     ensures place { IsPlace tree.now result }
     ensures lies { (elements : List AnOpen) → LiesAt tree.now elements result }
+    ensures value { result ≡ AtEnd 0 }
 {
     is_forest(tree);
     Place::EndOf(tree.root_id())
@@ -99,44 +127,22 @@ fn foster_place(tree: &Tree, elements: &[Open]) -> Place
     requires open { AreOpen tree.now elements.now }
     ensures place { IsPlace tree.now result }
     ensures lies { LiesAt tree.now elements.now result }
+    ensures value { result ≡ foster_place_of tree.now (reverse elements.now) }
 {
-    match table_place(tree, elements) {
-        Some(place) => place,
-        None => bottom_place(tree, elements),
-    }
-}
-
-/// Returns the place before the last table, if it has an element before it on the stack, or the
-/// place in a template that was opened later.
-fn table_place(tree: &Tree, elements: &[Open]) -> Option<Place>
-    requires { AreOpen tree.now elements.now }
-    ensures place { IfSome result (IsPlace tree.now) }
-    ensures lies { IfSome result (LiesAt tree.now elements.now) }
-{
-    for place in (0..elements.len()).rev() {
-        let open = elements.get(place)?;
-        if open.is_html(Name::Template) {
-            return Some(Place::EndOf(inside(tree, open.id)));
+    let mut rest = elements;
+    while let Some((open, below)) = rest.split_last() {
+        if is_template(open) {
+            return Place::EndOf(inside(tree, open.id));
         }
-        if open.is_html(Name::Table) {
-            let other = elements.get(place.checked_sub(1)?)?;
-            return Some(Place::Table(open.id, other.id));
+        let Some((other, _)) = below.split_last() else {
+            return Place::EndOf(open.id);
+        };
+        if is_table(open) {
+            return Place::Table(open.id, other.id);
         }
+        rest = below;
     }
-    None
-}
-
-/// Returns the place at the end of the outermost open element, or of the root if none is open.
-fn bottom_place(tree: &Tree, elements: &[Open]) -> Place
-    requires root { IsRooted tree.now }
-    requires open { AreOpen tree.now elements.now }
-    ensures place { IsPlace tree.now result }
-    ensures lies { LiesAt tree.now elements.now result }
-{
-    match elements.first() {
-        Some(html) => Place::EndOf(html.id),
-        None => root_place(tree),
-    }
+    root_place(tree)
 }
 
 /// Returns the place at the end of a node's parent, or of the node if it has none.
@@ -157,6 +163,7 @@ fn gap_of(tree: &Tree, place: Place) -> InsertionPoint
     ensures open { IsOpenGap result tree.now }
     ensures lies { (elements : List AnOpen) → LiesAt tree.now elements place
         → LiesIn tree.now elements (target result) }
+    ensures value { result ≡ point_of tree.now place }
 {
     is_forest(tree);
     match place {
@@ -174,6 +181,8 @@ pub fn gap_in(tree: &Tree, elements: &[Open], foster: bool) -> InsertionPoint
     requires open { AreOpen tree.now elements.now }
     ensures open { IsOpenGap result tree.now }
     ensures lies { LiesIn tree.now elements.now (target result) }
+    ensures value { let found = place_of tree.now foster (reverse elements.now) in
+        result ≡ point_of tree.now found }
 {
     gap_of(tree, place_in(tree, elements, foster))
 }

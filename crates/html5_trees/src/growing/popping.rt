@@ -71,10 +71,10 @@ impl GrowingTree {
     }
 
     /// Pops elements until only the first `count` are open.
-    pub fn truncate(&mut self, count: usize) {
-        for _ in count..self.stack.len() {
-            self.pop();
-        }
+    pub fn truncate(&mut self, count: usize)
+        ensures { self.new ≡ self.old }
+    {
+        self.stack.truncate(count);
     }
 
     /// Brings the search index of the stack up to date.
@@ -131,12 +131,8 @@ impl GrowingTree {
 
     /// Leaves foreign content: pops elements up to one whose content is HTML, which stays.
     pub fn pop_foreign(&mut self) {
-        for _ in 0..self.stack.len() {
-            match self.stack.current() {
-                Some(open) if open.holds_foreign() => self.pop(),
-                _ => return,
-            }
-        }
+        let count = self.stack.depth_of_html();
+        self.truncate(count);
     }
 
     pub fn generate_implied_end_tags(&mut self, except: Option<Name>) {
@@ -150,12 +146,8 @@ impl GrowingTree {
 
     /// Pops elements up to one of the table context, which stays ("clear the stack back to").
     pub fn clear_to(&mut self, context: TableContext) {
-        for _ in 0..self.stack.len() {
-            match self.stack.current() {
-                Some(open) if context.ends_at(&open) => return,
-                _ => self.pop(),
-            }
-        }
+        let count = self.stack.depth_of_context(context);
+        self.truncate(count);
     }
 
     /// Appends the current node to the list of active formatting elements. If three with the same
@@ -164,44 +156,37 @@ impl GrowingTree {
         let Some(open) = self.stack.current() else {
             return Ok(());
         };
-        let fingerprint = self.formatting.fingerprint_for(&self.tree, open.id);
-        let open = Open {
-            fingerprint,
-            ..open
-        };
-        if let Some(index) = self.formatting.third_same(&self.tree, &open) {
+        let likeness = self.likeness_of(open.id);
+        if let Some(index) = self.formatting.third_same(&self.tree, &open, likeness) {
             self.remove_entry(index);
         }
-        self.push_current(fingerprint)
+        self.push_current(likeness)
     }
 
-    /// Appends the current node to the list, with this hash of its attributes.
-    fn push_current(&mut self, fingerprint: u32) -> Result<(), PageFault> {
+    /// Returns the likeness of an element that is to be added to the list.
+    pub fn likeness_of(&mut self, id: NodeId) -> u32
+        ensures { self.new ≡ self.old }
+    {
+        self.formatting.likeness_of(&self.tree, id)
+    }
+
+    /// Appends the current node, of that likeness, to the list.
+    fn push_current(&mut self, likeness: u32) -> Result<(), PageFault> {
         let Some(open) = self.stack.current() else {
             return Ok(());
         };
-        self.formatting.push(Entry::Element(Open {
-            fingerprint,
-            ..open
-        }))
+        self.formatting.push(Entry::Element(open), likeness)
     }
 
     pub fn push_marker(&mut self) -> Result<(), PageFault> {
-        self.formatting.push(Entry::Marker)
+        self.formatting.push(Entry::Marker, 0)
     }
 
-    /// Removes the last entry of the list and returns it.
-    fn take_entry(&mut self) -> Option<Entry> {
-        self.formatting.take()
-    }
-
-    pub fn clear_to_marker(&mut self) {
-        for _ in 0..self.formatting.len() {
-            match self.take_entry() {
-                Some(Entry::Element(_)) => {}
-                _ => return,
-            }
-        }
+    /// Clears the list of active formatting elements up to the last marker.
+    pub fn clear_to_marker(&mut self)
+        ensures { self.new ≡ self.old }
+    {
+        self.formatting.clear_to_marker();
     }
 
     /// Removes the entry at an index of the list.
