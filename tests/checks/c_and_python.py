@@ -9,7 +9,8 @@
   is one, and with each request for memory refused in turn (tests/checks/refuse.c), after which no block may be left.
 - Each function of the header is one that the archive defines, and the other way around, and c_exports.c and the package name each.
 - The programs of examples/c are built with the pkg-config file and run, and so is each program that docs/C.md shows.
-- The tests of the package (python/tests) are run, and those of its types, where mypy is there. A wheel is made and installed."""
+- The tests of the package (python/tests) and the programs of examples/python are run, and its types are checked, where mypy is there. A wheel
+  is made and installed."""
 import hashlib
 import os
 import pathlib
@@ -167,9 +168,32 @@ def package(checks, folder):
     count = re.search(r"Ran (\d+) tests?", printed)
     checks.check("tests of the package", status == 0 and count and int(count[1]) >= 30, printed)
     checks.passed += int(count[1]) - 1 if status == 0 and count else 0
+    scripts(checks, env)
     wheel(checks, folder)
     if shutil.which("mypy"):
         checks.runs("types of the package", ["mypy", "--strict", ROOT / "python" / "dom_query"])
+
+
+SCRIPTS = {
+    "extract": [
+        "examples/shop.html: Tea & more",
+        "  h1 Café & tea",
+        "  Home -> /",
+        "  About us -> ../about",
+        "  Maté -> mate",
+        "  Green -> https://tea.example/green?a=1&b=2",
+        "  More -> javascript:alert(1)",
+    ],
+    "crawl_stats": ["     26 elements      19 words     5 links  examples/shop.html"],
+}
+
+
+def scripts(checks, env):
+    """The examples in Python."""
+    for name, wanted in SCRIPTS.items():
+        script = ROOT / "examples" / "python" / f"{name}.py"
+        _, printed = run([sys.executable, script, "examples/shop.html"], env={**env, "LC_ALL": "C.UTF-8"}, cwd=ROOT)
+        checks.check(f"{name}.py", printed.splitlines() == wanted, printed)
 
 
 def wheel(checks, folder):

@@ -284,9 +284,11 @@ class Trial:
         self.functions = [path for path in proved or self.kept_paths() if is_written(path) or is_from(path)]
 
     def kept_paths(self):
-        """The paths of the functions whose proofs a library has that was built outside the gate."""
-        built = (pathlib.Path(self.crate.rlib) / "toolchain" / "checked.json").read_text(encoding="utf-8")
-        return [path.split(".") for path in re.findall(MET.format(self.crate.name), built)]
+        """The paths of the functions whose proofs a library has that was built outside the gate; none of a static library, whose
+        edits are then tried over the whole crate."""
+        built = pathlib.Path(self.crate.rlib) / "toolchain" / "checked.json"
+        text = built.read_text(encoding="utf-8") if built.exists() else ""
+        return [path.split(".") for path in re.findall(MET.format(self.crate.name), text)]
 
     def has_proof(self, path):
         """Whether the function has a file of a proof of its own."""
