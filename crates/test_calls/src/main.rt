@@ -107,6 +107,7 @@ fn write(rt: &HostRuntime, group: &str, line: &str) -> Option<()> {
         "faults" => faults::print_all(rt),
         "web" => web::read(rt, line),
         "web-row" => web::read_row(rt, line),
+        "web-mode" => web::show_mode(rt, line),
         "web-tokens" => web::cut_stretches(rt, line),
         "build" => building::build(rt),
         "options" => texts::print_options(rt),

@@ -34,6 +34,17 @@ pub fn read(rt: &HostRuntime, text: &str) {
     show_page(rt, "parse_page_bytes", page);
 }
 
+/// Prints the quirks mode of the page that a text is parsed to: `TEXT`.
+pub fn show_mode(rt: &HostRuntime, text: &str) {
+    match parse_page(rt.alloc(), text, Options::default()) {
+        Ok(page) => {
+            let mode = page.quirks_mode;
+            println!(rt; "quirks_mode: {mode:?}").ok();
+        }
+        Err(fault) => show(rt, "quirks_mode", fault),
+    }
+}
+
 /// Prints what a text is parsed to as the contents of a table row: `TEXT`.
 pub fn read_row(rt: &HostRuntime, text: &str) {
     let row = parse_page_fragment(rt.alloc(), text, Context::Html("tr"), Options::default());
