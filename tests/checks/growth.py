@@ -28,11 +28,7 @@ LITTLE = 0.04
 # An exponent that docs/PERFORMANCE.md explains.
 STEEP = 1.2
 # The patterns that grow too fast for the check; docs/PERFORMANCE.md says why.
-KNOWN = {
-    "formatting: a over many div, closed",
-    "formatting: b with other attributes over div, closed",
-    "formatting: three of each font, then each again",
-}
+KNOWN = {"formatting: a over many div, closed", "formatting: three of each font, then each again"}
 
 TEXT, HTML, MD, JSON, COUNT = ["--text"], ["--html"], ["--md"], ["--json"], ["--count"]
 CLEAN = ["--sanitize", "--html"]
