@@ -13,6 +13,11 @@ fn small(alloc: Global) -> Handle {
     handle
 }
 
+/// The node id in a result; an id that no document has if it is a fault.
+fn id_of(result: i64) -> u32 {
+    u32::try_from(result).unwrap_or(u32::MAX)
+}
+
 #[test]
 fn documents_are_read_and_freed(rt: HostRuntime) {
     let alloc = rt.alloc();
@@ -92,8 +97,8 @@ fn documents_are_edited(rt: HostRuntime) {
     assert_eq!(&rt; dq_rename(alloc, &mut handle, 4, b"i"), 0);
     assert_eq!(&rt; dq_set_text(alloc, &mut handle, 4, b"cold"), 0);
     assert_eq!(&rt; dq_put_html(alloc, &mut handle, 6, 5, b"<hr>"), 0);
-    let made = dq_new_element(alloc, &mut handle, b"u") as u32;
-    let text = dq_new_text(alloc, &mut handle, b"!") as u32;
+    let made = id_of(dq_new_element(alloc, &mut handle, b"u"));
+    let text = id_of(dq_new_text(alloc, &mut handle, b"!"));
     assert_eq!(&rt; dq_move(alloc, &mut handle, text, 1, made), 0);
     assert_eq!(&rt; dq_move(alloc, &mut handle, made, 1, 2), 0);
     assert_eq!(&rt; dq_normalize(alloc, &mut handle, 0), 0);

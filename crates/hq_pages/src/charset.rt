@@ -46,16 +46,20 @@ fn nearest_label(alloc: Global, text: &str) -> Result<&'static str, AllocError> 
     };
     let mut lower = String::from_str(alloc, compared)?;
     lower.make_ascii_lowercase();
-    let mut nearest = "utf-8";
+    let labels = Encoding::labels();
+    let mut nearest = 0;
     let mut least = usize::MAX;
-    for (label, _) in Encoding::labels() {
-        let distance = osa_distance(alloc, lower.as_str(), label)?;
+    for number in 0..labels.len() {
+        let distance = osa_distance(alloc, lower.as_str(), labels[number].0)?;
         if distance < least {
-            nearest = *label;
+            nearest = number;
             least = distance;
         }
     }
-    Ok(nearest)
+    match labels.get(nearest) {
+        Some((label, _)) => Ok(*label),
+        None => Ok("utf-8"),
+    }
 }
 
 /// Reports on standard error what could not be decoded, and where it is asked for (`verbose`) the
@@ -139,7 +143,11 @@ pub fn put_found(
 /// Makes each `meta` of a document that declares another encoding declare UTF-8, in which documents
 /// are written.
 pub fn declare_utf8(document: &mut Document) -> Result<(), Fault> {
-    for (id, name, value) in declarations(document)?.as_slice() {
+    for (id, kind) in declarations(document)?.as_slice() {
+        let (name, value) = match kind {
+            DeclaredBy::Charset => ("charset", "utf-8"),
+            DeclaredBy::Pragma => ("content", "text/html; charset=utf-8"),
+        };
         document
             .tree
             .try_change_of(id, Change::SetAttr { name, value })?;
@@ -147,23 +155,28 @@ pub fn declare_utf8(document: &mut Document) -> Result<(), Fault> {
     Ok(())
 }
 
-/// The elements that declare another encoding than UTF-8, each with the attribute that does it and
-/// the value that declares UTF-8.
-fn declarations(
-    document: &Document,
-) -> Result<Vec<(NodeId, &'static str, &'static str)>, AllocError> {
+/// How a `meta` declares an encoding.
+#[derive(Clone, Copy, Drop)]
+enum DeclaredBy {
+    /// By the attribute `charset`.
+    Charset,
+    /// As the header `Content-Type` would, by the attribute `content`.
+    Pragma,
+}
+
+/// Returns the elements that declare another encoding than UTF-8, and how each does it.
+fn declarations(document: &Document) -> Result<Vec<(NodeId, DeclaredBy)>, AllocError> {
     let mut found = Vec::new(document.tree.allocator());
     for node in document.root().descendants_it() {
-        if let Some((name, value)) = declaration(&node) {
-            found.push((node.id, name, value))?;
+        if let Some(kind) = declaration(&node) {
+            found.push((node.id, kind))?;
         }
     }
     Ok(found)
 }
 
-/// The attribute by which an element declares another encoding than UTF-8, and the value that
-/// declares UTF-8.
-fn declaration(node: &NodeRef<'_>) -> Option<(&'static str, &'static str)> {
+/// Returns how an element declares another encoding than UTF-8, or `None` if it doesn't.
+fn declaration(node: &NodeRef<'_>) -> Option<DeclaredBy> {
     if !node.has_name("meta") {
         return None;
     }
@@ -171,7 +184,7 @@ fn declaration(node: &NodeRef<'_>) -> Option<(&'static str, &'static str)> {
         return if is_utf8(label.as_bytes()) {
             None
         } else {
-            Some(("charset", "utf-8"))
+            Some(DeclaredBy::Charset)
         };
     }
     let pragma = node.attr("http-equiv")?;
@@ -179,7 +192,7 @@ fn declaration(node: &NodeRef<'_>) -> Option<(&'static str, &'static str)> {
     if !pragma.eq_ignore_ascii_case("content-type") || is_utf8(label) {
         return None;
     }
-    Some(("content", "text/html; charset=utf-8"))
+    Some(DeclaredBy::Pragma)
 }
 
 fn is_utf8(label: &[u8]) -> bool {

@@ -90,17 +90,17 @@ fn is_in_ordered_list(item: &NodeRef<'_>) -> bool {
 /// Returns the lines of a text with the marker before the first, and every other line indented
 /// unless it is empty.
 fn marked(alloc: Global, text: &str, marker: &str, indent: &str) -> Result<String, Fault> {
-    let mut written = String::new(alloc);
-    let mut front = marker;
+    let mut written = String::from_str(alloc, marker)?;
+    let mut is_first = true;
     for line in text.split('\n') {
-        if !written.is_empty() {
+        if !is_first {
             written.push('\n')?;
-        }
-        if !line.is_empty() || front == marker {
-            written.push_str(front)?;
+            if !line.is_empty() {
+                written.push_str(indent)?;
+            }
         }
         written.push_str(line)?;
-        front = indent;
+        is_first = false;
     }
     Ok(written)
 }
