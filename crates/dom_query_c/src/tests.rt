@@ -13,9 +13,9 @@ fn small(alloc: Global) -> Handle {
     handle
 }
 
-/// The node id in a result; an id that no document has if it is a fault.
-fn id_of(result: i64) -> u32 {
-    u32::try_from(result).unwrap_or(u32::MAX)
+/// The node id in an answer; an id that no document has if it is a fault.
+fn id_of(answer: i64) -> u32 {
+    u32::try_from(answer).unwrap_or(u32::MAX)
 }
 
 #[test]
