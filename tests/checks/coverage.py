@@ -28,6 +28,7 @@ UNCALLED = {
     ("", "safe_html_is_parsed"): "a law: it calls laws alone",
     ("", "one_parse"): "a law: it has no body",
     ("", "examples"): "a law: it has no body",
+    ("", "cleaned_text_is_parsed"): "a law: it calls laws alone",
 }
 # Comments, strings, characters, and imports of specs.
 BLANK = re.compile(r'//[^\n]*|"(?:\\.|[^"\\])*"|\'(?:\\[^\']+|[^\'\\])\'|\bghost use [^;]*;', re.S)
