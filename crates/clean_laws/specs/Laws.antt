@@ -32,3 +32,19 @@ CleanedTextsAreParsed = (policy : Policy) → is_sound policy ≡ true → (text
 abbrev pub CleanedPagesAreParsed : Type 0
 CleanedPagesAreParsed = (policy : Policy) → is_sound policy ≡ true → (text : List ℕ) (trees : ValueTrees) → IsUtf8 (page_around text) → IsSafe policy text trees →
     IsPageOnlyOf (chars (page_around text)) (nodes_of (page_of trees))
+
+-- ---- what is cleaned
+
+-- the text of trees that the policy allows, and it is parsed as these
+pub record IsCleanedText (policy : Policy) (text : List ℕ) : Type 0 where
+  pub trees : ValueTrees
+  pub safe : IsSafe policy text trees
+  pub parsed : IsParsedAs text trees
+
+-- a page with the text of such trees in its body, and it is parsed as their document
+pub record IsCleanedPage (policy : Policy) (page : List ℕ) : Type 0 where
+  pub text : List ℕ
+  pub trees : ValueTrees
+  pub is : page ≡ page_around text
+  pub safe : IsSafe policy text trees
+  pub parsed : IsPageOnlyOf (chars page) (nodes_of (page_of trees))

@@ -1,6 +1,8 @@
-//! What the HTML Standard makes of the text that `dom_clean` writes. The crate has no code that
-//! runs: its function is a law.
+//! What the HTML Standard makes of the text that `dom_clean` writes: a law, and callers of the
+//! cleaner whose contracts state it of the text that is returned.
 #![tactic(auto)]
+
+pub mod calls;
 
 ghost use Rattle.clean_laws.specs.Laws.{CleanedPagesAreParsed, CleanedTextsAreParsed};
 
