@@ -26,8 +26,8 @@ UNCALLED = {
     ("", "calm_trees_are_built"): "a law: it has no body",
     ("", "calm_html_is_parsed"): "a law: it calls laws alone",
     ("", "examples"): "a law: it has no body",
-    ("", "cleaned_text"): "a caller of `clean`: what it states is what counts",
-    ("", "cleaned_page"): "a caller of `clean_page`: what it states is what counts",
+    ("", "cleaned_text"): "a caller of `clean` that shows what follows from its contract",
+    ("", "cleaned_page"): "a caller of `clean_page` that shows what follows from its contract",
 }
 # Comments, strings, characters, and imports of specs.
 BLANK = re.compile(r'//[^\n]*|"(?:\\.|[^"\\])*"|\'(?:\\[^\']+|[^\'\\])\'|\bghost use [^;]*;', re.S)

@@ -13,9 +13,9 @@ use html_reading::{one_parse, safe_html_is_parsed};
 
 /// The text of what a sound policy leaves is parsed as exactly the trees that were left, by the
 /// tokenizer and the tree construction of the HTML Standard: in the body of a page, and as a
-/// fragment in a `body`, `div`, `li`, `td` or `blockquote` (`text`). So is a page with such a text in
-/// its body (`page`). The premises are what the contracts of `clean`, `clean_tree` and `clean_page`
-/// say of their results.
+/// fragment in a `body`, `div`, `li`, `td` or `blockquote` (`text`). So is a page with such a text
+/// in its body (`page`). The premises are what the contracts of `clean`, `clean_tree` and
+/// `clean_page` say of their results.
 pub fn cleaned_text_is_parsed()
     ensures text { CleanedTextsAreParsed }
     ensures page { CleanedPagesAreParsed }
