@@ -25,9 +25,9 @@ UNCALLED = {
     ("", "plain_trees_are_built"): "a law: it has no body",
     ("", "calm_trees_are_built"): "a law: it has no body",
     ("", "calm_html_is_parsed"): "a law: it calls laws alone",
-    ("", "safe_html_is_parsed"): "a law: it calls laws alone",
-    ("", "one_parse"): "a law: it has no body",
     ("", "examples"): "a law: it has no body",
+    ("", "cleaned_text"): "a caller of `clean` that shows what follows from its contract",
+    ("", "cleaned_page"): "a caller of `clean_page` that shows what follows from its contract",
 }
 # Comments, strings, characters, and imports of specs.
 BLANK = re.compile(r'//[^\n]*|"(?:\\.|[^"\\])*"|\'(?:\\[^\']+|[^\'\\])\'|\bghost use [^;]*;', re.S)

@@ -1,0 +1,3 @@
+pub mod CalmPlaces
+pub mod CleanedParsed
+pub mod CleanedText

@@ -1,0 +1,50 @@
+-- What the law says.
+use Rattle.std.specs.Prelude.{◌≡◌, ℕ, true, List}
+use Rattle.std.specs.Str.{IsUtf8, chars}
+use Rattle.dom_markup.specs.ValueTrees.{ValueTrees}
+use Rattle.html_rules.specs.PlainTrees.{flow_contexts}
+use Rattle.html_rules.specs.TreeTokens.{Trees, is_among}
+use Rattle.html_calm.specs.CalmTrees.{nodes_of}
+use Rattle.html_reading.specs.Parsing.{IsFragmentOf, IsPageOf}
+use Rattle.dom_clean.specs.Laws.{IsSafe, page_around, page_of}
+use Rattle.dom_clean.specs.Policy.{Policy, is_sound}
+
+-- the text is parsed as a page, as this document and as no other
+pub record IsPageOnlyOf (text : List ℕ) (document : Trees) : Type 0 where
+  pub parsed : IsPageOf text document
+  pub only : (other : Trees) → IsPageOf text other → other ≡ document
+
+-- the text is parsed as a fragment in a context element of that name, as these nodes and as no others
+pub record IsFragmentOnlyOf (context text : List ℕ) (nodes : Trees) : Type 0 where
+  pub parsed : IsFragmentOf context text nodes
+  pub only : (other : Trees) → IsFragmentOf context text other → other ≡ nodes
+
+-- the text is parsed as these trees and as no others: in the body of a page, and as a fragment in a `body`, `div`, `li`, `td` or `blockquote`
+pub record IsParsedAs (text : List ℕ) (trees : ValueTrees) : Type 0 where
+  pub page : IsPageOnlyOf (chars (page_around text)) (nodes_of (page_of trees))
+  pub fragment : (context : List ℕ) → is_among context flow_contexts ≡ true → IsFragmentOnlyOf context (chars text) (nodes_of trees)
+
+-- A text that is safe by a sound policy is parsed as the trees that are its own.
+abbrev pub CleanedTextsAreParsed : Type 0
+CleanedTextsAreParsed = (policy : Policy) → is_sound policy ≡ true → (text : List ℕ) (trees : ValueTrees) → IsUtf8 text → IsSafe policy text trees → IsParsedAs text trees
+
+-- So is a page with such a text in its body.
+abbrev pub CleanedPagesAreParsed : Type 0
+CleanedPagesAreParsed = (policy : Policy) → is_sound policy ≡ true → (text : List ℕ) (trees : ValueTrees) → IsUtf8 (page_around text) → IsSafe policy text trees →
+    IsPageOnlyOf (chars (page_around text)) (nodes_of (page_of trees))
+
+-- ---- what is cleaned
+
+-- the text of trees that the policy allows, and it is parsed as these
+pub record IsCleanedText (policy : Policy) (text : List ℕ) : Type 0 where
+  pub trees : ValueTrees
+  pub safe : IsSafe policy text trees
+  pub parsed : IsParsedAs text trees
+
+-- a page with the text of such trees in its body, and it is parsed as their document
+pub record IsCleanedPage (policy : Policy) (page : List ℕ) : Type 0 where
+  pub text : List ℕ
+  pub trees : ValueTrees
+  pub is : page ≡ page_around text
+  pub safe : IsSafe policy text trees
+  pub parsed : IsPageOnlyOf (chars page) (nodes_of (page_of trees))
