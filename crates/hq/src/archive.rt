@@ -70,13 +70,18 @@ fn answer_record<W: Write>(
     counts: &mut Counts,
     out: &mut W,
 ) -> Result<(), Fault> {
-    let Some(bytes) = record.response else {
+    let Record {
+        url,
+        date,
+        response,
+    } = record;
+    let Some(bytes) = response else {
         return Ok(());
     };
     let mut members = Map::new(alloc);
     put(alloc, &mut members, "offset", Value::from(offset))?;
-    put_text(alloc, &mut members, "url", record.url)?;
-    put_text(alloc, &mut members, "date", record.date)?;
+    put_text(alloc, &mut members, "url", url)?;
+    put_text(alloc, &mut members, "date", date)?;
     match response_of(alloc, &bytes) {
         Ok(response) if !response.is_html() => return Ok(()),
         Ok(response) => answer_response(alloc, &response, options, counts, &mut members)?,
