@@ -20,7 +20,8 @@ FUNCTIONS = {
     # chars.rt, growing/placing.rt
     "holds_table_text": ["table text"],
     "is_foster_target": ["table text"],
-    "table_place": ["foster parent"],
+    "is_table": ["foster parent"],
+    "is_template": ["foster parent"],
     # attributes.rt, inserting.rt, growing.rt, growing/edits.rt
     "local_name": ["in body"],
     "holds_html": ["foreign"],
