@@ -1,6 +1,7 @@
 mod CalmFrames
 mod CalmPages
 mod NodeRows
+mod PageLemmas
 mod PartLemmas
 mod ScopeLemmas
 mod TextLemmas

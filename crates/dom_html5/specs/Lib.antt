@@ -1,3 +1,4 @@
 pub mod Calm
 pub mod Scopes
 pub mod Parsers
+pub mod Pages

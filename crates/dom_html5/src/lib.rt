@@ -4,11 +4,14 @@
 //! would leave as it is, is parsed faster as explicit markup.
 #![tactic(auto)]
 
+mod byte_parser;
 mod calm;
 mod charset;
 pub mod laws;
+mod page_decoder;
 mod reading;
 
+pub use byte_parser::PageByteParser;
 pub use calm::nesting::{Scope, TOP, holds_text};
 pub use calm::read_calm;
 pub use charset::{ReadPage, read_page};
