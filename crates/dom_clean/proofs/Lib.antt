@@ -1,3 +1,9 @@
+pub mod Again
+pub mod AgainAttrs
+pub mod AgainCalm
+pub mod AgainTrees
+pub mod AgainValues
+pub mod AgainWords
 pub mod Allowed
 pub mod AttrWriting
 pub mod CalmJoined

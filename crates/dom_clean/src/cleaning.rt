@@ -1,6 +1,7 @@
 //! Cleans the text of a fragment or of a page.
 
 ghost use Rattle.std.specs.Prelude.{◌≡◌, IfOk, MatchOption, string_bytes};
+ghost use Rattle.dom_clean.specs.Again.{IsLeftBy, IsPageLeftBy};
 ghost use Rattle.dom_clean.specs.Cleaned.{body_of, cleaned_below, cleaned_body};
 ghost use Rattle.dom_clean.specs.Laws.{IsSafePage, IsSafeText, page_around, page_of};
 ghost use Rattle.dom_clean.specs.Policies.{policy_of};
@@ -26,12 +27,19 @@ const BODY: usize = 4;
 
 /// Returns the text of what the policy leaves of a fragment, which is read as the contents of a
 /// `div`. Fails only if memory is refused or the node ids run out.
+///
+/// A text that was cleaned by the same policy is returned as it is (clause `again`).
 pub fn clean(alloc: Global, source: &str, policy: &Policy) -> Result<String, PageFault>
     ensures safe { IfOk result (λ text. IsSafeText policy.now (string_bytes text)) }
     ensures calm { (body : ValueTrees) → IsCalmPage (page_around source.now) (page_of body)
         → IfOk result (λ text. string_bytes text
         ≡ text_of (cleaned_below policy.now (document_of (page_of body)) 4)) }
+    ensures left { IfOk result (λ text. IsLeftBy policy.now (string_bytes text)) }
+    ensures again { IsLeftBy policy.now source.now
+        → IfOk result (λ text. string_bytes text ≡ source.now) }
 {
+    // Every policy is sound.
+    let _ = policy.lists();
     let body = NodeId::new(BODY).unwrap_or(NodeId::root());
     match calm_page(alloc, source)? {
         Some(document) => clean_node(&document.tree, body, policy),
@@ -42,12 +50,19 @@ pub fn clean(alloc: Global, source: &str, policy: &Policy) -> Result<String, Pag
 /// Returns a page with what the policy leaves of the body of a page, or of the whole document if it
 /// has no body: `<!DOCTYPE html>`, then `html` with an empty `head` and a `body`, all without
 /// attributes. Fails only if memory is refused or the node ids run out.
+///
+/// A page that was cleaned by the same policy is returned as it is (clause `again`).
 pub fn clean_page(alloc: Global, source: &str, policy: &Policy) -> Result<String, PageFault>
     ensures safe { IfOk result (λ page. IsSafePage policy.now (string_bytes page)) }
     ensures calm { (trees : ValueTrees) → IsCalmPage source.now trees → IfOk result (λ page.
         string_bytes page
         ≡ page_around (text_of (cleaned_body policy.now (document_of trees)))) }
+    ensures left { IfOk result (λ page. IsPageLeftBy policy.now (string_bytes page)) }
+    ensures again { IsPageLeftBy policy.now source.now
+        → IfOk result (λ page. string_bytes page ≡ source.now) }
 {
+    // Every policy is sound.
+    let _ = policy.lists();
     let options = Options {
         scripting: false,
         max_depth: None,
@@ -89,7 +104,8 @@ fn clean_node(tree: &Tree, id: NodeId, policy: &Policy) -> Result<String, PageFa
 
 /// Returns the text of what the policy leaves of a fragment with parse errors or without.
 fn clean_fragment(alloc: Global, source: &str, policy: &Policy) -> Result<String, PageFault>
-    ensures { IfOk result (λ text. IsSafeText policy.now (string_bytes text)) }
+    ensures safe { IfOk result (λ text. IsSafeText policy.now (string_bytes text)) }
+    ensures left { IfOk result (λ text. IsLeftBy policy.now (string_bytes text)) }
 {
     let document = parse_page_fragment(alloc, source, Context::Html("div"), Options::default())?;
     let tree = &document.tree;

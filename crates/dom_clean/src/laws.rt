@@ -3,6 +3,7 @@
 
 ghost use Rattle.std.specs.Prelude.{◌≡◌, true, ℕ, List};
 ghost use Rattle.dom_clean.specs.Addresses.{LeadsByItsScheme};
+ghost use Rattle.dom_clean.specs.Again.{CleansOnce};
 ghost use Rattle.dom_clean.specs.Laws.{CleansSafely};
 ghost use Rattle.dom_clean.specs.Policy.{Policy, is_sound};
 
@@ -16,4 +17,10 @@ pub fn addresses_lead_by_their_schemes()
 /// the body is a calm page with exactly the tree that was left.
 pub fn what_is_left_is_safe()
     ensures { (policy : Policy) → is_sound policy ≡ true → CleansSafely policy }
+{}
+
+/// Cleaning is idempotent: what a sound policy leaves of any tree, as the body of a page, is left
+/// as exactly the same trees when it is cleaned again by the same policy.
+pub fn cleaned_again_is_the_same()
+    ensures { (policy : Policy) → is_sound policy ≡ true → CleansOnce policy }
 {}
