@@ -1,6 +1,6 @@
 -- What is left of any tree is left as it is when it is cleaned again.
-use Rattle.std.proofs.Common.{◌≡◌, ◌≢◌, ℕ, zero, suc, ◌+◌, ◌-◌, ◌≤◌, Bool, true, false, ◌&&◌, ◌||◌, not, cond, List, [], ◌∷◌, length, Option, Some, None, refl, sym, ap, ◌∙◌, subst, arith, slice_get}
-use Rattle.std.specs.Prelude.{◌<◌, codes, find, is_some, nat_lt, unwrap_or}
+use Rattle.std.proofs.Common.{◌≡◌, ◌≢◌, ℕ, zero, suc, ◌+◌, ◌-◌, ◌≤◌, Bool, true, false, ◌&&◌, not, cond, List, [], ◌∷◌, length, Option, Some, None, refl, sym, ap, ◌∙◌, subst, arith, slice_get}
+use Rattle.std.specs.Prelude.{◌<◌, codes, find, nat_lt, unwrap_or}
 use Rattle.std.specs.List.{list_all}
 use Rattle.std.specs.Option.{option_and_then, option_map_or}
 use Rattle.std.proofs.lemmas.Bool.{and_parts, not-true}
@@ -13,12 +13,12 @@ use Rattle.dom_nodes.specs.declared.name.Namespace.TheVariants.{Html}
 use Rattle.dom_nodes.specs.declared.node_data.NodeData.{NodeData}
 use Rattle.dom_nodes.specs.declared.node_data.NodeData.TheVariants.{Element as AnElement, Text}
 use Rattle.dom_links.specs.Forest.{Forest, children_of}
-use Rattle.dom_links.specs.Trees.{Trees, NoTrees, Tree, contents_list, trees, trees_to}
+use Rattle.dom_links.specs.Trees.{Trees, Tree, contents_list, trees, trees_to}
 use Rattle.dom_trees.specs.Views.{child_named, has_local_name}
 use Rattle.dom_markup.specs.Html.{is_html}
 use Rattle.dom_markup.specs.Names.{is_template, void_names}
-use Rattle.dom_markup.specs.Numbered.{document_of, rows_from, rows_of, size}
-use Rattle.dom_markup.specs.Plain.{IsElement, Represents, html_element}
+use Rattle.dom_markup.specs.Numbered.{document_of, rows_of, size}
+use Rattle.dom_markup.specs.Plain.{Represents, html_element}
 use Rattle.dom_markup.specs.ValueTrees.{Attribute, ValueTrees}
 use Rattle.dom_markup.specs.ValueTrees.ValueTrees.{no_trees, text_node, comment_node, doctype_node, element_node}
 use Rattle.dom_markup.proofs.plain.PlainRows.{document-represents, document_rows, rows-size}
@@ -26,7 +26,7 @@ use Rattle.html5_trees.specs.ElementKinds.{kind_of}
 use Rattle.dom_html5.specs.Calm.{IsCalmPage, admits, are_calm, behind, behind_text, inside, may_hold_text}
 use Rattle.dom_clean.specs.Again.{CleansOnce, IsLeftBy}
 use Rattle.dom_clean.specs.Cleaned.{body_of, cleaned, cleaned_below, cleaned_body, followed_by, held_by, in_body, left_of}
-use Rattle.dom_clean.specs.Fates.{cleaned_attrs, element_fate, fate_of, is_dropped, is_unseen, may_stay, place_below, spellable, text_fate}
+use Rattle.dom_clean.specs.Fates.{cleaned_attrs, element_fate, fate_of, is_dropped, may_stay, place_below, spellable, text_fate}
 use Rattle.dom_clean.specs.Joined.{AreTidy, IsWritable, joined}
 use Rattle.dom_clean.specs.Laws.{left_below, page_around, page_of}
 use Rattle.dom_clean.specs.Policy.{Policy, is_sound, keepable_names, may_keep}
@@ -34,7 +34,7 @@ use Rattle.dom_clean.specs.Written.{text_of}
 use Rattle.dom_clean.specs.declared.fates.Fate.{Fate}
 use Rattle.dom_clean.specs.declared.fates.Fate.TheVariants.{Stays, Unwrapped, Vanishes}
 use Rattle.dom_clean.specs.declared.fates.Place.{Place}
-use Rattle.dom_clean.proofs.AgainAttrs.{AreStaying, attrs-again}
+use Rattle.dom_clean.proofs.AgainAttrs.{attrs-again}
 use Rattle.dom_clean.proofs.AgainCalm.{calm-later, held-stays, twice-behind, void-stays}
 use Rattle.dom_clean.proofs.AgainTrees.{AreSettledTrees, IsKept, cleaned_settled, settled_joined}
 use Rattle.dom_clean.proofs.AgainValues.{spellable_stays}
@@ -43,7 +43,7 @@ use Rattle.dom_clean.proofs.Left.{cleans}
 use Rattle.dom_clean.proofs.Names.{among_passes}
 use Rattle.dom_clean.proofs.Pages.{safe_text}
 use Rattle.dom_clean.proofs.SoundNames.{passes}
-use Rattle.dom_clean.proofs.Tidy.{cleaned_tidy, text_joined, tidy_joined}
+use Rattle.dom_clean.proofs.Tidy.{cleaned_tidy, tidy_joined}
 
 -- ---- nodes
 

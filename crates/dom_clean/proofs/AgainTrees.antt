@@ -1,5 +1,5 @@
 -- What is left of trees can stay as it is, element by element.
-use Rattle.std.proofs.Common.{◌≡◌, ℕ, Bool, true, false, ◌&&◌, ◌||◌, ◌-◌, cond, List, [], ◌∷◌, Some, None, refl, slice_get}
+use Rattle.std.proofs.Common.{◌≡◌, ℕ, true, false, ◌&&◌, ◌||◌, ◌-◌, List, [], ◌∷◌, Some, None, slice_get}
 use Rattle.std.specs.Prelude.{Option, is_some, nat_lt}
 use Rattle.std.specs.Option.{option_map_or}
 use Rattle.std.proofs.lemmas.Bool.{and_parts, cond_both, or_parts}

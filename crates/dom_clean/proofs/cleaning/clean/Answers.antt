@@ -1,5 +1,5 @@
-use Rattle.std.proofs.Common.{◌≡◌, ℕ, List, Option, None, Some, sym, ap, ◌∙◌, string_bytes}
-use Rattle.std.specs.Prelude.{MatchOption}
+use Rattle.std.proofs.Common.{◌≡◌, ℕ, ◌≤◌, Option, None, Some, sym, ap, ◌∙◌, arith}
+use Rattle.std.specs.Prelude.{MatchOption, unwrap_or}
 use Rattle.std.proofs.lemmas.Option.{none-some, same_Some}
 use Rattle.std.proofs.lemmas.Result.{IfOk-weaker}
 use Rattle.dom_links.specs.Forest.{Forest}
@@ -20,6 +20,10 @@ found_none : (found : Option Document) (forest : Forest) → found ≡ None → 
 found_none None forest is holds = holds
 found_none (Some d) forest is holds = none-some d (sym is)
 
+id_is : (found : Option ℕ) (other : ℕ) → MatchOption found (4294967295 ≤ 4) (λ id. id ≡ 4) → unwrap_or found other ≡ 4
+id_is None other holds = absurd (omega (arith, holds))
+id_is (Some id) other holds = holds
+
 pub returns-in-Some-clause-again : goal.returns-in-Some-clause-again
 returns-in-Some-clause-again c = λ left.
     let policy = c.args.policy.now in
@@ -27,7 +31,7 @@ returns-in-Some-clause-again c = λ left.
     let body = left_below policy left.0 left.1 in
     let read : c.in-Some.document.tree ≡ document_of (page_of body) =
     found_is c.in_ok-document.field-0 c.in-Some.document (document_of (page_of body)) c.in-Some.is (c.in_ok-document.ensures body (page_read policy c.lists.ensures.sound source left)) in
-    let four : c.unwrap_or-body.result ≡ 4 = search rules in
+    let four : c.unwrap_or-body.result ≡ 4 = c.unwrap_or-body.ensures ∙ id_is c.new.result c.root.result c.new.ensures in
     IfOk-weaker c.clean_node.result _ _
     (λ text is. is ∙ ap (λ n. text_of (cleaned_below policy c.in-Some.document.tree n)) four ∙ ap (λ (forest : Forest). text_of (cleaned_below policy forest 4)) read ∙ text_stays policy c.lists.ensures.sound source left)
     c.clean_node.ensures.text
