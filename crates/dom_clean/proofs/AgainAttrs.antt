@@ -109,7 +109,7 @@ one-met before attr name (b ∷ later) is other new =
     let differs : bytes_eq attr.name.local b.name ≡ false = ap (λ n. bytes_eq n b.name) is ∙ bytes_eq-swapped name b.name ∙ h.0 in
     let here : is_named b.name attr ≡ false = and_right (is_nowhere attr.name.ns) (bytes_eq attr.name.local b.name) differs in (
       list_any-append (is_named b.name) before (attr ∷ [])
-      ∙ or_from (list_any (is_named b.name) before) (is_named b.name attr || false) new.0 (or_from (is_named b.name attr) false here refl),
+          ∙ or_from (list_any (is_named b.name) before) (is_named b.name attr || false) new.0 (or_from (is_named b.name attr) false here refl),
       one-met before attr name later is h.1 new.1,
     )
 

@@ -24,21 +24,34 @@ id_is : (found : Option ℕ) (other : ℕ) → MatchOption found (4294967295 ≤
 id_is None other holds = absurd (omega (arith, holds))
 id_is (Some id) other holds = holds
 
+pub returns-in-Some-clause-calm : goal.returns-in-Some-clause-calm
+returns-in-Some-clause-calm c = λ body calm.
+    let policy = c.args.policy.now in
+    let read = found_is c.in_ok-document.field-0 c.in-Some.document (document_of (page_of body)) c.in-Some.is (c.in_ok-document.ensures body calm) in
+    let four : c.unwrap_or-body.result ≡ 4 = c.unwrap_or-body.ensures ∙ id_is c.new.result c.root.result c.new.ensures in
+    IfOk-weaker c.clean_node.result _ _
+    (λ text is. is ∙ ap (λ n. text_of (cleaned_below policy c.in-Some.document.tree n)) four ∙ ap (λ (forest : Forest). text_of (cleaned_below policy forest 4)) read)
+    c.clean_node.ensures.text
+
+pub returns-in-Some-clause-left : goal.returns-in-Some-clause-left
+returns-in-Some-clause-left c = IfOk-weaker c.clean_node.result _ _ (λ text is. (c.in-Some.document.tree, c.unwrap_or-body.result, is)) c.clean_node.ensures.text
+
 pub returns-in-Some-clause-again : goal.returns-in-Some-clause-again
 returns-in-Some-clause-again c = λ left.
     let policy = c.args.policy.now in
-    let source = c.args.source.now in
-    let body = left_below policy left.0 left.1 in
-    let read : c.in-Some.document.tree ≡ document_of (page_of body) =
-    found_is c.in_ok-document.field-0 c.in-Some.document (document_of (page_of body)) c.in-Some.is (c.in_ok-document.ensures body (page_read policy c.lists.ensures.sound source left)) in
+    let sound = c.lists.ensures.sound in
+    let page = document_of (page_of (left_below policy left.0 left.1)) in
+    let read = found_is c.in_ok-document.field-0 c.in-Some.document page c.in-Some.is (c.in_ok-document.ensures (left_below policy left.0 left.1) (page_read policy sound c.args.source.now left)) in
     let four : c.unwrap_or-body.result ≡ 4 = c.unwrap_or-body.ensures ∙ id_is c.new.result c.root.result c.new.ensures in
     IfOk-weaker c.clean_node.result _ _
-    (λ text is. is ∙ ap (λ n. text_of (cleaned_below policy c.in-Some.document.tree n)) four ∙ ap (λ (forest : Forest). text_of (cleaned_below policy forest 4)) read ∙ text_stays policy c.lists.ensures.sound source left)
+    (λ text is. is ∙ ap (λ n. text_of (cleaned_below policy c.in-Some.document.tree n)) four ∙ ap (λ (forest : Forest). text_of (cleaned_below policy forest 4)) read ∙ text_stays policy sound c.args.source.now left)
     c.clean_node.ensures.text
+
+pub returns-in-None-clause-calm : goal.returns-in-None-clause-calm
+returns-in-None-clause-calm c = λ body calm. absurd (found_none c.in_ok-document.field-0 (document_of (page_of body)) c.in-None.is (c.in_ok-document.ensures body calm))
 
 pub returns-in-None-clause-again : goal.returns-in-None-clause-again
 returns-in-None-clause-again c = λ left.
     let policy = c.args.policy.now in
-    let source = c.args.source.now in
     let body = left_below policy left.0 left.1 in
-    absurd (found_none c.in_ok-document.field-0 (document_of (page_of body)) c.in-None.is (c.in_ok-document.ensures body (page_read policy c.lists.ensures.sound source left)))
+    absurd (found_none c.in_ok-document.field-0 (document_of (page_of body)) c.in-None.is (c.in_ok-document.ensures body (page_read policy c.lists.ensures.sound c.args.source.now left)))
