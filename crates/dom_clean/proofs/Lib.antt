@@ -7,7 +7,10 @@ pub mod AgainWords
 pub mod Allowed
 pub mod AttrWriting
 pub mod CalmJoined
+pub mod CalmPlaces
 pub mod CalmText
+pub mod CleanedParsed
+pub mod CleanedText
 pub mod Left
 pub mod Lines
 pub mod Names

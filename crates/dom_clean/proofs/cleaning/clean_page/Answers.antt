@@ -6,10 +6,12 @@ use Rattle.dom_clean.specs.Cleaned.{cleaned_below, cleaned_body}
 use Rattle.dom_clean.specs.Laws.{left_below, page_around, page_of}
 use Rattle.dom_clean.specs.Written.{text_of}
 use Rattle.dom_clean.proofs.Again.{body_again, page_read, text_stays}
+use Rattle.dom_clean.proofs.CleanedParsed.{cleaned_page}
 use Rattle.dom_clean.proofs.cleaning.clean_page.Goals as goal
 
-pub returns-clause-safe : goal.returns-clause-safe
-returns-clause-safe c = (string_bytes c.in_ok-text.text, c.in_ok-page_around.ensures ∙ ap page_around c.as_str.ensures.value, c.in_ok-text.ensures.safe)
+pub returns-clause-cleaned : goal.returns-clause-cleaned
+returns-clause-cleaned c =
+    cleaned_page c.args.policy.now _ (string_bytes c.in_ok-text.text) (c.in_ok-page_around.ensures ∙ ap page_around c.as_str.ensures.value) c.in_ok-text.ensures.cleaned
 
 pub returns-clause-calm : goal.returns-clause-calm
 returns-clause-calm c = λ trees calm.
