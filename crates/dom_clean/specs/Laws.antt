@@ -72,13 +72,6 @@ pub record IsSafe (policy : Policy) (text : List ℕ) (trees : ValueTrees) : Typ
   pub allowed : AreAllowed policy trees
   pub page : IsCalmPage (page_around text) (page_of trees)
 
-abbrev pub IsSafeText : Policy → List ℕ → Type 0
-IsSafeText policy text = (trees : ValueTrees) × IsSafe policy text trees
-
--- such a text in the body of a page
-abbrev pub IsSafePage : Policy → List ℕ → Type 0
-IsSafePage policy page = (text : List ℕ) × (page ≡ page_around text) × IsSafeText policy text
-
 -- what a policy leaves of a forest below a node, with texts side by side as one
 abbrev pub left_below : Policy → Forest → ℕ → ValueTrees
 left_below policy forest n = joined (cleaned_below policy forest n)

@@ -1,8 +1,9 @@
 //! A cleaner of HTML from strangers. `clean` returns the text of what a `Policy` leaves of a
 //! fragment, and `clean_page` that of a page.
 //!
-//! The page with that text in its body is a calm page, so `parse_page` reads it as exactly the tree
-//! that was left. The module `laws` has the theorems about the definitions.
+//! Whatever the input is, the HTML Standard parses that text as exactly the tree that was left. The
+//! page with the text in its body is a calm page, so `parse_page` reads the same tree. The module
+//! `laws` has the theorems about the definitions.
 #![tactic(auto)]
 
 mod addresses;

@@ -10,7 +10,8 @@ ghost use Rattle.dom_clean.specs.declared.fates.Fate.TheVariants.{Stays};
 ghost use Rattle.dom_clean.specs.declared.writer.Entry.TheVariants.{Row};
 ghost use Rattle.dom_markup.specs.Escaping.{escaped_text};
 ghost use Rattle.std.specs.Option.{option_map_or};
-ghost use Rattle.dom_clean.specs.Laws.{IsSafe, left_below};
+ghost use Rattle.dom_clean.specs.Laws.{left_below};
+ghost use Rattle.dom_clean.specs.Parsed.{IsCleanedAs};
 ghost use Rattle.dom_clean.specs.Policies.{policy_of};
 ghost use Rattle.dom_clean.specs.Written.{start_of, text_of};
 ghost use Rattle.dom_links.specs.Forest.{children_of};
@@ -23,6 +24,7 @@ ghost use Rattle.html5_trees.specs.ElementKinds.{kind_of};
 
 use crate::attributes::{is_void_name, push_start};
 use crate::fates::{Fate, Place, category, fate_of, in_body, place_below};
+use crate::laws::cleaned_text_is_parsed;
 use crate::lists::Lists;
 use crate::policy::Policy;
 use crate::values::{after_lines, push_text, spellable};
@@ -96,14 +98,19 @@ struct Output {
 }
 
 /// Returns the text of what the policy leaves of the children of the root. Fails with `OutOfMemory`
-/// if memory is refused.
+/// if memory is refused. The HTML Standard parses the text as `clean` says.
 pub fn clean_tree(tree: &Tree, policy: &Policy) -> Result<String, OutOfMemory>
     ensures text { IfOk result (λ text. string_bytes text
         ≡ text_of (cleaned_below policy.now tree.now 0)) }
-    ensures safe { IfOk result (λ text. IsSafe policy.now (string_bytes text)
+    ensures cleaned { IfOk result (λ text. IsCleanedAs policy.now (string_bytes text)
         (left_below policy.now tree.now 0)) }
 {
-    clean_below(tree, &tree.root_id(), policy.lists())
+    // A law, called for its contract alone.
+    cleaned_text_is_parsed();
+    let text = clean_below(tree, &tree.root_id(), policy.lists())?;
+    // A text that is read as a `str` is known to be UTF-8.
+    let _ = text.as_str();
+    Ok(text)
 }
 
 /// Returns the text of what is left of the children of a node.

@@ -1,4 +1,4 @@
--- What the law says.
+-- What the HTML Standard makes of the text of what is left.
 use Rattle.std.specs.Prelude.{◌≡◌, ℕ, true, List}
 use Rattle.std.specs.Str.{IsUtf8, chars}
 use Rattle.dom_markup.specs.ValueTrees.{ValueTrees}
@@ -35,16 +35,18 @@ CleanedPagesAreParsed = (policy : Policy) → is_sound policy ≡ true → (text
 
 -- ---- what is cleaned
 
--- the text of trees that the policy allows, and it is parsed as these
-pub record IsCleanedText (policy : Policy) (text : List ℕ) : Type 0 where
-  pub trees : ValueTrees
+-- the text is that of these trees, which the policy allows, and it is parsed as these trees
+pub record IsCleanedAs (policy : Policy) (text : List ℕ) (trees : ValueTrees) : Type 0 where
   pub safe : IsSafe policy text trees
   pub parsed : IsParsedAs text trees
 
--- a page with the text of such trees in its body, and it is parsed as their document
+abbrev pub IsCleanedText : Policy → List ℕ → Type 0
+IsCleanedText policy text = (trees : ValueTrees) × IsCleanedAs policy text trees
+
+-- a page with such a text in its body, and it is parsed as their document
 pub record IsCleanedPage (policy : Policy) (page : List ℕ) : Type 0 where
   pub text : List ℕ
   pub trees : ValueTrees
   pub is : page ≡ page_around text
-  pub safe : IsSafe policy text trees
+  pub cleaned : IsCleanedAs policy text trees
   pub parsed : IsPageOnlyOf (chars page) (nodes_of (page_of trees))

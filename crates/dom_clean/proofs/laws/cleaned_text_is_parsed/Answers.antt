@@ -1,5 +1,5 @@
-use Rattle.clean_laws.proofs.CleanedParsed.{pages_parsed, texts_parsed}
-use Rattle.clean_laws.proofs.cleaned_text_is_parsed.Goals as goal
+use Rattle.dom_clean.proofs.CleanedParsed.{pages_parsed, texts_parsed}
+use Rattle.dom_clean.proofs.laws.cleaned_text_is_parsed.Goals as goal
 
 pub returns-clause-text : goal.returns-clause-text
 returns-clause-text c =

@@ -5,7 +5,7 @@ use mathlib.Core.Path.{◌∙◌, sym, ap, subst}
 use Rattle.dom_markup.specs.Numbered.{document_of}
 use Rattle.dom_markup.specs.Plain.{IsPlain, IsPlainTrees}
 use Rattle.dom_markup.specs.ValueTrees.{ValueTrees}
-use Rattle.dom_links.specs.Forest.{children_of}
+use Rattle.dom_links.specs.Forest.{Forest, children_of}
 use Rattle.dom_html5.specs.Calm.{IsCalmPage}
 use Rattle.html_rules.specs.PlainTrees.{flow_contexts}
 use Rattle.html_rules.specs.TreeTokens.{is_among}
@@ -20,11 +20,14 @@ use Rattle.html_reading.proofs.CalmParsed.{OneMeaning, ReadIsPlain, StandForThei
 use Rattle.html_reading.proofs.CalmReadable.{document_readable}
 use Rattle.html_reading.proofs.Kept.{calm_kept, safe_shows}
 use Rattle.html_reading.proofs.Utf8Pieces.{document_bare, document_utf8}
-use Rattle.dom_clean.specs.Laws.{IsSafe, page_around, page_of}
+use Rattle.dom_clean.specs.Cleaned.{cleaned_below}
+use Rattle.dom_clean.specs.Laws.{IsSafe, left_below, page_around, page_of}
 use Rattle.dom_clean.specs.Policy.{Policy, is_sound}
-use Rattle.clean_laws.specs.Laws.{CleanedPagesAreParsed, CleanedTextsAreParsed}
-use Rattle.clean_laws.proofs.CalmPlaces.{fragment_calm}
-use Rattle.clean_laws.proofs.CleanedText.{page_utf8, same_page, same_text}
+use Rattle.dom_clean.specs.Written.{text_of}
+use Rattle.dom_clean.specs.Parsed.{CleanedPagesAreParsed, CleanedTextsAreParsed, IsCleanedAs, IsCleanedPage, IsCleanedText, IsPageOnlyOf}
+use Rattle.dom_clean.proofs.CalmPlaces.{fragment_calm}
+use Rattle.dom_clean.proofs.CleanedText.{page_utf8, same_page, same_text}
+use Rattle.dom_clean.proofs.Pages.{safe_text}
 
 -- the page as html_laws writes it
 page_is : (policy : Policy) → is_sound policy ≡ true → (text : List ℕ) (trees : ValueTrees) → IsSafe policy text trees → page_around text ≡ text_by safe_char false (page_of trees)
@@ -67,3 +70,17 @@ texts_parsed meaning read stand calm pieces page_once fragment_once policy sound
       page = pages_parsed calm page_once policy sound text trees (page_utf8 text utf8) safe;
       fragment = λ context among. record { parsed = fragment context among; only = λ other p. fragment_once context (chars text) other (nodes_of trees) p (fragment context among) };
     }
+
+-- ---- what is returned
+
+-- the text of what is left below a node
+pub cleaned_text : CleanedTextsAreParsed → (policy : Policy) → is_sound policy ≡ true → (forest : Forest) (n : ℕ) (text : List ℕ) → IsUtf8 text → text ≡ text_of (cleaned_below policy forest n) →
+    IsCleanedAs policy text (left_below policy forest n)
+cleaned_text parsed policy sound forest n text utf8 is =
+    let safe : IsSafe policy text (left_below policy forest n) = safe_text policy sound forest n text is in
+    record { safe = safe; parsed = parsed policy sound text (left_below policy forest n) utf8 safe }
+
+-- a page with such a text in its body
+pub cleaned_page : (policy : Policy) (page text : List ℕ) → page ≡ page_around text → IsCleanedText policy text → IsCleanedPage policy page
+cleaned_page policy page text is cleaned =
+    record { text = text; trees = cleaned.0; is = is; cleaned = cleaned.1; parsed = subst (λ t. IsPageOnlyOf (chars t) (nodes_of (page_of cleaned.0))) (sym is) cleaned.1.parsed.page }
