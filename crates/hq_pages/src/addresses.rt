@@ -117,16 +117,3 @@ fn joined(base: &Url, address: &str) -> Result<Option<Url>, Fault> {
         Err(_) => Ok(None),
     }
 }
-
-/// Returns whether an address is relative, or has a scheme that `--sanitize` keeps.
-pub fn is_harmless(alloc: Global, address: &str) -> Result<bool, Fault> {
-    match Url::parse(alloc, address) {
-        Ok(url) => Ok(is_harmless_scheme(url.scheme())),
-        Err(ParseError::OutOfMemory) => Err(Fault::Memory),
-        Err(fault) => Ok(fault == ParseError::RelativeUrlWithoutBase),
-    }
-}
-
-fn is_harmless_scheme(scheme: &str) -> bool {
-    matches!(scheme, "http" | "https" | "mailto" | "ftp" | "tel")
-}
