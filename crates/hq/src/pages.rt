@@ -3,7 +3,7 @@
 use crate::output::print_matches;
 use crate::rewriting::{print_document, write_back};
 use dom_query::{Document, DocumentSelect, SelectionMut, clean_document, run_commands};
-use hq_pages::addresses::{make_whole, make_whole_at};
+use hq_pages::addresses::{make_absolute, make_absolute_at};
 use hq_pages::charset::{declare_utf8, report_found};
 use hq_pages::faults::Fault;
 use hq_pages::options::{Job, Options};
@@ -79,9 +79,9 @@ pub fn change(
             return Err(Fault::from(refused.fault));
         }
     }
-    make_whole(document, options)?;
+    make_absolute(document, options)?;
     if let Some(address) = address {
-        make_whole_at(document, address)?;
+        make_absolute_at(document, address)?;
     }
     if options.declares_utf8() {
         declare_utf8(document)?;

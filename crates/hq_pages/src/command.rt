@@ -50,7 +50,7 @@ static OPTIONS: [Choice; 34] = [
     ("null", '0', "", "", "End each answer with a NUL byte instead of a line feed"),
     ("with-filename", 'H', "", "", "Print the name of the file in front of each answer"),
     ("color", NONE, "WHEN", "", "Colour file names: auto (the default), always or never"),
-    ("base", 'b', "URL", "", "Make addresses absolute: resolve them against the page's base and this one"),
+    ("base", 'b', "URL", "", "Make addresses absolute: resolve them against this URL and the page's base"),
     ("remove", 'r', "SELECTOR", "", "First remove what this matches; may be repeated"),
     ("sanitize", NONE, "", "", "Then keep only what the rules for HTML from strangers allow"),
     ("policy", NONE, "FILE", "", "With --sanitize: take the rules of this file, in TOML"),
