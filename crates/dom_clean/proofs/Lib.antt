@@ -2,6 +2,7 @@ pub mod Allowed
 pub mod AttrWriting
 pub mod CalmJoined
 pub mod CalmText
+pub mod EntryTexts
 pub mod Left
 pub mod Lines
 pub mod Names

@@ -47,7 +47,8 @@ fn write_forest<W: Write>(tree: &Tree, lists: &Lists, w: &mut W) -> Result<(), W
         in_front: false,
     };
     let mut ahead = Ahead::new(alloc);
-    let first = first_below(tree, &tree.root_id());
+    let root = tree.root_id();
+    let first = first_below(tree, &root);
     push_row(&mut ahead, first, in_body(lists))?;
     while let Some(entry) = ahead.pop() {
         write_entry(tree, lists, entry, &mut ahead, &mut output)?;
