@@ -1,9 +1,8 @@
 //! What a policy leaves of a tree, as a document and in a writer.
 
 ghost use Rattle.std.specs.Prelude.{◌≡◌, IfOk};
-ghost use Rattle.dom_clean.specs.Cleaned.{body_of, cleaned_below};
+ghost use Rattle.dom_clean.specs.Cleaned.{body_of};
 ghost use Rattle.dom_clean.specs.Laws.{AreAllowed, left_below, page_of};
-ghost use Rattle.dom_clean.specs.Written.{text_of};
 ghost use Rattle.dom_markup.specs.Numbered.{document_of};
 
 use crate::cleaning::{body_of, page_around};
@@ -21,7 +20,8 @@ use dom_trees::tree::Tree;
 pub fn clean_document(tree: &Tree, policy: &Policy) -> Result<Document, PageFault>
     ensures tree { IfOk result (λ document. document.tree
         ≡ document_of (page_of (left_below policy.now tree.now (body_of tree.now)))) }
-    ensures allowed { AreAllowed policy.now (left_below policy.now tree.now (body_of tree.now)) }
+    ensures allowed { IfOk result (λ _.
+        AreAllowed policy.now (left_below policy.now tree.now (body_of tree.now))) }
 {
     what_is_left_is_safe();
     let alloc = tree.allocator();

@@ -64,7 +64,11 @@ fn write_out<W: Write>(output: &mut Output, w: &mut W) -> Result<(), WriteFault>
     ensures emptied { OnOk result (string_bytes output.new.text ≡ []) }
     ensures front { output.new.in_front ≡ output.old.in_front }
 {
-    write_bytes(w, output.text.as_bytes())?;
-    output.text.clear();
-    Ok(())
+    match write_bytes(w, output.text.as_bytes()) {
+        Ok(()) => {
+            output.text.clear();
+            Ok(())
+        }
+        Err(fault) => Err(fault),
+    }
 }
