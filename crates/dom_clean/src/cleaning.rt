@@ -82,7 +82,7 @@ pub fn clean_page(alloc: Global, source: &str, policy: &Policy) -> Result<String
 }
 
 /// Returns the body of a page, or the root if the page has none.
-fn body_of(tree: &Tree) -> NodeId
+pub(crate) fn body_of(tree: &Tree) -> NodeId
     ensures { result ≡ body_of tree.now }
 {
     match tree.body() {
@@ -92,7 +92,7 @@ fn body_of(tree: &Tree) -> NodeId
 }
 
 /// Returns the page with the text in its body.
-fn page_around(alloc: Global, text: &str) -> Result<String, OutOfMemory>
+pub(crate) fn page_around(alloc: Global, text: &str) -> Result<String, OutOfMemory>
     ensures { IfOk result (λ page. string_bytes page ≡ page_around text.now) }
 {
     let mut page = String::from_str(alloc, "<!DOCTYPE html><html><head></head><body>")?;

@@ -40,7 +40,7 @@ use std::marker::Model;
 
 /// Something that is still to be written.
 #[derive(Clone, Copy, Drop)]
-enum Entry {
+pub(crate) enum Entry {
     /// A node and its later siblings, at that place.
     Row { first: NodeId, place: Place },
     /// The end tag of an element.
@@ -49,7 +49,7 @@ enum Entry {
 
 /// A stack of entries; the next one to be written is on top.
 #[derive(Drop)]
-struct Ahead {
+pub(crate) struct Ahead {
     items: Vec<Entry>,
 }
 
@@ -63,7 +63,7 @@ impl Model for Ahead {
 }
 
 impl Ahead {
-    fn new(alloc: Global) -> Ahead
+    pub(crate) fn new(alloc: Global) -> Ahead
         ensures { result ≡ [] }
     {
         Ahead {
@@ -82,7 +82,7 @@ impl Ahead {
     }
 
     /// Pops the next entry.
-    fn pop(&mut self) -> Option<Entry>
+    pub(crate) fn pop(&mut self) -> Option<Entry>
         ensures { MatchOption result (self.old ≡ []) (λ entry. self.old ≡ entry ∷ self.new) }
     {
         self.items.pop()
@@ -91,10 +91,10 @@ impl Ahead {
 
 /// The text that was written so far.
 #[derive(Drop)]
-struct Output {
-    text: String,
+pub(crate) struct Output {
+    pub(crate) text: String,
     /// Whether the text ends directly after the start tag of a `pre`.
-    in_front: bool,
+    pub(crate) in_front: bool,
 }
 
 /// Returns the text of what the policy leaves of the children of the root. Fails with `OutOfMemory`
@@ -145,14 +145,14 @@ fn clean_forest(tree: &Tree, id: &NodeId, lists: &Lists) -> Result<String, OutOf
 }
 
 /// Returns the first child of a node.
-fn first_below(tree: &Tree, id: &NodeId) -> Option<NodeId>
+pub(crate) fn first_below(tree: &Tree, id: &NodeId) -> Option<NodeId>
     ensures { result ≡ first (children_of tree.now id.now) }
 {
     first_child_id(tree.nodes(), id)
 }
 
 /// Writes the first part of an entry, and pushes entries for the rest of it.
-fn write_entry(
+pub(crate) fn write_entry(
     tree: &Tree,
     lists: &Lists,
     entry: Entry,
@@ -279,7 +279,11 @@ fn push_inside(
 }
 
 /// Pushes an entry for a row, if there is a node in it.
-fn push_row(ahead: &mut Ahead, first: Option<NodeId>, place: Place) -> Result<(), OutOfMemory>
+pub(crate) fn push_row(
+    ahead: &mut Ahead,
+    first: Option<NodeId>,
+    place: Place,
+) -> Result<(), OutOfMemory>
     ensures { OnOk result (ahead.new ≡ with_row first place ahead.old) }
 {
     if let Some(first) = first {

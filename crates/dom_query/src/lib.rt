@@ -20,12 +20,17 @@ mod selector_places;
 pub mod serializing;
 
 pub use document_md::DocumentMd;
+pub use dom_clean::CleanedBytes;
 pub use dom_clean::Policy;
 pub use dom_clean::PolicyFault;
 pub use dom_clean::Rules;
 pub use dom_clean::clean;
+pub use dom_clean::clean_bytes;
+pub use dom_clean::clean_document;
 pub use dom_clean::clean_page;
+pub use dom_clean::clean_page_bytes;
 pub use dom_clean::clean_tree;
+pub use dom_clean::write_clean_tree;
 pub use dom_edits::edit::SelectionFault;
 pub use dom_edits::selection_mut::SelectionMut;
 pub use dom_html5::Charset;
