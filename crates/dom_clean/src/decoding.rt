@@ -3,7 +3,8 @@
 ghost use Rattle.std.specs.Prelude.{◌≡◌, IfOk, string_bytes};
 ghost use Rattle.decoded_text.specs.Characters.{errors_in};
 ghost use Rattle.dom_clean.specs.Cleaned.{cleaned_below, cleaned_body};
-ghost use Rattle.dom_clean.specs.Laws.{IsSafePage, IsSafeText, page_around, page_of};
+ghost use Rattle.dom_clean.specs.Laws.{page_around, page_of};
+ghost use Rattle.dom_clean.specs.Parsed.{IsCleanedPage, IsCleanedText};
 ghost use Rattle.dom_clean.specs.Written.{text_of};
 ghost use Rattle.dom_html5.specs.Calm.{IsCalmPage};
 ghost use Rattle.dom_markup.specs.Numbered.{document_of};
@@ -39,7 +40,7 @@ pub fn clean_bytes(
     charset: Charset,
     policy: &Policy,
 ) -> Result<CleanedBytes, PageFault>
-    ensures safe { IfOk result (λ cleaned. IsSafeText policy.now (string_bytes cleaned.text)) }
+    ensures cleaned { IfOk result (λ cleaned. IsCleanedText policy.now (string_bytes cleaned.text)) }
     ensures encoding { IfOk result (λ cleaned.
         IsPageEncoding charset bytes.now cleaned.encoding cleaned.confidence) }
     ensures replaced { IfOk result (λ cleaned.
@@ -68,7 +69,7 @@ pub fn clean_page_bytes(
     charset: Charset,
     policy: &Policy,
 ) -> Result<CleanedBytes, PageFault>
-    ensures safe { IfOk result (λ cleaned. IsSafePage policy.now (string_bytes cleaned.text)) }
+    ensures cleaned { IfOk result (λ cleaned. IsCleanedPage policy.now (string_bytes cleaned.text)) }
     ensures encoding { IfOk result (λ cleaned.
         IsPageEncoding charset bytes.now cleaned.encoding cleaned.confidence) }
     ensures replaced { IfOk result (λ cleaned.
