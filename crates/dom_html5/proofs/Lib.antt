@@ -1,6 +1,1 @@
-mod CalmFrames
-mod CalmPages
-mod NodeRows
 mod PartLemmas
-mod ScopeLemmas
-mod TextLemmas

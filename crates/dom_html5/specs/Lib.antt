@@ -1,3 +1,1 @@
-pub mod Calm
-pub mod Scopes
 pub mod Parsers

@@ -6,7 +6,7 @@ ghost use Rattle.dom_links.specs.Forest.{Forest};
 ghost use Rattle.dom_markup.specs.Numbered.{document_of};
 ghost use Rattle.dom_markup.specs.ValueTrees.{ValueTrees};
 ghost use Rattle.dom_trees.specs.SameTree.{SameTree};
-ghost use Rattle.dom_html5.specs.Calm.{IsCalmPage, ReadsCalm, SpellsCalmPage};
+ghost use Rattle.calm_pages.specs.Calm.{IsCalmPage, ReadsCalm, SpellsCalmPage};
 ghost use Rattle.html5_trees.specs.Shape.{IsPage};
 ghost use Rattle.text_decoding.specs.Decoding.{characters};
 ghost use Rattle.text_decoding.specs.Pages.{IsPageEncoding, behind_mark, page_text};

@@ -8,6 +8,7 @@ ghost use Rattle.html_reading.specs.Examples.{ImpliedTagsAreParsed, TextStatesAr
 ghost use Rattle.html_reading.specs.Laws.{CalmDocumentsAreParsed, CalmFragmentsAreParsed};
 ghost use Rattle.html_reading.specs.Laws.{CalmHtmlIsParsed, CalmPagesAreParsed};
 ghost use Rattle.html_reading.specs.Laws.{FragmentsAreParsedOneWay, PagesAreParsedOneWay};
+ghost use Rattle.html_reading.specs.Pages.{WrittenPagesAreParsed};
 
 use dom_markup::laws::plain::{
     documents_stand_for_their_trees, html_of_trees, one_meaning, what_is_read_is_plain,
@@ -46,6 +47,16 @@ pub fn one_parse()
     ensures page { PagesAreParsedOneWay }
     ensures fragment { FragmentsAreParsedOneWay }
 {}
+
+/// A calm page that is written as `html` writes it, or with `<` and `>` escaped in values too, is
+/// parsed as its document and as no other.
+pub fn written_pages_are_parsed()
+    ensures { WrittenPagesAreParsed }
+{
+    calm_html_is_parsed();
+    safe_html_is_parsed();
+    one_parse();
+}
 
 /// Two pages that are parsed as the trees that are given with them: one without most of its tags,
 /// and one with elements whose text has states of its own.
