@@ -42,6 +42,15 @@ pub fn parse_page(alloc: Global, source: &str, options: Options) -> Result<Docum
 {
     // A law, called for its contract alone.
     written_pages_are_parsed();
+    parse_text(alloc, source, options)
+}
+
+/// Parses a page: a calm page as explicit markup, if the options allow it.
+fn parse_text(alloc: Global, source: &str, options: Options) -> Result<Document, PageFault>
+    ensures page { IfOk result (λ document. IsPage document.tree) }
+    ensures calm { (trees : ValueTrees) → IsCalmPage source.now trees → ReadsCalm options
+        → IfOk result (λ document. document.tree ≡ document_of trees) }
+{
     if !reads_calm(options) {
         return parse_any_page(alloc, source, options);
     }

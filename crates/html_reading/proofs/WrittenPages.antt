@@ -1,7 +1,6 @@
 -- Calm pages that are written as HTML is, or cautiously, are parsed as their documents alone.
-use Rattle.std.specs.Prelude.{◌≡◌, inl, inr, ℕ, false, List}
+use Rattle.std.proofs.Common.{◌≡◌, inl, inr, ℕ, false, List, subst, sym}
 use Rattle.std.specs.Str.{IsUtf8, chars}
-use mathlib.Core.Path.{sym, subst}
 use Rattle.dom_nodes.specs.Escaping.{value_char}
 use Rattle.dom_markup.specs.ValueTrees.{ValueTrees}
 use Rattle.calm_pages.specs.Calm.{IsCalmPage}
