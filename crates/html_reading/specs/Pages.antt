@@ -3,9 +3,12 @@ use Rattle.std.specs.Prelude.{◌≡◌, ◌⊎◌, ℕ, false, List}
 use Rattle.std.specs.Str.{IsUtf8, chars}
 use Rattle.dom_nodes.specs.Escaping.{value_char}
 use Rattle.dom_links.specs.Forest.{Forest}
+use Rattle.dom_links.specs.Sound.{IsForest}
+use Rattle.dom_markup.specs.Html.{html_of}
 use Rattle.dom_markup.specs.Numbered.{document_of}
+use Rattle.dom_markup.specs.Plain.{IsPlain}
 use Rattle.dom_markup.specs.ValueTrees.{ValueTrees}
-use Rattle.calm_pages.specs.Calm.{IsCalmPage}
+use Rattle.calm_pages.specs.Calm.{IsCalmForest, IsCalmPage}
 use Rattle.html_calm.specs.CalmTrees.{nodes_of}
 use Rattle.html_laws.specs.Values.{safe_char}
 use Rattle.html_laws.specs.WrittenTrees.{text_by}
@@ -30,3 +33,7 @@ pub record IsParsedPage (text : List ℕ) (forest : Forest) : Type 0 where
 -- a calm page that is written so is parsed as its document and as no other
 abbrev pub WrittenPagesAreParsed : Type 0
 WrittenPagesAreParsed = (text : List ℕ) (trees : ValueTrees) → IsUtf8 text → IsCalmPage text trees → IsWrittenOf text trees → IsPageOnlyOf (chars text) (nodes_of trees)
+
+-- the HTML of a plain and calm document is such a page
+abbrev pub CalmHtmlIsWritten : Type 0
+CalmHtmlIsWritten = (forest : Forest) → IsForest forest → IsPlain forest → IsCalmForest forest → IsWrittenPage (html_of forest 0)
