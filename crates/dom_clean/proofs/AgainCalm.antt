@@ -6,8 +6,8 @@ use Rattle.dom_markup.specs.ValueTrees.ValueTrees.{no_trees, text_node, comment_
 use Rattle.html5_trees.specs.ElementKinds.{kind_of, may_hold}
 use Rattle.html5_trees.specs.declared.element_kinds.ElementCategory.{ElementCategory}
 use Rattle.html5_trees.specs.declared.element_kinds.ElementCategory.TheVariants.{Block, Pre}
-use Rattle.dom_html5.specs.Calm.{admits, are_calm, bars, begins_line, behind, behind_first, inside, may_hold_text}
-use Rattle.dom_html5.specs.declared.calm.nesting.Scope.{Scope}
+use Rattle.calm_pages.specs.Calm.{admits, are_calm, bars, begins_line, behind, behind_first, inside, may_hold_text}
+use Rattle.calm_pages.specs.declared.nesting.Scope.{Scope}
 use Rattle.dom_clean.specs.Cleaned.{held_by, text_or, without_lines}
 use Rattle.dom_clean.specs.Joined.{AreTidy}
 use Rattle.dom_clean.proofs.Lines.{lines_stay}

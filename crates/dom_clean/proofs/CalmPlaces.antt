@@ -6,8 +6,8 @@ use Rattle.dom_markup.specs.ValueTrees.ValueTrees.{no_trees, text_node, comment_
 use Rattle.html5_trees.specs.ElementKinds.{holds_doctype, kind_of, may_hold, names_of}
 use Rattle.html5_trees.specs.declared.element_kinds.ElementCategory.{ElementCategory}
 use Rattle.html5_trees.specs.declared.element_kinds.ElementCategory.TheVariants.{Anchor, Block, Body, Button, Cell, Form, Head, Html, Item, Paragraph}
-use Rattle.dom_html5.specs.Calm.{are_calm, bars, behind, behind_first, inside, may_hold_comment, may_hold_text, top}
-use Rattle.dom_html5.specs.declared.calm.nesting.Scope.{Scope}
+use Rattle.calm_pages.specs.Calm.{are_calm, bars, behind, behind_first, inside, may_hold_comment, may_hold_text, top}
+use Rattle.calm_pages.specs.declared.nesting.Scope.{Scope}
 use Rattle.html_rules.specs.PlainTrees.{flow_contexts}
 use Rattle.html_rules.specs.TreeTokens.{is_among}
 use Rattle.html_rules.proofs.TreeLists.{of_each}

@@ -6,7 +6,7 @@ use Rattle.dom_markup.specs.Numbered.{document_of}
 use Rattle.dom_markup.specs.Plain.{IsPlain, IsPlainTrees}
 use Rattle.dom_markup.specs.ValueTrees.{ValueTrees}
 use Rattle.dom_links.specs.Forest.{Forest, children_of}
-use Rattle.dom_html5.specs.Calm.{IsCalmPage}
+use Rattle.calm_pages.specs.Calm.{IsCalmPage}
 use Rattle.html_rules.specs.PlainTrees.{flow_contexts}
 use Rattle.html_rules.specs.TreeTokens.{is_among}
 use Rattle.html_calm.specs.CalmTrees.{nodes_of}
@@ -15,7 +15,7 @@ use Rattle.html_laws.specs.Values.{safe_char, safe_piece}
 use Rattle.html_laws.specs.WrittenTrees.{text_by}
 use Rattle.html_laws.proofs.Pieces.{safe_writes_values}
 use Rattle.html_reading.specs.Laws.{CalmFragmentsAreParsed, CalmPagesAreParsed, FragmentsAreParsedOneWay, PagesAreParsedOneWay}
-use Rattle.html_reading.specs.Parsing.{IsFragmentOf, IsPageOf}
+use Rattle.html_reading.specs.Parsing.{IsFragmentOf, IsPageOf, IsPageOnlyOf}
 use Rattle.html_reading.proofs.CalmParsed.{OneMeaning, ReadIsPlain, StandForTheirTrees}
 use Rattle.html_reading.proofs.CalmReadable.{document_readable}
 use Rattle.html_reading.proofs.Kept.{calm_kept, safe_shows}
@@ -24,7 +24,7 @@ use Rattle.dom_clean.specs.Cleaned.{cleaned_below}
 use Rattle.dom_clean.specs.Laws.{IsSafe, left_below, page_around, page_of}
 use Rattle.dom_clean.specs.Policy.{Policy, is_sound}
 use Rattle.dom_clean.specs.Written.{text_of}
-use Rattle.dom_clean.specs.Parsed.{CleanedPagesAreParsed, CleanedTextsAreParsed, IsCleanedAs, IsCleanedPage, IsCleanedText, IsPageOnlyOf}
+use Rattle.dom_clean.specs.Parsed.{CleanedPagesAreParsed, CleanedTextsAreParsed, IsCleanedAs, IsCleanedPage, IsCleanedText}
 use Rattle.dom_clean.proofs.CalmPlaces.{fragment_calm}
 use Rattle.dom_clean.proofs.CleanedText.{page_utf8, same_page, same_text}
 use Rattle.dom_clean.proofs.Pages.{safe_text}

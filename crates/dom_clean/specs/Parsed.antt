@@ -3,21 +3,11 @@ use Rattle.std.specs.Prelude.{◌≡◌, ℕ, true, List}
 use Rattle.std.specs.Str.{IsUtf8, chars}
 use Rattle.dom_markup.specs.ValueTrees.{ValueTrees}
 use Rattle.html_rules.specs.PlainTrees.{flow_contexts}
-use Rattle.html_rules.specs.TreeTokens.{Trees, is_among}
+use Rattle.html_rules.specs.TreeTokens.{is_among}
 use Rattle.html_calm.specs.CalmTrees.{nodes_of}
-use Rattle.html_reading.specs.Parsing.{IsFragmentOf, IsPageOf}
+use Rattle.html_reading.specs.Parsing.{IsFragmentOnlyOf, IsPageOnlyOf}
 use Rattle.dom_clean.specs.Laws.{IsSafe, page_around, page_of}
 use Rattle.dom_clean.specs.Policy.{Policy, is_sound}
-
--- the text is parsed as a page, as this document and as no other
-pub record IsPageOnlyOf (text : List ℕ) (document : Trees) : Type 0 where
-  pub parsed : IsPageOf text document
-  pub only : (other : Trees) → IsPageOf text other → other ≡ document
-
--- the text is parsed as a fragment in a context element of that name, as these nodes and as no others
-pub record IsFragmentOnlyOf (context text : List ℕ) (nodes : Trees) : Type 0 where
-  pub parsed : IsFragmentOf context text nodes
-  pub only : (other : Trees) → IsFragmentOf context text other → other ≡ nodes
 
 -- the text is parsed as these trees and as no others: in the body of a page, and as a fragment in a `body`, `div`, `li`, `td` or `blockquote`
 pub record IsParsedAs (text : List ℕ) (trees : ValueTrees) : Type 0 where

@@ -8,14 +8,15 @@ ghost use Rattle.dom_clean.specs.Parsed.{IsCleanedPage, IsCleanedText};
 ghost use Rattle.dom_clean.specs.Policies.{policy_of};
 ghost use Rattle.dom_clean.specs.Policy.{is_sound};
 ghost use Rattle.dom_clean.specs.Written.{text_of};
-ghost use Rattle.dom_html5.specs.Calm.{IsCalmPage};
+ghost use Rattle.calm_pages.specs.Calm.{IsCalmPage};
 ghost use Rattle.dom_markup.specs.Numbered.{document_of};
 ghost use Rattle.dom_markup.specs.ValueTrees.{ValueTrees};
 
 use crate::laws::cleaned_text_is_parsed;
 use crate::policy::Policy;
 use crate::writer::clean_below;
-use dom_html5::{Context, Options, PageFault, parse_page, parse_page_fragment, read_calm};
+use calm_pages::read_calm;
+use dom_html5::{Context, Options, PageFault, parse_page, parse_page_fragment};
 use dom_links::iters::first_child_id;
 use dom_markup::document::Document;
 use dom_nodes::fault::OutOfMemory;

@@ -6,7 +6,7 @@ ghost use Rattle.dom_clean.specs.Cleaned.{cleaned_below, cleaned_body};
 ghost use Rattle.dom_clean.specs.Laws.{page_around, page_of};
 ghost use Rattle.dom_clean.specs.Parsed.{IsCleanedPage, IsCleanedText};
 ghost use Rattle.dom_clean.specs.Written.{text_of};
-ghost use Rattle.dom_html5.specs.Calm.{IsCalmPage};
+ghost use Rattle.calm_pages.specs.Calm.{IsCalmPage};
 ghost use Rattle.dom_markup.specs.Numbered.{document_of};
 ghost use Rattle.dom_markup.specs.ValueTrees.{ValueTrees};
 ghost use Rattle.text_decoding.specs.Decoding.{characters};

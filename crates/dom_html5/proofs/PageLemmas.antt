@@ -4,7 +4,7 @@ use Rattle.std.specs.Prelude.{IsUtf8, MatchOption, nat_eq}
 use Rattle.std.specs.Char.{to_ascii_lowercase}
 use Rattle.std.proofs.lemmas.Bool.Decides.{nat_tests}
 use Rattle.dom_links.specs.Forest.{Forest}
-use Rattle.dom_html5.specs.Calm.{IsCalmPage, SpellsCalmPage}
+use Rattle.calm_pages.specs.Calm.{IsCalmPage, SpellsCalmPage}
 use Rattle.dom_html5.specs.Pages.{ReadsAsWritten}
 use Rattle.html5_trees.specs.Framed.{IsFramed}
 use Rattle.encodings.specs.Labels.{for_bom}

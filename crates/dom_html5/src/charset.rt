@@ -2,7 +2,7 @@
 
 ghost use Rattle.std.specs.Prelude.{◌≡◌, IfOk, IsUtf8, Some};
 ghost use Rattle.decoded_text.specs.Characters.{errors_in};
-ghost use Rattle.dom_html5.specs.Calm.{ReadsCalm};
+ghost use Rattle.calm_pages.specs.Calm.{ReadsCalm};
 ghost use Rattle.dom_html5.specs.Pages.{ReadsAsWritten};
 ghost use Rattle.encodings.specs.declared.encoding.Encoding.TheVariants.{Utf8};
 ghost use Rattle.html5_trees.specs.Shape.{IsPage};

@@ -1,7 +1,7 @@
 use Rattle.std.proofs.Common.{◌≡◌, ◌∙◌, ℕ, List, ap, refl, string_bytes, subst, sym}
 use Rattle.dom_links.specs.Forest.{Forest}
 use Rattle.dom_markup.specs.Numbered.{document_of}
-use Rattle.dom_html5.specs.Calm.{IsCalmPage}
+use Rattle.calm_pages.specs.Calm.{IsCalmPage}
 use Rattle.dom_clean.specs.Cleaned.{cleaned_below, cleaned_body}
 use Rattle.dom_clean.specs.Laws.{left_below, page_around, page_of}
 use Rattle.dom_clean.specs.Written.{text_of}

@@ -1,5 +1,5 @@
 use Rattle.std.proofs.Common.{ap, subst, sym, ◌∙◌}
-use Rattle.dom_html5.specs.Calm.{IsCalmPage}
+use Rattle.calm_pages.specs.Calm.{IsCalmPage}
 use Rattle.text_decoding.proofs.PageTexts.{replaced_is, text_is}
 use Rattle.dom_clean.specs.Laws.{page_around, page_of}
 use Rattle.dom_clean.proofs.decoding.clean_bytes.Goals as goal

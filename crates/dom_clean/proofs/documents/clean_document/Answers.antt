@@ -1,6 +1,6 @@
 use Rattle.std.proofs.Common.{◌∙◌, ℕ, ap, refl, subst, sym}
 use Rattle.std.proofs.lemmas.Result.{IfOk-weaker}
-use Rattle.dom_html5.specs.Calm.{IsCalmPage}
+use Rattle.calm_pages.specs.Calm.{IsCalmPage}
 use Rattle.dom_clean.specs.Cleaned.{body_of, cleaned_below}
 use Rattle.dom_clean.specs.Laws.{AreAllowed, left_below, page_around, page_of}
 use Rattle.dom_clean.specs.Policy.{Policy}

@@ -1,5 +1,5 @@
 use Rattle.std.proofs.Common.{◌≡◌, ◌∙◌, subst, sym}
-use Rattle.dom_html5.specs.Calm.{IsCalmPage, SpellsCalmPage}
+use Rattle.calm_pages.specs.Calm.{IsCalmPage, SpellsCalmPage}
 use Rattle.dom_html5.specs.Pages.{ReadsAsWritten}
 use Rattle.text_decoding.specs.Pages.{page_text}
 use Rattle.text_decoding.proofs.PageTexts.{replaced_is, text_is}
