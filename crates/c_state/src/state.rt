@@ -143,10 +143,16 @@ impl State {
 pub(crate) fn options_of(max_depth: usize) -> Options
     ensures { max_depth ≡ 0 → ReadsCalm result }
 {
-    let limit = if max_depth > 0 { Some(max_depth) } else { None };
+    if max_depth > 0 {
+        return Options {
+            scripting: false,
+            max_depth: Some(max_depth),
+            errors: false,
+        };
+    }
     Options {
         scripting: false,
-        max_depth: limit,
+        max_depth: None,
         errors: false,
     }
 }

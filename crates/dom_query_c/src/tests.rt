@@ -132,7 +132,7 @@ fn pages_are_read_in_any_encoding(rt: HostRuntime) {
     assert_eq!(&rt; dq_replaced(alloc, &mut handle), 3);
     assert_eq!(&rt; dq_parse_bytes(alloc, &mut handle, page, b"", 512), 0);
     assert_eq!(&rt; dq_encoding_source(alloc, &mut handle), 3);
-    assert_eq!(&rt; dq_parse_bytes(alloc, &mut handle, page, b"koi", 512), -40);
+    assert_eq!(&rt; dq_parse_bytes(alloc, &mut handle, page, b"koi9", 512), -40);
     dq_free(alloc, &mut handle);
 }
 
