@@ -9,17 +9,18 @@
  *
  * Texts. A text is a pointer to bytes in UTF-8 and their count, without a terminating 0. The
  * pointer must not be null, also where the count is 0. A text that is not UTF-8 is refused as
- * DQ_NOT_UTF8, except in dq_parse_page, which reads any bytes.
+ * DQ_NOT_UTF8, except in dq_parse_page and dq_parse_bytes, which read any bytes.
  *
  * Room. A function that writes takes a pointer and how many bytes or numbers there is room for. It
  * writes as much as fits, never a terminating 0, and returns the whole length, as snprintf does. The
  * whole answer is kept in the document, and dq_taken, dq_found and dq_lengths write it again. The
  * pointer must not be null, also where there is no room; it may then point anywhere valid.
  *
- * Memory. All memory comes from malloc and is freed by dq_free. No function hands memory out.
+ * Memory. All memory comes from malloc and is freed by dq_free and dq_policy_free. No function hands
+ * memory out.
  *
- * Threads. A document is used by one thread at a time. Different documents may be used by different
- * threads at once.
+ * Threads. A document is used by one thread at a time, and so is a policy. Different ones may be used
+ * by different threads at once.
  */
 #ifndef DOM_QUERY_H
 #define DOM_QUERY_H
@@ -41,13 +42,22 @@ typedef struct dq_document {
     bool full;
 } dq_document;
 
+/* A policy, or none: the rules by which HTML from strangers is cleaned. All bytes 0 is a handle without
+ * a policy: dq_policy p = {0};
+ * Never copy a handle, and never change its fields. */
+typedef struct dq_policy {
+    void *at;
+    int64_t fault;
+    bool full;
+} dq_policy;
+
 /* Why a function gives no answer. dq_fault_text says it in English. */
 enum dq_fault_code {
-    DQ_NOTHING = -1,          /* what was asked for isn't there: an attribute, a name, a neighbour, a match */
-    DQ_CLOSED = -2,           /* the handle holds no document */
+    DQ_NOTHING = -1,          /* what was asked for isn't there: an attribute, a name, a neighbour, a match, an encoding */
+    DQ_CLOSED = -2,           /* the handle holds no document or no policy */
     DQ_MEMORY = -3,           /* malloc gave no memory */
     DQ_NOT_UTF8 = -4,         /* a text isn't UTF-8 */
-    DQ_ARGUMENT = -5,         /* a place, a direction or an axis isn't one of those below */
+    DQ_ARGUMENT = -5,         /* a place, a direction, an axis, a rule or a setting isn't one of those below */
     DQ_NO_NODE = -6,          /* no node of the document has that number */
     DQ_TOO_MANY_NODES = -7,   /* a document has 4,294,967,295 nodes at most */
     DQ_NO_CHILDREN_HERE = -10,   /* edits: the node is a text, a comment, a doctype or an instruction */
@@ -67,7 +77,20 @@ enum dq_fault_code {
     DQ_BAD_COMMENT = -35,       /* explicit markup: a comment can't be read */
     DQ_BAD_DECLARATION = -36,   /* explicit markup: a declaration can't be read */
     DQ_MISPLACED_DOCTYPE = -37, /* explicit markup: a doctype inside an element */
-    DQ_INSTRUCTION = -38        /* explicit markup: a processing instruction */
+    DQ_INSTRUCTION = -38,       /* explicit markup: a processing instruction */
+    DQ_UNKNOWN_LABEL = -40,     /* no encoding has that label */
+    DQ_BAD_BASE = -41,          /* policies: the base is not an absolute URL */
+    DQ_UNFINISHED = -42,        /* policies: dq_policy_finish was not called yet */
+    DQ_FINISHED = -43,          /* policies: a rule was given to a finished policy */
+    DQ_REFUSED_ELEMENT = -50,   /* policies: an element that can't be kept safely is allowed, as svg or script */
+    DQ_REFUSED_TABLE = -51,     /* policies: table is allowed without tbody, tr or td */
+    DQ_REFUSED_ATTRIBUTE = -52, /* policies: an attribute that can't be kept safely is allowed, as onclick or srcdoc */
+    DQ_REFUSED_SCHEME = -53,    /* policies: a scheme that can't be kept safely is allowed, as javascript */
+    DQ_REFUSED_BASE = -54,      /* policies: the scheme of the base is not allowed */
+    DQ_REFUSED_REL = -55,       /* policies: the rel of links has other characters than a to z, digits, -, _ and spaces, or the attribute rel is allowed, too */
+    DQ_REFUSED_CLASS = -56,     /* policies: a class is empty, or has a control, a space or a character that isn't ASCII */
+    DQ_REFUSED_PREFIX = -57,    /* policies: the prefix of ids has other characters than a to z, digits, - and _ */
+    DQ_REFUSED_DEPTH = -58      /* policies: more than 256 elements may be nested */
 };
 
 /* The length that dq_lengths gives for an element without the attribute that was asked for. */
@@ -101,6 +124,33 @@ enum dq_axis {
     DQ_DESCENDANTS = 2 /* all nodes below the node, in document order */
 };
 
+/* What says in which encoding a page is: dq_encoding_source. */
+enum dq_encoding_source_code {
+    DQ_BY_MARK = 0,      /* a byte order mark */
+    DQ_BY_TRANSPORT = 1, /* the label that was given to dq_parse_bytes */
+    DQ_BY_PAGE = 2,      /* a meta element or an XML declaration near its start */
+    DQ_BY_GUESS = 3      /* nothing: it is UTF-8 where all bytes are UTF-8, and windows-1252 where not */
+};
+
+/* Rules of a policy that have a text: dq_policy_rule. */
+enum dq_rule {
+    DQ_ALLOW_ELEMENT = 0,   /* elements of that name stay; any other is replaced by its children */
+    DQ_DROP_ELEMENT = 1,    /* elements of that name vanish with everything in them, even if they are allowed, too */
+    DQ_ALLOW_ATTRIBUTE = 2, /* every element may have that attribute */
+    DQ_ALLOW_SCHEME = 3,    /* addresses may have that scheme, which is given in lower case */
+    DQ_ALLOW_CLASS = 4,     /* that class stays where the attribute class does; as soon as one is allowed, others vanish */
+    DQ_LINK_REL = 5,        /* each a and area gets that rel, as "noopener noreferrer" */
+    DQ_ID_PREFIX = 6        /* each id gets that in front, unless it begins with it */
+};
+
+/* Rules of a policy that have a number: dq_policy_set. */
+enum dq_setting {
+    DQ_DEPTH = 0,           /* so many elements that stay may be nested, 256 at most; deeper ones are replaced by their children */
+    DQ_DATA_ATTRIBUTES = 1, /* not 0: every element may have attributes whose names begin with data- */
+    DQ_KEEP_RELATIVE = 2,   /* not 0: addresses without a scheme stay as they are; 0: they vanish */
+    DQ_NO_LINK_REL = 3      /* links get no rel; the number does not matter */
+};
+
 /* ---- Reading. Each call puts the new document in the place of what the handle held, which is freed,
  * and returns 0. After a fault the handle holds what it held before. */
 
@@ -108,6 +158,14 @@ enum dq_axis {
  * U+FFFD, and a byte order mark is dropped. Elements nest max_depth deep at most (3 or more; browsers
  * take 512); 0 is no limit. Faults: DQ_MEMORY, DQ_TOO_MANY_NODES. */
 int64_t dq_parse_page(dq_document *document, const uint8_t *html, size_t html_length, size_t max_depth);
+
+/* Reads a page in any encoding, as browsers do. Its encoding is that of a byte order mark; or else that of
+ * the label, which came with the page, as in the header Content-Type: text/html; charset=koi8-r; or else the
+ * one that the page declares near its start; or else UTF-8 where all bytes are UTF-8, and windows-1252
+ * where not. A label of length 0 says nothing. White space around a label and the case of its letters don't
+ * matter. Elements nest max_depth deep at most, as for dq_parse_page. Faults: DQ_UNKNOWN_LABEL, DQ_MEMORY,
+ * DQ_TOO_MANY_NODES. */
+int64_t dq_parse_bytes(dq_document *document, const uint8_t *bytes, size_t bytes_length, const uint8_t *label, size_t label_length, size_t max_depth);
 
 /* Reads explicit markup: each element has its tags, nothing is guessed. Faults: DQ_NOT_UTF8, DQ_BAD_TAG
  * to DQ_INSTRUCTION, with the byte by dq_fault_byte, DQ_MEMORY, DQ_TOO_MANY_NODES. */
@@ -170,6 +228,18 @@ int64_t dq_kind(dq_document *document, uint32_t node);
 
 /* The text that was taken last: its length in bytes. */
 int64_t dq_taken(dq_document *document, uint8_t *text, size_t room);
+
+/* ---- How the bytes of a page were read. Each function answers DQ_NOTHING for a document that
+ * dq_parse_bytes did not read. */
+
+/* The name of the encoding that the page was in, as "UTF-8" or "windows-1252": one text, as above. */
+int64_t dq_encoding(dq_document *document, uint8_t *text, size_t room);
+
+/* What says that the page is in that encoding (enum dq_encoding_source_code). */
+int64_t dq_encoding_source(dq_document *document);
+
+/* How many characters U+FFFD stand in the text of the page for bytes that aren't in that encoding. */
+int64_t dq_replaced(dq_document *document);
 
 /* ---- Several texts at once. Each function takes one text that is made of pieces, one behind the other,
  * and returns how many pieces there are. dq_lengths gives the length of each in bytes, and dq_taken the
@@ -236,6 +306,67 @@ int64_t dq_normalize(dq_document *document, uint32_t node);
  * element is replaced by its children, or dropped with all that is below it if its name is one of
  * `dropped`. Comments and doctypes are dropped. */
 int64_t dq_sanitize(dq_document *document, const uint8_t *elements, size_t elements_length, const uint8_t *attributes, size_t attributes_length, const uint8_t *dropped, size_t dropped_length);
+
+/* ---- Policies. A policy is begun, given its rules, and finished; then it cleans any number of texts.
+ * Each function returns 0, or a fault: DQ_MEMORY, and those that are named. */
+
+/* Begins a policy by which only texts stay, those of scripts and styles too; 128 elements may be nested.
+ * What the handle held is freed. After a fault the handle holds what it held before. */
+int64_t dq_policy_empty(dq_policy *policy);
+
+/* Begins a policy with rules for comments, mails and articles: phrases, headings, lists, tables, images and
+ * links stay, script and style vanish with their contents, links get rel="noopener noreferrer", relative
+ * addresses stay, and 256 elements may be nested. What the handle held is freed. After a fault the handle
+ * holds what it held before. */
+int64_t dq_policy_common(dq_policy *policy);
+
+/* The next functions change the rules and finish them. After a fault of one of them the policy is refused
+ * for good: each later call, dq_policy_finish and those that clean too, answers the first fault. So of all
+ * these answers only the one of dq_policy_finish has to be looked at. Faults of each: DQ_CLOSED,
+ * DQ_NOT_UTF8, DQ_FINISHED. */
+
+/* Gives the policy a rule that has a text (enum dq_rule). DQ_ARGUMENT. */
+int64_t dq_policy_rule(dq_policy *policy, uint32_t rule, const uint8_t *text, size_t text_length);
+
+/* Lets elements of that name have that attribute. */
+int64_t dq_policy_attribute_of(dq_policy *policy, const uint8_t *element, size_t element_length, const uint8_t *name, size_t name_length);
+
+/* Lets elements of that name have that attribute with that value. */
+int64_t dq_policy_value(dq_policy *policy, const uint8_t *element, size_t element_length, const uint8_t *name, size_t name_length, const uint8_t *value, size_t value_length);
+
+/* Has addresses without a scheme joined to that base, an absolute URL. DQ_BAD_BASE. */
+int64_t dq_policy_base(dq_policy *policy, const uint8_t *url, size_t url_length);
+
+/* Gives the policy a rule that has a number (enum dq_setting). DQ_ARGUMENT. */
+int64_t dq_policy_set(dq_policy *policy, uint32_t setting, size_t number);
+
+/* Makes a policy of the rules. They are refused if what it left would not be safe: DQ_REFUSED_ELEMENT to
+ * DQ_REFUSED_DEPTH, and dq_policy_taken then says which name is refused. */
+int64_t dq_policy_finish(dq_policy *policy);
+
+/* Frees what the handle holds. The handle is then without a policy and may be used again. */
+void dq_policy_free(dq_policy *policy);
+
+/* ---- Cleaning. Each function takes one text and returns its length in bytes. The text is kept in the policy,
+ * and dq_policy_taken writes it again. Faults of each: DQ_CLOSED, DQ_UNFINISHED, the fault for which the policy
+ * was refused, DQ_NOT_UTF8, DQ_TOO_MANY_NODES, DQ_MEMORY. The policy stays as it was. */
+
+/* What the policy leaves of a fragment, such as a comment or a mail, which is read as the contents of a div.
+ * Whatever the fragment is, only elements, attributes and addresses that the policy allows are left, and a
+ * page with the text in its body is read as exactly the tree that is left. */
+int64_t dq_clean(dq_policy *policy, const uint8_t *html, size_t html_length, uint8_t *text, size_t room);
+
+/* A page with what the policy leaves of the body of a page: <!DOCTYPE html>, an empty head, and that body. */
+int64_t dq_clean_page(dq_policy *policy, const uint8_t *html, size_t html_length, uint8_t *text, size_t room);
+
+/* What the policy leaves of the children of a document's root. The document stays as it is. */
+int64_t dq_clean_document(dq_policy *policy, dq_document *document, uint8_t *text, size_t room);
+
+/* The text that was taken last: what was cleaned, or why dq_policy_finish refused the rules. */
+int64_t dq_policy_taken(dq_policy *policy, uint8_t *text, size_t room);
+
+/* The fault of the last call on the policy (enum dq_fault_code), or 0. */
+int64_t dq_policy_fault(const dq_policy *policy);
 
 /* ---- Faults. */
 

@@ -1,4 +1,4 @@
-/* Prints the comment on standard input with harmless elements alone: no scripts, no styles, no addresses but http, https and mailto.
+/* Prints what a policy leaves of the comment on standard input: a few harmless elements, links, and no scripts.
  *
  *   gcc -o clean clean.c $(pkg-config --cflags --libs dom_query)
  *   echo '<p onclick=x()>Tea <a href=javascript:x()>free</a><script>x()</script>' | ./clean
@@ -10,46 +10,45 @@
 
 #define TEXT(s) (const uint8_t *)(s), strlen(s)
 
-static const char *ELEMENTS = "a b blockquote br code em i li ol p pre strong ul";
-static const char *ATTRIBUTES = "href";
-static const char *DROPPED = "script style svg math template iframe noscript";
-static const char *OTHER_ADDRESSES = "[href]:not([href^='http:' i], [href^='https:' i], [href^='mailto:' i])";
+static const char *ELEMENTS[] = {"a", "b", "blockquote", "br", "code", "em", "i", "li", "ol", "p", "pre", "strong", "ul"};
+static const char *DROPPED[] = {"script", "style", "svg", "math", "iframe"};
+static const char *SCHEMES[] = {"http", "https", "mailto"};
 
-/* Removes the addresses of other schemes. 0, or a fault. */
-static int64_t check_addresses(dq_document *document) {
-    int64_t link;
-    while ((link = dq_select_first(document, 0, TEXT(OTHER_ADDRESSES))) >= 0) {
-        int64_t fault = dq_remove_attr(document, (uint32_t)link, TEXT("href"));
-        if (fault < 0) return fault;
-    }
-    return link == DQ_NOTHING ? 0 : link;
+/* Makes the policy. The first fault of all these calls is the answer of the last. */
+static int64_t make(dq_policy *policy) {
+    int64_t fault = dq_policy_empty(policy);
+    if (fault < 0) return fault;
+    for (size_t i = 0; i < sizeof ELEMENTS / sizeof *ELEMENTS; i++) dq_policy_rule(policy, DQ_ALLOW_ELEMENT, TEXT(ELEMENTS[i]));
+    for (size_t i = 0; i < sizeof DROPPED / sizeof *DROPPED; i++) dq_policy_rule(policy, DQ_DROP_ELEMENT, TEXT(DROPPED[i]));
+    for (size_t i = 0; i < sizeof SCHEMES / sizeof *SCHEMES; i++) dq_policy_rule(policy, DQ_ALLOW_SCHEME, TEXT(SCHEMES[i]));
+    dq_policy_attribute_of(policy, TEXT("a"), TEXT("href"));
+    dq_policy_rule(policy, DQ_LINK_REL, TEXT("nofollow noopener"));
+    return dq_policy_finish(policy);
 }
 
-/* Prints the whole document. 0, or a fault. */
-static int64_t print(dq_document *document) {
+/* Prints what is left of the comment. 0, or a fault. */
+static int64_t print_clean(dq_policy *policy, const uint8_t *comment, size_t length) {
     uint8_t none;
-    int64_t length = dq_html(document, 0, &none, 0);
-    uint8_t *html = length < 0 ? NULL : malloc((size_t)length + 1);
-    if (!html) return length < 0 ? length : DQ_MEMORY;
-    length = dq_taken(document, html, (size_t)length);
-    if (length >= 0) printf("%.*s\n", (int)length, (const char *)html);
-    free(html);
-    return length < 0 ? length : 0;
+    int64_t count = dq_clean(policy, comment, length, &none, 0);
+    uint8_t *text = count < 0 ? NULL : malloc((size_t)count + 1);
+    if (!text) return count < 0 ? count : DQ_MEMORY;
+    count = dq_policy_taken(policy, text, (size_t)count);
+    if (count >= 0) printf("%.*s\n", (int)count, (const char *)text);
+    free(text);
+    return count < 0 ? count : 0;
 }
 
 int main(void) {
     static uint8_t comment[1 << 16];
     size_t length = fread(comment, 1, sizeof comment, stdin);
-    dq_document document = {0};
-    int64_t fault = dq_parse_fragment(&document, comment, length, TEXT("body"));
-    if (fault >= 0) fault = dq_sanitize(&document, TEXT(ELEMENTS), TEXT(ATTRIBUTES), TEXT(DROPPED));
-    if (fault >= 0) fault = check_addresses(&document);
-    if (fault >= 0) fault = print(&document);
+    dq_policy policy = {0};
+    int64_t fault = make(&policy);
+    if (fault >= 0) fault = print_clean(&policy, comment, length);
     if (fault < 0) {
         uint8_t text[100];
         size_t said = dq_fault_text(fault, text, sizeof text);
         fprintf(stderr, "clean: %.*s\n", (int)(said < sizeof text ? said : sizeof text), (const char *)text);
     }
-    dq_free(&document);
+    dq_policy_free(&policy);
     return fault < 0;
 }

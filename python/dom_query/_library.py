@@ -2,15 +2,18 @@
 
 from __future__ import annotations
 
+import codecs
 import ctypes
 import os
 import pathlib
+import re
 import threading
 from typing import Any
 
-from .errors import ClosedError, DomError, EditError, LimitError, MarkupError, NodeError, SelectorError
+from .errors import CharsetError, ClosedError, DomError, EditError, LimitError, MarkupError, NodeError, PolicyError, SelectorError
 
 NOTHING, CLOSED, MEMORY, NOT_UTF8, ARGUMENT, NO_NODE, TOO_MANY_NODES = -1, -2, -3, -4, -5, -6, -7
+UNKNOWN_LABEL, BAD_BASE, UNFINISHED, FINISHED = -40, -41, -42, -43
 NO_PIECE = 2**32 - 1
 ROOM = 8192
 
@@ -21,8 +24,15 @@ class Handle(ctypes.Structure):
     _fields_ = [("at", ctypes.c_void_p), ("fault", ctypes.c_int64), ("byte", ctypes.c_size_t), ("full", ctypes.c_bool)]
 
 
-HANDLE, NODE, TEXT, SIZE, POINTER = (
+class PolicyHandle(ctypes.Structure):
+    """What C holds of a policy. All zero is a handle without one. It is never copied."""
+
+    _fields_ = [("at", ctypes.c_void_p), ("fault", ctypes.c_int64), ("full", ctypes.c_bool)]
+
+
+HANDLE, POLICY, NODE, TEXT, SIZE, POINTER = (
     ctypes.POINTER(Handle),
+    ctypes.POINTER(PolicyHandle),
     ctypes.c_uint32,
     ctypes.c_char_p,
     ctypes.c_size_t,
@@ -33,8 +43,12 @@ NUMBER = ctypes.c_uint32
 # What each function takes. Without it ctypes would pass a structure by value.
 PARAMETERS: dict[str, tuple[Any, ...]] = {
     "dq_parse_page": (HANDLE, TEXT, SIZE, SIZE),
+    "dq_parse_bytes": (HANDLE, TEXT, SIZE, TEXT, SIZE, SIZE),
     "dq_parse": (HANDLE, TEXT, SIZE),
     "dq_parse_fragment": (HANDLE, TEXT, SIZE, TEXT, SIZE),
+    "dq_encoding": (HANDLE, POINTER, SIZE),
+    "dq_encoding_source": (HANDLE,),
+    "dq_replaced": (HANDLE,),
     "dq_free": (HANDLE,),
     "dq_select": (HANDLE, NODE, TEXT, SIZE, POINTER, SIZE),
     "dq_select_first": (HANDLE, NODE, TEXT, SIZE),
@@ -69,11 +83,30 @@ PARAMETERS: dict[str, tuple[Any, ...]] = {
     "dq_unwrap": (HANDLE, NODE),
     "dq_normalize": (HANDLE, NODE),
     "dq_sanitize": (HANDLE, TEXT, SIZE, TEXT, SIZE, TEXT, SIZE),
+    "dq_policy_empty": (POLICY,),
+    "dq_policy_common": (POLICY,),
+    "dq_policy_rule": (POLICY, NUMBER, TEXT, SIZE),
+    "dq_policy_attribute_of": (POLICY, TEXT, SIZE, TEXT, SIZE),
+    "dq_policy_value": (POLICY, TEXT, SIZE, TEXT, SIZE, TEXT, SIZE),
+    "dq_policy_base": (POLICY, TEXT, SIZE),
+    "dq_policy_set": (POLICY, NUMBER, SIZE),
+    "dq_policy_finish": (POLICY,),
+    "dq_clean": (POLICY, TEXT, SIZE, POINTER, SIZE),
+    "dq_clean_page": (POLICY, TEXT, SIZE, POINTER, SIZE),
+    "dq_clean_document": (POLICY, HANDLE, POINTER, SIZE),
+    "dq_policy_taken": (POLICY, POINTER, SIZE),
+    "dq_policy_fault": (POLICY,),
+    "dq_policy_free": (POLICY,),
     "dq_fault": (HANDLE,),
     "dq_fault_byte": (HANDLE,),
     "dq_fault_text": (ctypes.c_int64, POINTER, SIZE),
 }
-RESULTS: dict[str, Any] = {"dq_free": None, "dq_fault_byte": ctypes.c_size_t, "dq_fault_text": ctypes.c_size_t}
+RESULTS: dict[str, Any] = {
+    "dq_free": None,
+    "dq_policy_free": None,
+    "dq_fault_byte": ctypes.c_size_t,
+    "dq_fault_text": ctypes.c_size_t,
+}
 
 
 def _path() -> str:
@@ -150,4 +183,54 @@ def fault(code: int, handle: Handle, arguments: tuple[Any, ...] = ()) -> Excepti
         return SelectorError(text, code, selectors.decode(), position(handle, selectors))
     if -39 <= code <= -30:
         return MarkupError(text, code, lib.dq_fault_byte(handle))
+    if code == UNKNOWN_LABEL:
+        return _charset_error(text, code, arguments[0].decode())
     return DomError(text, code)
+
+
+def _charset_error(text: str, code: int, label: str) -> CharsetError:
+    """The exception for a label that no encoding has. Python's own name of an encoding may be near one that the web has."""
+    hint = ""
+    try:
+        name = codecs.lookup(label).name.replace("_", "-")
+    except (LookupError, UnicodeError, ValueError):
+        name = label
+    if name != label and has_label(name):
+        hint = f"; write {name!r}"
+    return CharsetError(f"{text}: {label!r}{hint}", code, label)
+
+
+def has_label(label: str) -> bool:
+    """Whether an encoding has that label."""
+    handle, text = Handle(), label.encode("utf-8", "replace")
+    answer = lib.dq_parse_bytes(handle, b"", 0, text, len(text), 0)
+    lib.dq_free(handle)
+    return bool(answer == 0)
+
+
+# The rule that each refusal of a policy names.
+REFUSED = {
+    BAD_BASE: "relative",
+    -50: "tags",
+    -51: "tags",
+    -52: "attributes",
+    -53: "url_schemes",
+    -54: "relative",
+    -55: "link_rel",
+    -56: "classes",
+    -57: "id_prefix",
+    -58: "max_depth",
+}
+_NAMED = re.compile("`(.*)`", re.DOTALL)
+
+
+def policy_fault(code: int, said: str) -> Exception:
+    """The exception for a fault of a call on a policy. `said` is the text of the fault, if it has one."""
+    if code == MEMORY:
+        return MemoryError(message(code))
+    if code == TOO_MANY_NODES:
+        return LimitError(message(code), code)
+    if code not in REFUSED:
+        return ClosedError(message(code), code) if code == CLOSED else DomError(message(code), code)
+    named = _NAMED.findall(said) if code in (-50, -52, -53, -56) else re.findall("without `(.*)`", said)
+    return PolicyError(said or message(code), code, REFUSED[code], named[0] if named else None)

@@ -2,7 +2,6 @@
 
 from __future__ import annotations
 
-import codecs
 import ctypes
 import re
 import threading
@@ -14,6 +13,7 @@ from ._library import NOTHING, NO_PIECE, ROOM, Handle, fault, lib, scratch, unlo
 from .node import Node, foreign_name
 
 LIMIT = 2**32
+SOURCES = ("mark", "charset", "page", "guess")
 _string_at = ctypes.string_at
 _SURROGATES = re.compile("[\ud800-\udfff]")
 
@@ -123,6 +123,12 @@ class Document:
             code = call(self._handle, *arguments)
             return None if code == NOTHING else Node(self, self._checked(code, arguments))
 
+    def _number(self, call: Any) -> int | None:
+        """A number that the call answers; None where there is none."""
+        with self._lock:
+            number = call(self._handle)
+            return None if number == NOTHING else self._checked(number)
+
     def _numbers(self, call: Any, again: Any, *arguments: Any) -> list[int]:
         with self._lock:
             count = self._checked(call(self._handle, *arguments, scratch.numbers_at, ROOM), arguments)
@@ -156,6 +162,25 @@ class Document:
                 pieces.append(whole[at : at + length].decode())
                 at += length
         return pieces
+
+    # ---- how its bytes were read
+
+    @property
+    def encoding(self) -> str | None:
+        """The name of the encoding that the page was in, as `"windows-1252"`; None where the document wasn't read from bytes."""
+        return self._text(lib.dq_encoding)
+
+    @property
+    def encoding_source(self) -> str | None:
+        """What says that the page is in its encoding: `"mark"`, `"charset"`, `"page"` or `"guess"`; None where the document
+        wasn't read from bytes."""
+        number = self._number(lib.dq_encoding_source)
+        return None if number is None else SOURCES[number]
+
+    @property
+    def replaced(self) -> int | None:
+        """How many characters U+FFFD stand for bytes that aren't in the encoding; None where the document wasn't read from bytes."""
+        return self._number(lib.dq_replaced)
 
     # ---- its nodes
 
@@ -253,7 +278,7 @@ class Document:
 
 def _read(call: Any, html: bytes, *arguments: Any) -> Document:
     document = Document()
-    document._checked(call(document._handle, html, len(html), *arguments))
+    document._checked(call(document._handle, html, len(html), *arguments), arguments)
     return document
 
 
@@ -261,22 +286,34 @@ def _bytes(html: str | bytes | bytearray | memoryview) -> bytes:
     return _utf8(html) if isinstance(html, str) else bytes(html)
 
 
+def _depth(max_depth: int) -> int:
+    if max_depth < 0:
+        raise ValueError("max_depth is 0 or more")
+    return min(max_depth, LIMIT)
+
+
 def parse(html: str | bytes | bytearray | memoryview, max_depth: int = 512) -> Document:
     """The document of a page, read as browsers read it. No page is refused.
 
-    Bytes are read as UTF-8; `parse_bytes` reads other encodings. Elements nest `max_depth` deep at most, as in browsers; 0 is
-    no limit.
+    Bytes are read as `parse_bytes` reads them. Elements nest `max_depth` deep at most, as in browsers; 0 is no limit.
     """
-    if max_depth < 0:
-        raise ValueError("max_depth is 0 or more")
-    return _read(unlocked.dq_parse_page, _bytes(html), min(max_depth, LIMIT))
+    if not isinstance(html, str):
+        return parse_bytes(html, None, max_depth)
+    return _read(unlocked.dq_parse_page, _utf8(html), _depth(max_depth))
 
 
-def parse_bytes(html: bytes | bytearray | memoryview, encoding: str = "utf-8", max_depth: int = 512) -> Document:
-    """The document of a page in an encoding that Python knows, or `LookupError`. Bytes that aren't in it become U+FFFD."""
-    if codecs.lookup(encoding).name == "utf-8":
-        return parse(html, max_depth)
-    return parse(bytes(html).decode(encoding, "replace"), max_depth)
+def parse_bytes(data: bytes | bytearray | memoryview, charset: str | None = None, max_depth: int = 512) -> Document:
+    """The document of a page in any encoding of the web, decoded and read as browsers do it.
+
+    The encoding is that of a byte order mark; or else that of `charset`, which is what came with the page, as in the header
+    `Content-Type: text/html; charset=koi8-r`; or else the one that the page declares near its start; or else UTF-8 where all
+    bytes are UTF-8, and windows-1252 where not. `Document.encoding` says which one it was, and `Document.replaced` how many
+    characters could not be decoded. Raises `CharsetError`, which is a `LookupError`, where no encoding has the label `charset`.
+    """
+    if isinstance(data, str):
+        raise TypeError("bytes are wanted, not a str; write parse(html)")
+    label = _utf8(charset or "")
+    return _read(unlocked.dq_parse_bytes, bytes(data), label, len(label), _depth(max_depth))
 
 
 def parse_strict(html: str | bytes | bytearray | memoryview) -> Document:

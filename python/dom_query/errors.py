@@ -46,3 +46,24 @@ class NodeError(DomError, ValueError):
 
 class LimitError(DomError):
     """A document has 4,294,967,295 nodes at most."""
+
+
+class CharsetError(DomError, LookupError):
+    """No encoding of the web has that label. `charset` is the label."""
+
+    def __init__(self, message: str, code: int, charset: str) -> None:
+        super().__init__(message, code)
+        self.charset = charset
+
+
+class PolicyError(DomError, ValueError):
+    """The rules can't be a policy, since what it left would not be safe, or could not be written.
+
+    `rule` says which rule is refused: `"tags"`, `"attributes"`, `"url_schemes"`, `"relative"`, `"link_rel"`, `"classes"`,
+    `"id_prefix"` or `"max_depth"`. `name` is what is refused in it, as `"svg"`, or None where it is the rule as a whole.
+    """
+
+    def __init__(self, message: str, code: int, rule: str, name: str | None) -> None:
+        super().__init__(message, code)
+        self.rule = rule
+        self.name = name

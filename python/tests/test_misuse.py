@@ -41,6 +41,10 @@ class Misuse(unittest.TestCase):
             lambda: document.root,
             lambda: document.node(1),
             lambda: document.html,
+            lambda: document.encoding,
+            lambda: document.encoding_source,
+            lambda: document.replaced,
+            lambda: dom_query.clean(document),
             lambda: document.select_one("p"),
             lambda: document.new_element("p"),
             lambda: document.sanitize([]),
@@ -88,10 +92,10 @@ class Misuse(unittest.TestCase):
         self.assertEqual(library.lib.dq_select_first(handle, 0, b"\xff", 1), library.NOT_UTF8)
         self.assertEqual(library.lib.dq_text(handle, node.number, library.scratch.text_at, 0), 1)
         self.assertEqual(library.lib.dq_fault_text(1, library.scratch.text_at, 10), 0)
-        self.assertEqual(library.message(-2), "the document is closed")
+        self.assertEqual(library.message(-2), "the document or the policy is closed")
 
     def test_every_fault_has_a_text(self):
-        codes = [*range(-7, 0), *range(-13, -9), *range(-24, -19), *range(-38, -29)]
+        codes = [*range(-7, 0), *range(-13, -9), *range(-24, -19), *range(-38, -29), *range(-43, -39), *range(-58, -49)]
         texts = [library.message(code) for code in codes]
         self.assertFalse([text for text in texts if text.startswith("fault")])
         self.assertEqual(len(set(texts)), len(codes))

@@ -1,9 +1,29 @@
 """Reading documents and their nodes."""
 
+import pathlib
 import unittest
 
 import dom_query
-from dom_query import MarkupError, SelectorError
+from dom_query import CharsetError, MarkupError, SelectorError
+
+ENCODINGS = pathlib.Path(__file__).resolve().parents[2] / "examples" / "encodings"
+
+# The pages of examples/encodings: their encoding, what says so, and Python's name of it.
+PAGES = {
+    "big5": ("Big5", "page", "big5"),
+    "euc-jp": ("EUC-JP", "page", "euc_jp"),
+    "euc-kr": ("EUC-KR", "page", "euc_kr"),
+    "gb18030": ("gb18030", "page", "gb18030"),
+    "iso-2022-jp": ("ISO-2022-JP", "page", "iso2022_jp"),
+    "koi8-r": ("KOI8-R", "page", "koi8_r"),
+    "shift_jis": ("Shift_JIS", "page", "shift_jis"),
+    "undeclared": ("windows-1252", "guess", "cp1252"),
+    "utf-16be": ("UTF-16BE", "mark", "utf_16"),
+    "utf-16le": ("UTF-16LE", "mark", "utf_16"),
+    "utf-8": ("UTF-8", "page", "utf_8"),
+    "windows-1251": ("windows-1251", "page", "cp1251"),
+    "windows-1252": ("windows-1252", "page", "cp1252"),
+}
 
 PAGE = """<!doctype html><title>Tea</title><main><h1>Tea &amp; milk</h1>
 <p id=first class="a  b">One <b>two</b><br>three<p>Four<!-- five --></main>"""
@@ -16,7 +36,8 @@ class Reading(unittest.TestCase):
 
     def test_parse(self):
         self.assertEqual(dom_query.parse("<p>a").html, "<html><head></head><body><p>a</p></body></html>")
-        self.assertEqual(dom_query.parse(b"<p>\xff").text, "\ufffd")
+        self.assertEqual(dom_query.parse(b"<p>\xc3\xa9").text, "é")
+        self.assertEqual(dom_query.parse(b"<p>\xe9").text, "é")
         self.assertEqual(dom_query.parse(bytearray(b"<p>a")).text, "a")
         self.assertEqual(dom_query.parse(memoryview(b"<p>a")).text, "a")
         self.assertEqual(dom_query.parse("").text, "")
@@ -33,12 +54,53 @@ class Reading(unittest.TestCase):
             dom_query.parse("", max_depth=-1)
 
     def test_parse_bytes(self):
-        self.assertEqual(dom_query.parse_bytes("<p>é".encode("latin-1"), "latin-1").text, "é")
+        self.assertEqual(dom_query.parse_bytes("<p>é".encode("latin-1"), "latin1").text, "é")
         self.assertEqual(dom_query.parse_bytes("<p>é".encode()).text, "é")
         self.assertEqual(dom_query.parse_bytes(b"\x93a\x94", "windows-1252").text, "“a”")
-        self.assertEqual(dom_query.parse_bytes(b"a\xff", "ascii").text, "a\ufffd")
-        with self.assertRaises(LookupError):
-            dom_query.parse_bytes(b"", "no-such-encoding")
+        self.assertEqual(dom_query.parse_bytes(memoryview(b"a\xff"), "utf-8").text, "a\ufffd")
+        self.assertEqual(dom_query.parse_bytes(b"a\0b", "").text, "ab")
+        with self.assertRaises(TypeError):
+            dom_query.parse_bytes("<p>a")
+        with self.assertRaises(ValueError):
+            dom_query.parse_bytes(b"", max_depth=-1)
+
+    def test_unknown_charsets(self):
+        for charset, text in (
+            ("no-such-encoding", "no encoding has that label: 'no-such-encoding'"),
+            ("latin-1", "no encoding has that label: 'latin-1'; write 'iso8859-1'"),
+            ("euc_kr", "no encoding has that label: 'euc_kr'; write 'euc-kr'"),
+            ("é\0", "no encoding has that label: 'é\\x00'"),
+        ):
+            with self.assertRaises(CharsetError) as caught:
+                dom_query.parse_bytes(b"", charset)
+            self.assertEqual((caught.exception.code, caught.exception.charset, str(caught.exception)), (-40, charset, text))
+            self.assertIsInstance(caught.exception, LookupError)
+
+    def test_how_bytes_were_decoded(self):
+        page = "<meta charset=koi8-r><p>Чай".encode("koi8_r")
+        for charset, encoding, source, text, replaced in (
+            (None, "KOI8-R", "page", "Чай", 0),
+            ("windows-1251", "windows-1251", "charset", "юБК", 0),
+            (" UTF-8 ", "UTF-8", "charset", "\ufffd" * 3, 3),
+        ):
+            document = dom_query.parse_bytes(page, charset)
+            found = (document.encoding, document.encoding_source, document.text, document.replaced)
+            self.assertEqual(found, (encoding, source, text, replaced))
+        marked = dom_query.parse_bytes("\ufeffЧ".encode(), "koi8-r")
+        self.assertEqual((marked.encoding, marked.encoding_source, marked.text), ("UTF-8", "mark", "Ч"))
+        for document in (dom_query.parse("<p>a"), dom_query.parse_strict("<p>a</p>"), dom_query.parse_fragment("a")):
+            self.assertEqual((document.encoding, document.encoding_source, document.replaced), (None, None, None))
+
+    def test_a_page_of_each_family(self):
+        self.assertEqual(sorted(PAGES), sorted(path.stem for path in ENCODINGS.iterdir()))
+        for name, (encoding, source, codec) in PAGES.items():
+            with self.subTest(page=name):
+                data = (ENCODINGS / f"{name}.html").read_bytes()
+                document = dom_query.parse_bytes(data)
+                self.assertEqual((document.encoding, document.encoding_source), (encoding, source))
+                self.assertEqual(document.html, dom_query.parse(data.decode(codec)).html)
+                self.assertEqual(document.replaced, 0)
+                self.assertEqual(dom_query.parse(data).html, document.html)
 
     def test_parse_strict(self):
         document = dom_query.parse_strict("<p>a</p>")

@@ -2,15 +2,15 @@
 
 `c_and_python()` returns how many checks passed and how many failed:
 
-- The archive is built over the libraries that the gate left in crates/*/out, if it isn't there or they changed: the gate proves a static
-  library, but doesn't build it.
+- The archive is built over the libraries that the gate left in crates/*/out, unless an earlier run on this machine built it of the same:
+  the gate proves a static library, but doesn't build it. What was built last is kept in ~/.cache/dom_query.
 - `./install-c` links the archive into a folder of its own, by gcc and, where it is there, by the kit's clang.
 - tests/checks/c_exports.c asks every function of include/dom_query.h: as C and as C++, under Valgrind or AddressSanitizer where there
   is one, and with each request for memory refused in turn (tests/checks/refuse.c), after which no block may be left.
 - Each function of the header is one that the archive defines, and the other way around, and c_exports.c and the package name each.
 - The programs of examples/c are built with the pkg-config file and run, and so is each program that docs/C.md shows.
-- The tests of the package (python/tests) and the programs of examples/python are run, and its types are checked, where mypy is there. A wheel
-  is made and installed."""
+- The tests of the package (python/tests), which ask the rows of `dq` and of `test_clean` again, and the programs of examples/python are run, and
+  its types are checked, where mypy is there. A wheel is made and installed."""
 import hashlib
 import os
 import pathlib
@@ -125,7 +125,7 @@ EXAMPLES = {
     "links": (b'<p><a href="/tea">Tea <b>hot</b></a><a>no</a><a href="/milk">Milk</a>', b"Tea hot: /tea\nMilk: /milk\n"),
     "clean": (
         b"<p onclick=x()>Tea <a href=javascript:x()>free</a> <a href=HTTPS://tea.example>here</a><script>x()</script>",
-        b'<p>Tea <a>free</a> <a href="HTTPS://tea.example">here</a></p>\n',
+        b'<p>Tea <a rel="nofollow noopener">free</a> <a href="HTTPS://tea.example" rel="nofollow noopener">here</a></p>\n',
     ),
 }
 
@@ -175,6 +175,19 @@ def package(checks, folder):
 
 
 SCRIPTS = {
+    "clean": [
+        '<a rel="nofollow noopener">Home</a> <a rel="nofollow noopener">About us</a>',
+        "",
+        "Café &amp; tea",
+        "<ul>",
+        '<li><a rel="nofollow noopener">Maté</a> <b>3 €</b>',
+        '</li><li><a href="https://tea.example/green?a=1&amp;b=2" rel="nofollow noopener">Green</a> <b>2 €</b>',
+        "</li></ul>",
+        "<p>Open <i>daily</i></p>",
+        "MonTue",
+        "",
+        '<a rel="nofollow noopener">More</a>',
+    ],
     "extract": [
         "examples/shop.html: Tea & more",
         "  h1 Café & tea",
@@ -214,36 +227,67 @@ def built_libraries():
     return {rlib.stem: rlib for rlib in sorted((ROOT / "crates").glob("*/out/rlib/*.rlib"))}
 
 
-def inputs():
-    """What the archive is built from: a checksum of its own files, and of which libraries are below it."""
+def named(name):
+    """The libraries that crates.txt names for a crate; none for one of the kit."""
+    line = re.search(rf"(?m)^{name}(?: staticlib)?:(.*)$", (ROOT / "crates.txt").read_text())
+    return line[1].split() if line else []
+
+
+def below(name):
+    """The names of the crates that a crate stands on."""
+    found = [name]
+    for crate in found:
+        found += [it for it in named(crate) if it not in found]
+    return found[1:]
+
+
+def inputs(kit):
+    """What the archive is built from: a checksum of the kit, of the crate's own files, and of the libraries below it."""
+    crate, made = ROOT / "crates" / "dom_query_c", built_libraries()
+    files = [kit / "KIT-ID"]
+    files += sorted(it for name in ("src", "specs", "proofs") for it in (crate / name).rglob("*") if it.is_file())
+    for name in sorted(below("dom_query_c")):
+        if name in made:
+            files += [made[name] / "toolchain" / it for it in ("mir.json", "checked.json")]
     digest = hashlib.sha256()
-    crate = ROOT / "crates" / "dom_query_c"
-    for file in sorted(it for name in ("src", "specs", "proofs") for it in (crate / name).rglob("*") if it.is_file()):
-        digest.update(f"{file.relative_to(crate)}\0".encode() + file.read_bytes())
-    for name, rlib in built_libraries().items():
-        file = (rlib / "format").stat()
-        digest.update(f"{name} {file.st_mtime_ns} {file.st_ino}\n".encode())
+    for file in files:
+        digest.update(f"{file.name}\0".encode() + hashlib.sha256(file.read_bytes()).digest())
     return digest.hexdigest()
 
 
+def kept_archive(of):
+    """The place of the archive that was built of these inputs, on this machine."""
+    folder = pathlib.Path(os.environ.get("XDG_CACHE_HOME") or pathlib.Path.home() / ".cache")
+    return folder / "dom_query" / f"libdom_query_c-{of[:32]}.a"
+
+
+def keep(archive, kept):
+    """Keeps the archive, and of older ones the last two."""
+    kept.parent.mkdir(parents=True, exist_ok=True)
+    shutil.copy2(archive, f"{kept}.{os.getpid()}")
+    os.replace(f"{kept}.{os.getpid()}", kept)
+    for old in sorted(kept.parent.glob("libdom_query_c-*.a"), key=lambda it: it.stat().st_mtime)[:-3]:
+        old.unlink(missing_ok=True)
+
+
 def build_archive(archive):
-    """Builds the static library over the libraries that the gate left, which proves it once more, unless it is there already."""
-    mark, of = archive.with_suffix(".inputs"), inputs()
-    if archive.exists() and mark.exists() and mark.read_text() == of:
+    """Builds the static library over the libraries that the gate left, which proves it once more, unless that was done before."""
+    kit = pathlib.Path(run(["rt", "doc"])[1].strip()).parent
+    kept, made = kept_archive(inputs(kit)), built_libraries()
+    archive.parent.mkdir(exist_ok=True)
+    if kept.exists():
+        shutil.copy2(kept, archive)
         return 0, ""
-    kit, made = pathlib.Path(run(["rt", "doc"])[1].strip()).parent, built_libraries()
-    below = re.search(r"(?m)^dom_query_c staticlib:(.*)$", (ROOT / "crates.txt").read_text())[1].split()
-    found = {name: made.get(name, kit / "rlibs" / f"{name}.rlib") for name in ["std", *below]}
+    found = {name: made.get(name, kit / "rlibs" / f"{name}.rlib") for name in ["std", *named("dom_query_c")]}
     words = [kit / "bin" / "rattle", "build", "--crate-name", "dom_query_c", "src/lib.rt", "--crate-type", "staticlib"]
     words += [word for name, rlib in found.items() for word in ("--extern", f"{name}={rlib}")]
     words += ["-L", f"dependency={kit / 'rlibs'}"]
     words += [word for rlib in made.values() for word in ("-L", f"dependency={rlib.parent}")]
     words += ["--antt-project", kit / "rattle" / "logic" / "antt-project.json", "--logic-built", kit / "logic_built"]
     words += ["--links", "dom_query_c=", "--toolchain", kit / "toolchain", "-o", archive]
-    archive.parent.mkdir(exist_ok=True)
     status, printed = run(words, cwd=ROOT / "crates" / "dom_query_c")
     if status == 0:
-        mark.write_text(of)
+        keep(archive, kept)
     return status, printed
 
 

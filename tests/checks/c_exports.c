@@ -67,8 +67,153 @@ static void closed(dq_document *d) {
     IS(dq_unwrap(d, 0), DQ_CLOSED);
     IS(dq_normalize(d, 0), DQ_CLOSED);
     IS(dq_sanitize(d, T("p"), T(""), T("")), DQ_CLOSED);
+    IS(dq_encoding(d, ROOM), DQ_CLOSED);
+    IS(dq_encoding_source(d), DQ_CLOSED);
+    IS(dq_replaced(d), DQ_CLOSED);
     IS(dq_fault(d), DQ_CLOSED);
     dq_free(d);
+}
+
+static void no_policy(dq_policy *p, dq_document *d) {
+    IS(dq_policy_rule(p, DQ_ALLOW_ELEMENT, T("p")), DQ_CLOSED);
+    IS(dq_policy_attribute_of(p, T("p"), T("id")), DQ_CLOSED);
+    IS(dq_policy_value(p, T("p"), T("id"), T("x")), DQ_CLOSED);
+    IS(dq_policy_base(p, T("https://a.example/")), DQ_CLOSED);
+    IS(dq_policy_set(p, DQ_DEPTH, 1), DQ_CLOSED);
+    IS(dq_policy_finish(p), DQ_CLOSED);
+    IS(dq_clean(p, T("<p>"), ROOM), DQ_CLOSED);
+    IS(dq_clean_page(p, T("<p>"), ROOM), DQ_CLOSED);
+    IS(dq_clean_document(p, d, ROOM), DQ_CLOSED);
+    IS(dq_policy_taken(p, ROOM), DQ_CLOSED);
+    IS(dq_policy_fault(p), DQ_CLOSED);
+    dq_policy_free(p);
+}
+
+/* Pages in other encodings: what says so, and what can't be decoded. */
+static void decoding(dq_document *d) {
+    static const uint8_t koi8[] = "<p>\xfe\xc1\xca", marked[] = "\xef\xbb\xbf<p>\xd0\xa7";
+    static const uint8_t declared[] = "<meta charset=koi8-r><p>\xfe", wide[] = {0xff, 0xfe, 'a', 0, 0x27, 4};
+    IS(dq_encoding(d, ROOM), DQ_NOTHING);
+    IS(dq_encoding_source(d), DQ_NOTHING);
+    IS(dq_replaced(d), DQ_NOTHING);
+    if (IS(dq_parse_bytes(d, koi8, sizeof koi8 - 1, T(" KOI8-R "), 512), 0)) {
+        SAYS(dq_text(d, 0, ROOM), "\xd0\xa7\xd0\xb0\xd0\xb9");
+        SAYS(dq_encoding(d, ROOM), "KOI8-R");
+        if (IS(dq_encoding(d, text, 0), 6)) SAYS(dq_taken(d, ROOM), "KOI8-R");
+        IS(dq_encoding_source(d), DQ_BY_TRANSPORT);
+        IS(dq_replaced(d), 0);
+    }
+    if (IS(dq_parse_bytes(d, koi8, sizeof koi8 - 1, T("utf-8"), 0), 0)) IS(dq_replaced(d), 3);
+    if (IS(dq_parse_bytes(d, koi8, sizeof koi8 - 1, text, 0, 512), 0)) {
+        SAYS(dq_encoding(d, ROOM), "windows-1252");
+        IS(dq_encoding_source(d), DQ_BY_GUESS);
+    }
+    if (IS(dq_parse_bytes(d, declared, sizeof declared - 1, text, 0, 512), 0)) {
+        SAYS(dq_encoding(d, ROOM), "KOI8-R");
+        IS(dq_encoding_source(d), DQ_BY_PAGE);
+    }
+    if (IS(dq_parse_bytes(d, marked, sizeof marked - 1, T("koi8-r"), 512), 0)) {
+        SAYS(dq_encoding(d, ROOM), "UTF-8");
+        IS(dq_encoding_source(d), DQ_BY_MARK);
+    }
+    if (IS(dq_parse_bytes(d, wide, sizeof wide, text, 0, 512), 0)) SAYS(dq_text(d, 0, ROOM), "a\xd0\xa7");
+    IS(dq_parse_bytes(d, koi8, sizeof koi8 - 1, T("koi9"), 512), DQ_UNKNOWN_LABEL);
+    IS(dq_parse_bytes(d, koi8, sizeof koi8 - 1, koi8 + 3, 1, 512), DQ_UNKNOWN_LABEL);
+    if (!refusing) SAYS(dq_text(d, 0, ROOM), "a\xd0\xa7");
+}
+
+/* Every rule, and what it leaves. */
+static void cleaning(dq_policy *p, dq_document *d) {
+    static const char *HTML = "<svg><b>x</b></svg><i data-a=1>y</i><a href=/z class='k l' id=i dir=rtl title=t onclick=x()>z</a><script>s()</script>";
+    if (!IS(dq_policy_empty(p), 0)) return;
+    IS(dq_clean(p, T(HTML), ROOM), DQ_UNFINISHED);
+    IS(dq_policy_finish(p), 0);
+    SAYS(dq_clean(p, T("<b>1 &lt; 2</b><script>3</script>"), ROOM), "1 &lt; 23");
+    if (!IS(dq_policy_empty(p), 0)) return;
+    IS(dq_policy_rule(p, DQ_ALLOW_ELEMENT, T("a")), 0);
+    IS(dq_policy_rule(p, DQ_ALLOW_ELEMENT, T("i")), 0);
+    IS(dq_policy_rule(p, DQ_DROP_ELEMENT, T("script")), 0);
+    IS(dq_policy_rule(p, DQ_ALLOW_ATTRIBUTE, T("id")), 0);
+    IS(dq_policy_rule(p, DQ_ALLOW_ATTRIBUTE, T("class")), 0);
+    IS(dq_policy_rule(p, DQ_ALLOW_SCHEME, T("https")), 0);
+    IS(dq_policy_rule(p, DQ_ALLOW_CLASS, T("k")), 0);
+    IS(dq_policy_rule(p, DQ_LINK_REL, T("nofollow")), 0);
+    IS(dq_policy_rule(p, DQ_ID_PREFIX, T("u-")), 0);
+    IS(dq_policy_attribute_of(p, T("a"), T("href")), 0);
+    IS(dq_policy_value(p, T("a"), T("dir"), T("rtl")), 0);
+    IS(dq_policy_base(p, T("https://t.example/s/")), 0);
+    IS(dq_policy_set(p, DQ_DATA_ATTRIBUTES, 1), 0);
+    IS(dq_policy_set(p, DQ_DEPTH, 9), 0);
+    IS(dq_policy_finish(p), 0);
+    SAYS(dq_clean(p, T(HTML), ROOM),
+         "x<i data-a=\"1\">y</i><a href=\"https://t.example/z\" class=\"k\" id=\"u-i\" dir=\"rtl\" rel=\"nofollow\">z</a>");
+    SAYS(dq_clean(p, T("<a href=javascript:x()>1</a>"), ROOM), "<a rel=\"nofollow\">1</a>");
+    if (IS(dq_clean(p, T("<i>1</i>"), text, 0), 8)) SAYS(dq_policy_taken(p, ROOM), "<i>1</i>");
+    if (!refusing) IS(dq_policy_fault(p), 0);
+    SAYS(dq_clean_page(p, T("<title>t</title><i>1"), ROOM), "<!DOCTYPE html><html><head></head><body><i>1</i></body></html>");
+    if (IS(dq_parse(d, T("<i>1<b>2</b></i>")), 0)) {
+        SAYS(dq_clean_document(p, d, ROOM), "<i>12</i>");
+        SAYS(dq_html(d, 0, ROOM), "<i>1<b>2</b></i>");
+    }
+    if (IS(dq_policy_empty(p), 0)) {
+        IS(dq_policy_rule(p, DQ_ALLOW_ELEMENT, T("a")), 0);
+        IS(dq_policy_attribute_of(p, T("a"), T("href")), 0);
+        IS(dq_policy_rule(p, DQ_LINK_REL, T("nofollow")), 0);
+        IS(dq_policy_set(p, DQ_NO_LINK_REL, 0), 0);
+        IS(dq_policy_set(p, DQ_KEEP_RELATIVE, 1), 0);
+        IS(dq_policy_set(p, DQ_DEPTH, 1), 0);
+        IS(dq_policy_finish(p), 0);
+        SAYS(dq_clean(p, T("<a href=/x>1</a>"), ROOM), "<a href=\"/x\">1</a>");
+    }
+    if (IS(dq_policy_common(p), 0)) {
+        IS(dq_policy_set(p, DQ_KEEP_RELATIVE, 0), 0);
+        IS(dq_policy_finish(p), 0);
+        SAYS(dq_clean(p, T("<h1>1</h1><script>2</script><img src=/x>"), ROOM), "<h1>1</h1><img>");
+    }
+}
+
+/* A policy that is refused, and each rule that can't be given. Afterwards nothing is cleaned. */
+static void refused(dq_policy *p, int line, int64_t given, int64_t wanted, const char *why) {
+    is(line, given, wanted >= -49 ? wanted : 0);
+    is(line, dq_policy_finish(p), wanted);
+    if (why && !refusing) says(line, dq_policy_taken(p, ROOM), why);
+    is(line, dq_clean(p, T("<b>1</b>"), ROOM), wanted);
+    is(line, dq_policy_rule(p, DQ_ALLOW_ELEMENT, T("b")), wanted);
+    is(line, dq_policy_finish(p), wanted);
+}
+
+#define REFUSED(given, wanted, why) \
+    if (IS(dq_policy_common(p), 0)) refused(p, __LINE__, given, wanted, why)
+
+static void unsound(dq_policy *p) {
+    static const uint8_t bad[] = {0xff};
+    REFUSED(dq_policy_rule(p, DQ_ALLOW_ELEMENT, T("svg")), DQ_REFUSED_ELEMENT, "element `svg` can't be kept safely");
+    REFUSED(dq_policy_rule(p, DQ_ALLOW_ATTRIBUTE, T("onclick")), DQ_REFUSED_ATTRIBUTE, "attribute `onclick` can't be kept safely");
+    REFUSED(dq_policy_attribute_of(p, T("a"), T("srcdoc")), DQ_REFUSED_ATTRIBUTE, "attribute `srcdoc` can't be kept safely");
+    REFUSED(dq_policy_value(p, T("a"), T("style"), T("")), DQ_REFUSED_ATTRIBUTE, "attribute `style` can't be kept safely");
+    REFUSED(dq_policy_rule(p, DQ_ALLOW_SCHEME, T("javascript")), DQ_REFUSED_SCHEME, "scheme `javascript` can't be kept safely");
+    REFUSED(dq_policy_rule(p, DQ_ALLOW_CLASS, T("a b")), DQ_REFUSED_CLASS, "class `a b` can't be written");
+    REFUSED(dq_policy_rule(p, DQ_LINK_REL, T("\"")), DQ_REFUSED_REL, "the `rel` of links can't be written");
+    REFUSED(dq_policy_rule(p, DQ_ID_PREFIX, T(" ")), DQ_REFUSED_PREFIX, "the prefix of ids can't be written");
+    REFUSED(dq_policy_base(p, T("gopher://a.example/")), DQ_REFUSED_BASE, "the scheme of the base isn't allowed");
+    REFUSED(dq_policy_set(p, DQ_DEPTH, 257), DQ_REFUSED_DEPTH, "the depth is above 256");
+    REFUSED(dq_policy_set(p, DQ_DEPTH, SIZE_MAX), DQ_REFUSED_DEPTH, "the depth is above 256");
+    if (IS(dq_policy_empty(p), 0))
+        refused(p, __LINE__, dq_policy_rule(p, DQ_ALLOW_ELEMENT, T("table")), DQ_REFUSED_TABLE, "`table` is allowed without `tbody`");
+    REFUSED(dq_policy_base(p, T("/shop/")), DQ_BAD_BASE, NULL);
+    REFUSED(dq_policy_base(p, bad, 1), DQ_NOT_UTF8, NULL);
+    REFUSED(dq_policy_rule(p, DQ_ALLOW_ELEMENT, bad, 1), DQ_NOT_UTF8, NULL);
+    REFUSED(dq_policy_attribute_of(p, bad, 1, T("id")), DQ_NOT_UTF8, NULL);
+    REFUSED(dq_policy_attribute_of(p, T("p"), bad, 1), DQ_NOT_UTF8, NULL);
+    REFUSED(dq_policy_value(p, T("p"), T("id"), bad, 1), DQ_NOT_UTF8, NULL);
+    REFUSED(dq_policy_rule(p, 7, T("b")), DQ_ARGUMENT, NULL);
+    REFUSED(dq_policy_set(p, 4, 0), DQ_ARGUMENT, NULL);
+    if (IS(dq_policy_common(p), 0) && IS(dq_policy_finish(p), 0)) {
+        IS(dq_clean(p, bad, 1, ROOM), DQ_NOT_UTF8);
+        IS(dq_clean_page(p, bad, 1, ROOM), DQ_NOT_UTF8);
+        SAYS(dq_clean(p, (const uint8_t *)"a\0<b>\0", 6, ROOM), "a<b></b>");
+        refused(p, __LINE__, dq_policy_set(p, DQ_DEPTH, 1), DQ_FINISHED, NULL);
+    }
 }
 
 static void reading(dq_document *d) {
@@ -159,15 +304,17 @@ static void misuse(dq_document *d) {
     IS(dq_put_html(d, 0, DQ_BEFORE, T("<b></b>")), DQ_ROOT_OR_FRAGMENT);
     if (IS(dq_parse(d, T("<p>")), DQ_UNCLOSED)) IS(dq_fault(d), DQ_UNCLOSED);
     if (!refusing) SAYS(dq_text(d, 0, ROOM), "Mate");
-    SAYS((int64_t)dq_fault_text(DQ_CLOSED, ROOM), "the document is closed");
+    SAYS((int64_t)dq_fault_text(DQ_CLOSED, ROOM), "the document or the policy is closed");
     IS((int64_t)dq_fault_text(1, ROOM), 0);
 }
 
 int main(int count, char **words) {
     dq_document d = {0};
+    dq_policy p = {0};
     (void)words;
     refusing = count > 1;
     closed(&d);
+    no_policy(&p, &d);
     if (IS(dq_parse(&d, T(SMALL)), 0)) {
         reading(&d);
         editing(&d);
@@ -175,7 +322,16 @@ int main(int count, char **words) {
     }
     if (IS(dq_parse_page(&d, T("<p>Tea<td>\xff"), 512), 0)) SAYS(dq_text(&d, 0, ROOM), "Tea\xef\xbf\xbd");
     if (IS(dq_parse_fragment(&d, T("<td>1<td>2"), T("tr")), 0) && IS(dq_select_texts(&d, 0, T("td")), 2)) SAYS(dq_taken(&d, ROOM), "12");
+    if (IS(dq_parse(&d, T(SMALL)), 0)) decoding(&d);
+    cleaning(&p, &d);
+    unsound(&p);
     dq_free(&d);
+    if (dq_policy_common(&p) == 0 && dq_policy_finish(&p) == 0) {
+        IS(dq_clean_document(&p, &d, ROOM), DQ_CLOSED);
+        IS(dq_policy_fault(&p), DQ_CLOSED);
+    }
+    dq_policy_free(&p);
     closed(&d);
+    no_policy(&p, &d);
     return wrong;
 }

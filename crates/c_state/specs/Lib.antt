@@ -1,5 +1,8 @@
 pub mod Answers
+pub mod Decodings
 pub mod Edits
 pub mod KindNumbers
 pub mod Neighbours
 pub mod Pieces
+pub mod Policies
+pub mod Rules

@@ -3,7 +3,9 @@
 ghost use Rattle.std.specs.Prelude.{◌≡◌, ◌≤ℤ◌, negsuc, pos};
 ghost use Rattle.c_state.specs.declared.fault.Fault.TheVariants.{Closed, Memory, Nothing};
 
-use dom_query::{EditFault, MarkupFault, MarkupFaultKind, OutOfMemory, PageFault, SelectorFault};
+use dom_query::{
+    EditFault, MarkupFault, MarkupFaultKind, OutOfMemory, PageFault, PolicyFault, SelectorFault,
+};
 use std::alloc::{AllocError, AllocFailed};
 
 /// Why a call gives no answer.
@@ -17,18 +19,52 @@ pub enum Fault {
     Memory,
     /// A text isn't UTF-8.
     NotUtf8,
-    /// A number of a place, of a direction or of an axis isn't one of those that there are.
+    /// A number of a place, a direction, an axis, a rule or a setting isn't one of those that there
+    /// are.
     Argument,
     /// No node of the document has that number.
     NoNode,
     /// A document has 4,294,967,295 nodes at most.
     TooManyNodes,
+    /// No encoding has the label.
+    UnknownLabel,
+    /// The base of addresses isn't an absolute URL.
+    BadBase,
+    /// The policy isn't finished yet.
+    Unfinished,
+    /// The policy is finished, so that its rules stay as they are.
+    Finished,
+    /// The rules can't be a policy.
+    Policy(Refusal),
     /// The edit is refused.
     Edit(EditFault),
     /// The text isn't a selector.
     Selector(SelectorFault),
     /// The text isn't explicit markup.
     Markup(MarkupFault),
+}
+
+/// Why rules can't be a policy, as `PolicyFault` says it with names.
+#[derive(Clone, Copy, Debug, Drop)]
+pub enum Refusal {
+    /// An element that can't be allowed.
+    Element,
+    /// `table` is allowed without a part of tables.
+    Table,
+    /// An attribute that can't be allowed.
+    Attribute,
+    /// A scheme that can't be allowed.
+    Scheme,
+    /// Addresses are resolved against a base whose scheme isn't allowed.
+    Base,
+    /// The `rel` of links can't be written.
+    Rel,
+    /// A class can't be written.
+    Class,
+    /// The prefix of ids can't be written.
+    Prefix,
+    /// More than 256 elements may be nested.
+    Depth,
 }
 
 impl Fault {
@@ -45,6 +81,11 @@ impl Fault {
             Fault::Argument => -5,
             Fault::NoNode => -6,
             Fault::TooManyNodes => -7,
+            Fault::UnknownLabel => -40,
+            Fault::BadBase => -41,
+            Fault::Unfinished => -42,
+            Fault::Finished => -43,
+            Fault::Policy(refusal) => refusal_code(refusal),
             Fault::Edit(fault) => edit_code(fault),
             Fault::Selector(fault) => selector_code(fault),
             Fault::Markup(fault) => markup_code(fault.kind),
@@ -58,6 +99,22 @@ impl Fault {
             Fault::Edit(EditFault::Markup(fault)) => fault.at,
             _ => 0,
         }
+    }
+}
+
+fn refusal_code(refusal: Refusal) -> i64
+    ensures { pos 0 ≤ℤ result → ⊥ }
+{
+    match refusal {
+        Refusal::Element => -50,
+        Refusal::Table => -51,
+        Refusal::Attribute => -52,
+        Refusal::Scheme => -53,
+        Refusal::Base => -54,
+        Refusal::Rel => -55,
+        Refusal::Class => -56,
+        Refusal::Prefix => -57,
+        Refusal::Depth => -58,
     }
 }
 
@@ -111,10 +168,12 @@ fn markup_code(kind: MarkupFaultKind) -> i64
 pub fn fault_text(code: i64) -> Option<&'static str> {
     match code {
         -1 => Some("there is none"),
-        -2 => Some("the document is closed"),
+        -2 => Some("the document or the policy is closed"),
         -3 => Some("out of memory"),
         -4 => Some("the text is not UTF-8"),
-        -5 => Some("a number of a place, a direction or an axis is out of range"),
+        -5 => Some(
+            "a number of a place, a direction, an axis, a rule or a setting is out of range",
+        ),
         -6 => Some("no node of the document has that number"),
         -7 => Some("too many nodes"),
         -10 => Some("the node cannot have children"),
@@ -141,6 +200,25 @@ fn markup_text(code: i64) -> Option<&'static str> {
         -36 => Some("malformed declaration"),
         -37 => Some("a doctype inside an element"),
         -38 => Some("a processing instruction"),
+        _ => policy_text(code),
+    }
+}
+
+fn policy_text(code: i64) -> Option<&'static str> {
+    match code {
+        -40 => Some("no encoding has that label"),
+        -41 => Some("the base is not an absolute URL"),
+        -42 => Some("the policy is not finished"),
+        -43 => Some("the policy is finished"),
+        -50 => Some("an element cannot be kept safely"),
+        -51 => Some("tables are allowed without one of their parts"),
+        -52 => Some("an attribute cannot be kept safely"),
+        -53 => Some("a scheme cannot be kept safely"),
+        -54 => Some("the scheme of the base is not allowed"),
+        -55 => Some("the rel of links cannot be written"),
+        -56 => Some("a class cannot be written"),
+        -57 => Some("the prefix of ids cannot be written"),
+        -58 => Some("the depth is above 256"),
         _ => None,
     }
 }
@@ -193,5 +271,21 @@ impl From<MarkupFault> for Fault {
 impl From<EditFault> for Fault {
     fn from(fault: EditFault) -> Fault {
         Fault::Edit(fault)
+    }
+}
+
+/// The fault of rules that can't be a policy.
+pub fn fault_of_policy(fault: &PolicyFault) -> Fault {
+    match fault {
+        PolicyFault::Element(_) => Fault::Policy(Refusal::Element),
+        PolicyFault::Table(_) => Fault::Policy(Refusal::Table),
+        PolicyFault::Attribute(_) => Fault::Policy(Refusal::Attribute),
+        PolicyFault::Scheme(_) => Fault::Policy(Refusal::Scheme),
+        PolicyFault::Base => Fault::Policy(Refusal::Base),
+        PolicyFault::Rel => Fault::Policy(Refusal::Rel),
+        PolicyFault::Class(_) => Fault::Policy(Refusal::Class),
+        PolicyFault::Prefix => Fault::Policy(Refusal::Prefix),
+        PolicyFault::Depth => Fault::Policy(Refusal::Depth),
+        PolicyFault::Memory => Fault::Memory,
     }
 }

@@ -1,8 +1,10 @@
-//! The state behind a document's handle: the document, and what was asked of it last. Every answer
-//! is a number, and lists and texts are written into the caller's room as far as they fit.
+//! The state behind a document's handle: the document, and what was asked of it last; and the state
+//! behind the handle of a policy. Every answer is a number, and lists and texts are written into the
+//! caller's room as far as they fit.
 #![tactic(auto)]
 
 mod bytes;
+mod decoding;
 mod editing;
 mod fault;
 mod finding;
@@ -10,8 +12,12 @@ mod gathering;
 mod moving;
 mod numbers;
 mod pieces;
+mod policies;
 mod reading;
+mod rules;
 mod state;
 
-pub use fault::{Fault, fault_text};
+pub use decoding::Decoded;
+pub use fault::{Fault, Refusal, fault_text};
+pub use policies::{PolicyState, Stage};
 pub use state::State;

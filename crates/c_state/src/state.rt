@@ -2,32 +2,36 @@
 
 ghost use Rattle.std.specs.Prelude.{◌≡◌, ◌<◌, IfErr, IfOk, length, string_bytes, take};
 ghost use Rattle.dom_markup.specs.Documents.{IsDocumentOf};
+ghost use Rattle.dom_html5.specs.Calm.{ReadsCalm};
 ghost use Rattle.html5_trees.specs.Shape.{IsPage};
 ghost use Rattle.c_state.specs.declared.fault.Fault.TheVariants.{NoNode};
 
 use crate::bytes::{as_text, copy_bytes, copy_numbers};
+use crate::decoding::Decoded;
 use crate::fault::Fault;
 use crate::pieces::Pieces;
 use dom_query::prelude::*;
 use dom_query::{Context, Options, parse_page_bytes, parse_page_fragment};
 use std::alloc::Global;
 
-/// A document, and what the last questions found: nodes, a text, and the lengths of the pieces that
-/// the text is made of.
+/// A document, how its bytes were decoded if `parse_bytes` read it, and what the last questions found:
+/// nodes, a text, and the lengths of the pieces that the text is made of.
 #[derive(Drop)]
 pub struct State {
     pub document: Document,
+    pub decoded: Option<Decoded>,
     pub ids: Vec<NodeId>,
     pub text: String,
     pub lengths: Vec<u32>,
 }
 
 impl State {
-    fn of(alloc: Global, document: Document) -> State
+    pub(crate) fn of(alloc: Global, document: Document) -> State
         ensures { result.document ≡ document }
     {
         State {
             document,
+            decoded: None,
             ids: Vec::new(alloc),
             text: String::new(alloc),
             lengths: Vec::new(alloc),
@@ -136,10 +140,19 @@ impl State {
 }
 
 /// How a page is read.
-fn options_of(max_depth: usize) -> Options {
-    let mut options = Options::default();
+pub(crate) fn options_of(max_depth: usize) -> Options
+    ensures { max_depth ≡ 0 → ReadsCalm result }
+{
     if max_depth > 0 {
-        options.max_depth = Some(max_depth);
+        return Options {
+            scripting: false,
+            max_depth: Some(max_depth),
+            errors: false,
+        };
     }
-    options
+    Options {
+        scripting: false,
+        max_depth: None,
+        errors: false,
+    }
 }

@@ -1,3 +1,4 @@
 mod AsBox
+mod AsPolicyBox
 mod Asking
 mod Walking

@@ -1,9 +1,11 @@
-//! HTML documents behind handles, for C and for what calls C. `include/dom_query.h` describes the
-//! functions as C sees them.
+//! HTML documents and policies behind handles, for C and for what calls C. `include/dom_query.h`
+//! describes the functions as C sees them.
 #![tactic(auto)]
 
-ghost use Rattle.std.specs.Prelude.{◌≡◌, ◌∷◌, [], IfOk, None, Some, string_bytes, ⊤};
+ghost use Rattle.std.specs.Prelude.{◌≡◌, ◌∷◌, [], IfOk, MatchOption, None, Some};
+ghost use Rattle.std.specs.Prelude.{string_bytes, true, ⊤};
 ghost use Rattle.std.specs.List.{flat_map};
+ghost use Rattle.std.specs.Option.{is_some};
 ghost use Rattle.dom_links.specs.Texts.{text_of};
 ghost use Rattle.dom_markup.specs.Documents.{IsDocumentOf};
 ghost use Rattle.dom_markup.specs.Html.{html_of, inner_html_of};
@@ -19,6 +21,7 @@ ghost use Rattle.dom_trees.specs.Views.{node_attr, node_attrs, node_name};
 ghost use Rattle.html5_trees.specs.Shape.{IsPage};
 ghost use Rattle.c_state.specs.Answers.{ChangesTree, EditsTree, GivesNodes, GivesText};
 ghost use Rattle.c_state.specs.Answers.{GivesTextThat, MakesNode, SaysWhether};
+ghost use Rattle.c_state.specs.Decodings.{IsDecodedPage, source_number};
 ghost use Rattle.c_state.specs.Edits.{IsMoved, IsPut, IsSanitized, attr_removed, attr_set};
 ghost use Rattle.c_state.specs.Edits.{element_renamed, unwrapped_node};
 ghost use Rattle.c_state.specs.KindNumbers.{HasKind};
@@ -26,15 +29,7 @@ ghost use Rattle.c_state.specs.Neighbours.{IsFirst, along, neighbour};
 ghost use Rattle.c_state.specs.Pieces.{GivesPieces, attr_pieces};
 ghost use Rattle.dom_query_c.specs.Calls.{Asks, GivesKept, Reads};
 
-mod handle;
-mod parts;
-mod slot;
-
-use c_state::{Fault, State, fault_text};
-use handle::Handle;
-use std::alloc::Global;
-
-/// Asks the state that the handle holds.
+/// Asks what the handle holds.
 macro_rules! ask {
     ($alloc:expr, $handle:expr, $state:ident => $question:expr) => {
         match $handle.take($alloc) {
@@ -48,6 +43,17 @@ macro_rules! ask {
         }
     };
 }
+
+mod handle;
+mod parts;
+mod policies;
+mod policy_handle;
+mod policy_slot;
+mod slot;
+
+use c_state::{Fault, State, fault_text};
+use handle::Handle;
+use std::alloc::Global;
 
 /// Reads a page, as browsers do, in place of what the handle held.
 #[unsafe(no_mangle)]
@@ -84,6 +90,50 @@ pub extern "C" fn dq_parse_fragment(
         (λ _. ⊤) }
 {
     handle.fill(alloc, State::parse_fragment(alloc, html, context))
+}
+
+/// Reads a page in any encoding, in place of what the handle held.
+#[unsafe(no_mangle)]
+pub extern "C" fn dq_parse_bytes(
+    alloc: Global,
+    handle: &mut Handle,
+    bytes: &[u8],
+    label: &[u8],
+    max_depth: usize,
+) -> i64
+    ensures { Reads handle.old.slot.state handle.new.slot.state result
+        (IsDecodedPage label.now bytes.now max_depth) }
+{
+    handle.fill(alloc, State::parse_bytes(alloc, bytes, label, max_depth))
+}
+
+/// Takes the name of the encoding that the page was in: its length.
+#[unsafe(no_mangle)]
+pub extern "C" fn dq_encoding(alloc: Global, handle: &mut Handle, to: &mut [u8]) -> i64
+    ensures { Asks handle.old.slot.state handle.new.slot.state result
+        (λ given s t. GivesTextThat given s t to.old to.new (λ _. is_some s.decoded ≡ true)) }
+{
+    ask!(alloc, handle, state => state.take_encoding(to))
+}
+
+/// What says in which encoding the page was.
+#[unsafe(no_mangle)]
+pub extern "C" fn dq_encoding_source(alloc: Global, handle: &mut Handle) -> i64
+    ensures { Asks handle.old.slot.state handle.new.slot.state result
+        (λ given s t. (t ≡ s) × IfOk given (λ number. MatchOption s.decoded ⊥
+        (λ decoded. number ≡ source_number decoded.source))) }
+{
+    ask!(alloc, handle, state => state.encoding_source())
+}
+
+/// How many characters stand for bytes that could not be decoded.
+#[unsafe(no_mangle)]
+pub extern "C" fn dq_replaced(alloc: Global, handle: &mut Handle) -> i64
+    ensures { Asks handle.old.slot.state handle.new.slot.state result
+        (λ given s t. (t ≡ s) × IfOk given (λ count. MatchOption s.decoded ⊥
+        (λ decoded. count ≡ decoded.replaced))) }
+{
+    ask!(alloc, handle, state => state.replaced())
 }
 
 /// Frees what the handle holds; it is then empty.

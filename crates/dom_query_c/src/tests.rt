@@ -1,6 +1,8 @@
 //! Each export on its happy path, and a closed handle.
 
 use crate::handle::Handle;
+use crate::policies::*;
+use crate::policy_handle::PolicyHandle;
 use crate::*;
 use std::alloc::Global;
 
@@ -38,7 +40,7 @@ fn documents_are_read_and_freed(rt: HostRuntime) {
     assert_eq!(&rt; dq_select_first(alloc, &mut handle, 0, b"td"), 2);
     dq_free(alloc, &mut handle);
     assert_eq!(&rt; dq_kind(alloc, &mut handle, 0), -2);
-    assert_eq!(&rt; dq_fault_text(-2, &mut room), 22);
+    assert_eq!(&rt; dq_fault_text(-2, &mut room), 36);
     assert!(&rt; room == *b"the docu");
 }
 
@@ -109,4 +111,90 @@ fn documents_are_edited(rt: HostRuntime) {
     assert_eq!(&rt; dq_sanitize(alloc, &mut handle, b"div p", b"", b"hr"), 0);
     assert_eq!(&rt; dq_html(alloc, &mut handle, 1, &mut room), 23);
     dq_free(alloc, &mut handle);
+}
+
+#[test]
+fn pages_are_read_in_any_encoding(rt: HostRuntime) {
+    let alloc = rt.alloc();
+    let mut handle = small(alloc);
+    let mut room = [0; 12];
+    assert_eq!(&rt; dq_encoding(alloc, &mut handle, &mut room), -1);
+    assert_eq!(&rt; dq_encoding_source(alloc, &mut handle), -1);
+    assert_eq!(&rt; dq_replaced(alloc, &mut handle), -1);
+    let page = b"<p>\xFE\xC1\xCA";
+    assert_eq!(&rt; dq_parse_bytes(alloc, &mut handle, page, b"koi8", 0), 0);
+    assert_eq!(&rt; dq_text(alloc, &mut handle, 0, &mut room), 6);
+    assert!(&rt; room.starts_with(b"\xD0\xA7\xD0\xB0\xD0\xB9"));
+    assert_eq!(&rt; dq_encoding(alloc, &mut handle, &mut room), 6);
+    assert!(&rt; room.starts_with(b"KOI8-R"));
+    assert_eq!(&rt; dq_encoding_source(alloc, &mut handle), 1);
+    assert_eq!(&rt; dq_parse_bytes(alloc, &mut handle, page, b"utf-8", 512), 0);
+    assert_eq!(&rt; dq_replaced(alloc, &mut handle), 3);
+    assert_eq!(&rt; dq_parse_bytes(alloc, &mut handle, page, b"", 512), 0);
+    assert_eq!(&rt; dq_encoding_source(alloc, &mut handle), 3);
+    assert_eq!(&rt; dq_parse_bytes(alloc, &mut handle, page, b"koi9", 512), -40);
+    dq_free(alloc, &mut handle);
+}
+
+#[test]
+fn html_is_cleaned(rt: HostRuntime) {
+    let alloc = rt.alloc();
+    let mut policy = PolicyHandle::empty(alloc);
+    let mut room = [0; 80];
+    assert_eq!(&rt; dq_clean(alloc, &mut policy, b"<p>", &mut room), -2);
+    assert_eq!(&rt; dq_policy_empty(alloc, &mut policy), 0);
+    assert_eq!(&rt; dq_policy_rule(alloc, &mut policy, 0, b"a"), 0);
+    assert_eq!(&rt; dq_policy_rule(alloc, &mut policy, 1, b"script"), 0);
+    assert_eq!(&rt; dq_policy_rule(alloc, &mut policy, 3, b"https"), 0);
+    assert_eq!(&rt;
+        dq_policy_attribute_of(alloc, &mut policy, b"a", b"href"),
+        0
+    );
+    assert_eq!(&rt;
+        dq_policy_value(alloc, &mut policy, b"a", b"dir", b"rtl"),
+        0
+    );
+    assert_eq!(&rt;
+        dq_policy_base(alloc, &mut policy, b"https://t.example/"),
+        0
+    );
+    assert_eq!(&rt; dq_policy_set(alloc, &mut policy, 0, 9), 0);
+    assert_eq!(&rt; dq_clean(alloc, &mut policy, b"<p>", &mut room), -42);
+    assert_eq!(&rt; dq_policy_finish(alloc, &mut policy), 0);
+    let source = b"<p>1<a href=/x dir=rtl onclick=y>2</a><script>3</script>";
+    assert_eq!(&rt; dq_clean(alloc, &mut policy, source, &mut room), 46);
+    let cleaned = b"1<a href=\"https://t.example/x\" dir=\"rtl\">2</a>";
+    assert!(&rt; room.starts_with(cleaned));
+    assert_eq!(&rt; dq_policy_taken(alloc, &mut policy, &mut room), 46);
+    assert_eq!(&rt; dq_clean_page(alloc, &mut policy, b"<b>1", &mut room), 55);
+    let mut document = small(alloc);
+    assert_eq!(&rt;
+        dq_clean_document(alloc, &mut policy, &mut document, &mut room),
+        11
+    );
+    assert!(&rt; room.starts_with(b"Tea hotMilk"));
+    dq_free(alloc, &mut document);
+    assert_eq!(&rt;
+        dq_clean_document(alloc, &mut policy, &mut document, &mut room),
+        -2
+    );
+    assert_eq!(&rt; dq_policy_fault(&policy), -2);
+    dq_policy_free(alloc, &mut policy);
+}
+
+#[test]
+fn policies_are_refused(rt: HostRuntime) {
+    let alloc = rt.alloc();
+    let mut policy = PolicyHandle::empty(alloc);
+    let mut room = [0; 36];
+    assert_eq!(&rt; dq_policy_common(alloc, &mut policy), 0);
+    assert_eq!(&rt; dq_policy_rule(alloc, &mut policy, 0, b"svg"), 0);
+    assert_eq!(&rt; dq_policy_finish(alloc, &mut policy), -50);
+    assert_eq!(&rt; dq_policy_taken(alloc, &mut policy, &mut room), 34);
+    assert!(&rt; room.starts_with(b"element `svg` can't be kept safely"));
+    assert_eq!(&rt; dq_clean(alloc, &mut policy, b"<p>", &mut room), -50);
+    assert_eq!(&rt; dq_policy_common(alloc, &mut policy), 0);
+    assert_eq!(&rt; dq_policy_rule(alloc, &mut policy, 7, b"svg"), -5);
+    assert_eq!(&rt; dq_policy_finish(alloc, &mut policy), -5);
+    dq_policy_free(alloc, &mut policy);
 }

@@ -1,0 +1,358 @@
+"""Policies, and cleaning HTML from strangers by them."""
+
+from __future__ import annotations
+
+import ctypes
+from collections.abc import Iterable, Mapping
+from typing import Any
+
+from ._library import ROOM, PolicyHandle, lib, policy_fault, scratch, unlocked
+from .document import LIMIT, Document, _utf8
+
+ELEMENT, DROP, ATTRIBUTE, SCHEME, CLASS, REL, PREFIX = range(7)
+DEPTH, DATA_ATTRIBUTES, KEEP_RELATIVE, NO_REL = range(4)
+
+# The rules of `Policy()`, which are those of dq_policy_common.
+COMMON_TAGS = frozenset(
+    "a abbr acronym area article aside b bdi bdo blockquote br caption center cite code col colgroup data dd del "
+    "details dfn div dl dt em figcaption figure footer h1 h2 h3 h4 h5 h6 header hgroup hr i img ins kbd li map mark "
+    "nav ol p pre q s samp small span strike strong sub summary sup table tbody td th thead time tr tt u ul var wbr".split()
+)
+COMMON_ATTRIBUTES: Mapping[str, frozenset[str]] = {
+    "*": frozenset({"lang", "title"}),
+    "a": frozenset({"href", "hreflang"}),
+    "bdo": frozenset({"dir"}),
+    "blockquote": frozenset({"cite"}),
+    "col": frozenset({"align", "char", "charoff", "span"}),
+    "colgroup": frozenset({"align", "char", "charoff", "span"}),
+    "del": frozenset({"cite", "datetime"}),
+    "hr": frozenset({"align", "size", "width"}),
+    "img": frozenset({"align", "alt", "height", "src", "width"}),
+    "ins": frozenset({"cite", "datetime"}),
+    "ol": frozenset({"start"}),
+    "q": frozenset({"cite"}),
+    "table": frozenset({"align", "char", "charoff", "summary"}),
+    "tbody": frozenset({"align", "char", "charoff"}),
+    "td": frozenset({"align", "char", "charoff", "colspan", "headers", "rowspan"}),
+    "tfoot": frozenset({"align", "char", "charoff"}),
+    "th": frozenset({"align", "char", "charoff", "colspan", "headers", "rowspan", "scope"}),
+    "thead": frozenset({"align", "char", "charoff"}),
+    "tr": frozenset({"align", "char", "charoff"}),
+}
+COMMON_URL_SCHEMES = frozenset(
+    "bitcoin ftp ftps geo http https im irc ircs magnet mailto mms mx news nntp openpgp4fpr sip sms smsto ssh tel url "
+    "webcal wtai xmpp".split()
+)
+CLEAN_CONTENT_TAGS = frozenset({"script", "style"})
+
+
+class Policy:
+    """What stays of HTML from strangers. `Policy()` is for comments, mails and articles; each argument changes one of its rules:
+
+    - `tags`: the elements that stay. Any other is replaced by its children.
+    - `clean_content_tags`: the elements that vanish with everything in them, also where `tags` has them.
+    - `attributes`: for the name of an element, or `"*"` for every element, the attributes that stay.
+    - `tag_attribute_values`: the same, where only some values stay: `{"input": {"type": {"checkbox"}}}`.
+    - `url_schemes`: the schemes of addresses that stay, as in `href` and `src`.
+    - `relative`: what becomes of addresses without a scheme: `"keep"`, `"drop"`, or an absolute URL, to which they are joined.
+    - `link_rel`: the `rel` that each link gets, or None.
+    - `id_prefix`: what each `id` gets in front, where `attributes` has `id`.
+    - `classes`: the classes that stay on any element; None lets `attributes` alone decide.
+    - `data_attributes`: whether attributes whose names begin with `data-` stay.
+    - `max_depth`: how deep the elements that stay may be nested, 256 at most; deeper ones are replaced by their children.
+
+    Raises `PolicyError` for rules whose result would not be safe, as for the element `svg` or the attribute `onclick`. A policy
+    never changes; `changed` makes another. Threads may share a policy, and clean at once.
+    """
+
+    __slots__ = ("_rules", "_idle", "__weakref__")
+
+    def __init__(
+        self,
+        *,
+        tags: Iterable[str] = COMMON_TAGS,
+        clean_content_tags: Iterable[str] = CLEAN_CONTENT_TAGS,
+        attributes: Mapping[str, Iterable[str]] = COMMON_ATTRIBUTES,
+        tag_attribute_values: Mapping[str, Mapping[str, Iterable[str]]] | None = None,
+        url_schemes: Iterable[str] = COMMON_URL_SCHEMES,
+        relative: str = "keep",
+        link_rel: str | None = "noopener noreferrer",
+        id_prefix: str = "",
+        classes: Iterable[str] | None = None,
+        data_attributes: bool = False,
+        max_depth: int = 256,
+    ) -> None:
+        if max_depth < 0:
+            raise ValueError("max_depth is 0 or more")
+        values = _mapping("tag_attribute_values", tag_attribute_values or {})
+        self._rules: dict[str, Any] = {
+            "tags": _names("tags", tags),
+            "clean_content_tags": _names("clean_content_tags", clean_content_tags),
+            "attributes": _lists("attributes", attributes),
+            "tag_attribute_values": {tag: _lists("tag_attribute_values", names) for tag, names in values.items()},
+            "url_schemes": _names("url_schemes", url_schemes),
+            "relative": relative,
+            "link_rel": link_rel,
+            "id_prefix": id_prefix,
+            "classes": None if classes is None else _names("classes", classes),
+            "data_attributes": bool(data_attributes),
+            "max_depth": min(max_depth, LIMIT),
+        }
+        if self.classes == frozenset():
+            raise ValueError("classes is None or has a class; for no class at all, leave class out of attributes")
+        self._idle: list[PolicyHandle] = []
+        self._idle.append(self._made())
+
+    @classmethod
+    def empty(cls) -> Policy:
+        """The policy by which only texts stay, those of scripts and styles too. It is a beginning for `changed`."""
+        return cls(
+            tags=(), clean_content_tags=(), attributes={}, url_schemes=(), relative="drop", link_rel=None, max_depth=128
+        )
+
+    def changed(self, **rules: Any) -> Policy:
+        """The policy with other rules: `policy.changed(tags=policy.tags | {"u"})`."""
+        return Policy(**{**self._rules, **rules})
+
+    __replace__ = changed
+
+    # ---- its rules
+
+    @property
+    def tags(self) -> frozenset[str]:
+        """The elements that stay."""
+        tags: frozenset[str] = self._rules["tags"]
+        return tags
+
+    @property
+    def clean_content_tags(self) -> frozenset[str]:
+        """The elements that vanish with everything in them."""
+        tags: frozenset[str] = self._rules["clean_content_tags"]
+        return tags
+
+    @property
+    def attributes(self) -> dict[str, frozenset[str]]:
+        """The attributes that stay, for the name of an element, or `"*"` for every element."""
+        return dict(self._rules["attributes"])
+
+    @property
+    def tag_attribute_values(self) -> dict[str, dict[str, frozenset[str]]]:
+        """The values that stay, for the name of an element and that of an attribute."""
+        return {tag: dict(names) for tag, names in self._rules["tag_attribute_values"].items()}
+
+    @property
+    def url_schemes(self) -> frozenset[str]:
+        """The schemes of addresses that stay."""
+        schemes: frozenset[str] = self._rules["url_schemes"]
+        return schemes
+
+    @property
+    def relative(self) -> str:
+        """What becomes of addresses without a scheme: `"keep"`, `"drop"`, or the URL that they are joined to."""
+        relative: str = self._rules["relative"]
+        return relative
+
+    @property
+    def link_rel(self) -> str | None:
+        """The `rel` that each link gets."""
+        rel: str | None = self._rules["link_rel"]
+        return rel
+
+    @property
+    def id_prefix(self) -> str:
+        """What each `id` gets in front."""
+        prefix: str = self._rules["id_prefix"]
+        return prefix
+
+    @property
+    def classes(self) -> frozenset[str] | None:
+        """The classes that stay; None where they don't matter."""
+        classes: frozenset[str] | None = self._rules["classes"]
+        return classes
+
+    @property
+    def data_attributes(self) -> bool:
+        """Whether attributes whose names begin with `data-` stay."""
+        stay: bool = self._rules["data_attributes"]
+        return stay
+
+    @property
+    def max_depth(self) -> int:
+        """How deep the elements that stay may be nested."""
+        depth: int = self._rules["max_depth"]
+        return depth
+
+    def __eq__(self, other: object) -> bool:
+        return isinstance(other, Policy) and self._rules == other._rules
+
+    def __hash__(self) -> int:
+        return hash((self.tags, self.url_schemes, self.relative, self.link_rel))
+
+    def __repr__(self) -> str:
+        common = _common()._rules
+        changed = ", ".join(f"{name}={rule!r}" for name, rule in self._rules.items() if rule != common[name])
+        return f"Policy({changed})"
+
+    def __reduce__(self) -> tuple[Any, ...]:
+        return (_policy, (self._rules,))
+
+    # ---- what it leaves
+
+    def clean(self, html: str | Document) -> str:
+        """What the policy leaves of a fragment, or of a document, as `dom_query.clean` returns it."""
+        if isinstance(html, Document):
+            with html._lock:
+                return self._cleaned(lib.dq_clean_document, html._handle)
+        text = _source(html)
+        return self._cleaned(unlocked.dq_clean, text, len(text))
+
+    def clean_page(self, html: str) -> str:
+        """The page with what the policy leaves of the body of a page, as `dom_query.clean_page` returns it."""
+        text = _source(html)
+        return self._cleaned(unlocked.dq_clean_page, text, len(text))
+
+    def _cleaned(self, call: Any, *arguments: Any) -> str:
+        try:
+            handle = self._idle.pop()
+        except IndexError:
+            handle = self._made()  # another thread is cleaning
+        try:
+            count = call(handle, *arguments, scratch.text_at, ROOM)
+            if count <= ROOM:
+                return ctypes.string_at(scratch.text_at, _checked(count)).decode()
+            text = (ctypes.c_char * count)()
+            _checked(lib.dq_policy_taken(handle, ctypes.addressof(text), count))
+            return str(text, "utf-8")
+        finally:
+            self._idle.append(handle)
+
+    # ---- the library's policy
+
+    def _made(self) -> PolicyHandle:
+        """A policy of the library with these rules."""
+        handle = PolicyHandle()
+        try:
+            _checked(lib.dq_policy_empty(handle))
+            self._give(handle)
+            code = lib.dq_policy_finish(handle)
+            if code < 0:
+                count = max(0, lib.dq_policy_taken(handle, scratch.text_at, ROOM))
+                raise policy_fault(code, ctypes.string_at(scratch.text_at, min(count, ROOM)).decode(errors="replace"))
+        except BaseException:
+            lib.dq_policy_free(handle)
+            raise
+        return handle
+
+    def _give(self, handle: PolicyHandle) -> None:
+        """Gives the library the rules. It keeps the first fault, and dq_policy_finish answers it."""
+        for rule, names in ((ELEMENT, self.tags), (DROP, self.clean_content_tags), (SCHEME, self.url_schemes), (CLASS, self.classes or ())):
+            for name in sorted(names):
+                _rule(handle, rule, name)
+        for tag, names in self.attributes.items():
+            for name in sorted(names):
+                _attribute(handle, tag, name)
+        if self.classes and not any("class" in names for names in self.attributes.values()):
+            _attribute(handle, "*", "class")
+        for tag, attributes in self.tag_attribute_values.items():
+            for name, values in attributes.items():
+                for value in sorted(values):
+                    parts = [_utf8(part) for part in (tag, name, value)]
+                    lib.dq_policy_value(handle, *(word for part in parts for word in (part, len(part))))
+        lib.dq_policy_set(handle, DATA_ATTRIBUTES, int(self.data_attributes))
+        lib.dq_policy_set(handle, DEPTH, self.max_depth)
+        _rule(handle, PREFIX, self.id_prefix)
+        if self.link_rel is not None:
+            _rule(handle, REL, self.link_rel)
+        if self.relative in ("keep", "drop"):
+            lib.dq_policy_set(handle, KEEP_RELATIVE, int(self.relative == "keep"))
+        else:
+            base = _utf8(self.relative)
+            lib.dq_policy_base(handle, base, len(base))
+
+    def __del__(self) -> None:
+        try:
+            for handle in self._idle:
+                lib.dq_policy_free(handle)
+        except (AttributeError, TypeError):
+            pass  # the interpreter is ending, or the policy was refused
+
+
+def _names(rule: str, names: Iterable[str]) -> frozenset[str]:
+    if isinstance(names, (str, Mapping)) or not isinstance(names, Iterable):
+        raise TypeError(f"{rule} is a set of names, and not {names!r}")
+    found = frozenset(names)
+    for name in found:
+        if not isinstance(name, str):
+            raise TypeError(f"{rule} is a set of names, and {name!r} is none")
+    return found
+
+
+def _mapping(rule: str, given: Mapping[str, Any]) -> Mapping[str, Any]:
+    if not isinstance(given, Mapping):
+        raise TypeError(f"{rule} is a dict from names of elements, or '*' for every element, and not {given!r}")
+    return given
+
+
+def _lists(rule: str, given: Mapping[str, Iterable[str]]) -> dict[str, frozenset[str]]:
+    return {name: _names(f"{rule}[{name!r}]", names) for name, names in _mapping(rule, given).items()}
+
+
+def _rule(handle: PolicyHandle, rule: int, text: str) -> None:
+    given = _utf8(text)
+    lib.dq_policy_rule(handle, rule, given, len(given))
+
+
+def _attribute(handle: PolicyHandle, tag: str, name: str) -> None:
+    if tag == "*":
+        _rule(handle, ATTRIBUTE, name)
+    else:
+        element, attribute = _utf8(tag), _utf8(name)
+        lib.dq_policy_attribute_of(handle, element, len(element), attribute, len(attribute))
+
+
+def _checked(code: int) -> int:
+    if code < 0:
+        raise policy_fault(code, "")
+    return code
+
+
+def _source(html: str) -> bytes:
+    if not isinstance(html, str):
+        raise TypeError(f"a str is wanted, and not {type(html).__name__}; decode bytes first, or read them by parse_bytes")
+    return _utf8(html)
+
+
+def _policy(rules: dict[str, Any]) -> Policy:
+    return Policy(**rules)
+
+
+_shared: list[Policy] = []
+
+
+def _common() -> Policy:
+    if not _shared:
+        _shared.append(Policy())
+    return _shared[0]
+
+
+def _chosen(policy: Policy | None) -> Policy:
+    if policy is None:
+        return _common()
+    if not isinstance(policy, Policy):
+        raise TypeError(f"a Policy is wanted, and not {policy!r}; write Policy(tags=..)")
+    return policy
+
+
+def clean(html: str | Document, policy: Policy | None = None) -> str:
+    """What the policy leaves of a fragment of HTML from strangers, such as a comment or a mail; without a policy, `Policy()`.
+
+    Whatever the text is, only elements and attributes that the policy allows stay, and all that is left is written so that any
+    browser reads exactly these: the text in the body of a page is read as the tree that was left. Nothing is refused. A document,
+    as `parse` returns it, is cleaned too, and stays as it is.
+    """
+    return _chosen(policy).clean(html)
+
+
+def clean_page(html: str, policy: Policy | None = None) -> str:
+    """A whole page with what the policy leaves of the body of a page: `<!DOCTYPE html>`, an empty `head`, and that `body`."""
+    return _chosen(policy).clean_page(html)
