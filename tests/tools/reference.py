@@ -18,8 +18,8 @@ PAGE = ROOT / "docs" / "REFERENCE.md"
 # The names of each part of the page, in order. A name that no part has comes last.
 PARTS = {
     "Reading": (
-        "parse_page parse_page_bytes parse_page_fragment PageParser Options Context read_page ReadPage Charset Fallback Confidence "
-        "Encoding decode_page PageText Document Snippet Tokens Token TokenKind QuirksMode TreeSink NodeOrText ElementFlags"
+        "parse_page parse_page_bytes parse_page_fragment PageParser Options Context read_page ReadPage PageByteParser Charset Fallback "
+        "Confidence Encoding decode_page PageText Document Snippet Tokens Token TokenKind QuirksMode TreeSink NodeOrText ElementFlags"
     ),
     "Finding": (
         "DocumentSelect Selection Selections Matcher MatchNode NodeSelect DescendantMatches Matches MatcherIter InnerSelector "

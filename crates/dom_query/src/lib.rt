@@ -39,6 +39,7 @@ pub use dom_html5::Context;
 pub use dom_html5::Encoding;
 pub use dom_html5::Fallback;
 pub use dom_html5::Options;
+pub use dom_html5::PageByteParser;
 pub use dom_html5::PageFault;
 pub use dom_html5::PageParser;
 pub use dom_html5::PageText;
