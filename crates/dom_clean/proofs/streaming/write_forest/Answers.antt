@@ -33,7 +33,7 @@ loop-entry-preserved g c =
 
 pub returns-in_err-push_row : goal.returns-in_err-push_row
 returns-in_err-push_row g c =
-    let p = err_from_is_err_and c.from_residual-in_err-push_row.result c.from_residual-in_err-push_row.ensures.1 in
+    let p = err_from_is_err_and c.from_residual.result c.from_residual.ensures.1 in
     rw p.1 (nothing-begun _ _)
 
 pub returns-in_err-write_entry : goal.returns-in_err-write_entry
