@@ -7,21 +7,20 @@ const os = require("os");
 const path = require("path");
 const { spawn } = require("child_process");
 const LIMIT = 60;
-// A browser of the superuser raises its own priority, so it runs as the user `nobody` then.
-const NOBODY = process.getuid() === 0 ? { uid: 65534, gid: 65534 } : {};
+// A browser of the superuser would raise its own priority; without this capability it can't.
+const [RUN, WORDS] = process.getuid() === 0 ? ["setpriv", ["--bounding-set", "-sys_nice", "--inh-caps", "-sys_nice"]] : ["env", []];
 
 function started(browser, host, port, folder) {
   if (/chrom/.test(browser)) {
     const words = ["--headless=new", "--no-sandbox", "--disable-gpu", "--disable-dev-shm-usage", "--no-first-run", "--disable-background-networking", "--disable-component-update", "--disable-sync", "--disable-popup-blocking", "--disable-features=HttpsUpgrades,HttpsFirstBalancedModeAutoEnable", `--user-data-dir=${folder}`, `--proxy-server=http://127.0.0.1:${port}`];
-    return spawn(browser, [...words, `http://${host}/`], { stdio: "ignore", cwd: folder, env: { ...process.env, HOME: folder }, ...NOBODY });
+    return spawn(RUN, [...WORDS, browser, ...words, `http://${host}/`], { stdio: "ignore", cwd: folder, env: { ...process.env, HOME: folder } });
   }
   const prefs = { "network.proxy.type": 1, "network.proxy.http": "127.0.0.1", "network.proxy.http_port": port, "network.proxy.ssl": "127.0.0.1", "network.proxy.ssl_port": port, "network.captive-portal-service.enabled": false, "network.connectivity-service.enabled": false, "dom.security.https_first": false, "dom.security.https_only_mode": false, "dom.disable_open_during_load": false, "browser.shell.checkDefaultBrowser": false, "datareporting.policy.dataSubmissionEnabled": false, "datareporting.policy.dataSubmissionPolicyBypassNotification": true, "browser.aboutwelcome.enabled": false, "app.normandy.enabled": false, "services.settings.server": "http://127.0.0.1:1/" };
   fs.writeFileSync(path.join(folder, "user.js"), Object.entries(prefs).map(([name, value]) => `user_pref(${JSON.stringify(name)}, ${JSON.stringify(value)});\n`).join(""));
-  return spawn(browser, ["--headless", "--no-remote", "--profile", folder, `http://${host}/`], { stdio: "ignore", cwd: folder, env: { ...process.env, HOME: folder, MOZ_CRASHREPORTER_DISABLE: "1" }, ...NOBODY });
+  return spawn(RUN, [...WORDS, browser, "--headless", "--no-remote", "--profile", folder, `http://${host}/`], { stdio: "ignore", cwd: folder, env: { ...process.env, HOME: folder, MOZ_CRASHREPORTER_DISABLE: "1" } });
 }
 async function read(browser, host, serve) {
   const folder = fs.mkdtempSync(path.join(os.tmpdir(), "profile-"));
-  if (NOBODY.uid) fs.chownSync(folder, NOBODY.uid, NOBODY.gid);
   let child = null, timer = null, server = null;
   try {
     return await new Promise((done, failed) => {
