@@ -21,11 +21,7 @@ use std::io::Write;
 /// Writes the text of what the policy leaves of the children of the root, the text that
 /// `clean_tree` returns. After an error, a beginning of it is written. Fails with `Write` if the
 /// writer failed, was interrupted or accepted no bytes, and with `Memory` if memory is refused.
-pub fn write_clean_tree<W: Write>(
-    tree: &Tree,
-    policy: &Policy,
-    w: &mut W,
-) -> Result<(), WriteFault>
+pub fn write_clean_tree<W: Write>(tree: &Tree, policy: &Policy, w: &mut W) -> Result<(), WriteFault>
     ensures { Writes (W.contents w.old) (W.contents w.new) result
         (text_of (cleaned_below policy.now tree.now 0)) }
 {

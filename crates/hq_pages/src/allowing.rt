@@ -86,7 +86,10 @@ fn is_name(text: &str) -> bool {
         return false;
     }
     for byte in text.as_bytes() {
-        if matches!(*byte, b'[' | b']' | b'=' | b'"' | b'\'' | b'<' | b'>' | b'/') {
+        if matches!(
+            *byte,
+            b'[' | b']' | b'=' | b'"' | b'\'' | b'<' | b'>' | b'/'
+        ) {
             return false;
         }
         if byte.is_ascii_whitespace() {

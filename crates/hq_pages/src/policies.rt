@@ -20,9 +20,7 @@ pub fn policy_of(rt: &HostRuntime, matches: &ArgMatches<'_>) -> Result<Option<Po
     let changes = matches.get_strs("allow").is_some() || matches.get_strs("deny").is_some();
     if !matches.get_flag("sanitize") {
         if file.is_some() || changes {
-            return Err(Fault::Usage(
-                "--policy, --allow and --deny: only with --sanitize",
-            ));
+            return Err(Fault::Usage("--policy, --allow and --deny: only with --sanitize"));
         }
         return Ok(None);
     }

@@ -2,8 +2,7 @@
 
 use dom_query::{OutOfMemory, PolicyFault};
 use std::alloc::{AllocError, AllocFailed};
-use std::fmt;
-use std::io;
+use std::{fmt, io};
 
 /// What is wrong with the rules of `--sanitize`.
 #[derive(Drop)]
