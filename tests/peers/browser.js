@@ -25,6 +25,9 @@ async function read(browser, host, serve) {
   try {
     return await new Promise((done, failed) => {
       server = serve(done);
+      // A browser that gets little time of the processors would use a connection that was closed meanwhile.
+      server.keepAliveTimeout = LIMIT * 60000;
+      server.requestTimeout = 0;
       server.listen(0, "127.0.0.1", () => {
         child = started(browser, host, server.address().port, folder);
         child.on("error", failed);

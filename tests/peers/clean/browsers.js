@@ -10,7 +10,7 @@
 //
 // Afterwards a twentieth of the fragments are read as they were, without cleaning: there scripts run and requests are made, so the
 // harness can see both. The browsers send all requests through a proxy that this program is, so each is seen, for any host.
-// Needs Debian's chromium, firefox-esr and node-parse5 (NODE_PATH=/usr/share/nodejs); runs headless, in new profiles below /tmp.
+// With CASES=FILE the cases are kept in that file, and taken from it if it is there. Needs Debian's chromium, firefox-esr and node-parse5 (NODE_PATH=/usr/share/nodejs); runs headless, in new profiles below /tmp.
 "use strict";
 const fs = require("fs");
 const path = require("path");
@@ -246,7 +246,9 @@ function tell(browser, cases, seen) {
   return bad.length + found.length + seen.hits.length + strange.length === 0 && seen.control.hits.length > 0 && seen.control.requests.length > 0;
 }
 async function main() {
-  const cases = allCases();
+  const kept = process.env.CASES;
+  const cases = kept && fs.existsSync(kept) ? JSON.parse(fs.readFileSync(kept)) : allCases();
+  if (kept) fs.writeFileSync(kept, JSON.stringify(cases));
   console.log(`${cases.length} cases, ${cases.reduce((sum, it) => sum + it.text.length, 0)} characters`);
   let good = true;
   for (const browser of browsers) {
