@@ -36,11 +36,11 @@ async function read(browser, host, serve) {
     });
   } finally {
     clearTimeout(timer);
-    if (child) child.kill();
+    if (child) child.kill("SIGKILL");
     server.closeAllConnections();
     server.close();
     await new Promise((done) => setTimeout(done, 1500));
-    fs.rmSync(folder, { recursive: true, force: true, maxRetries: 5, retryDelay: 500 });
+    try { fs.rmSync(folder, { recursive: true, force: true, maxRetries: 5, retryDelay: 500 }); } catch (fault) { console.error(`${folder} is left: ${fault.code}`); }
   }
 }
 module.exports = { read };

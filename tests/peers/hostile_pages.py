@@ -1,10 +1,11 @@
 """Five hostile pages, each of which once took time by the square of its size, read by hq beside html5ever and parse5, in one run.
 
-    hostile_pages.py HQ PEER [LIMIT]
+    hostile_pages.py HQ PEER [LIMIT [PAGE..]]
 
 PEER is the program of clean/ammonia (clean/times.py says how it is built), which reads a page by html5ever. parse5 is Debian's node-parse5
-7.1.2 (NODE_PATH=/usr/share/nodejs). The processor time of each process counts, after LIMIT seconds (120 by default) it is ended. The last
-column is the exponent by which hq's time grows from a page of half the size, measured by instructions (callgrind) if valgrind is there."""
+7.1.2 (NODE_PATH=/usr/share/nodejs). The processor time of each process counts; after LIMIT seconds of it (120 by default) the process is ended. The
+last column is the exponent by which hq's time grows from a page of half the size, by instructions (callgrind) if valgrind is there. PAGE
+is the number of a page, from 0 on; without one, all are read."""
 import math
 import os
 import re
@@ -27,11 +28,11 @@ def seconds(words, page, limit):
     with tempfile.TemporaryFile() as given:
         given.write(page.encode())
         given.seek(0)
-        child = subprocess.Popen(["timeout", "-s", "KILL", str(limit), *words], stdin=given, stdout=subprocess.DEVNULL, stderr=subprocess.DEVNULL)
+        child = subprocess.Popen(["prlimit", f"--cpu={limit}", *words], stdin=given, stdout=subprocess.DEVNULL, stderr=subprocess.DEVNULL)
         _, status, usage = os.wait4(child.pid, 0)
         child.returncode = os.waitstatus_to_exitcode(status)
         took = usage.ru_utime + usage.ru_stime
-        return took, "" if child.returncode in (0, 1) else f" (status {child.returncode})"
+        return took, "" if child.returncode in (0, 1) else f" (ended, status {child.returncode})"
 
 
 def instructions(words, page):
@@ -46,8 +47,8 @@ def instructions(words, page):
         return int(re.search(r"Collected : (\d+)", done.stderr)[1])
 
 
-def main(hq, peer, limit=120):
-    for name, n, made, words in PAGES:
+def main(hq, peer, limit=120, *numbers):
+    for name, n, made, words in [PAGES[int(at)] for at in numbers] or PAGES:
         page = made(n)
         programs = {"hq": [hq, *words], "html5ever": [peer, "parse"], "parse5": ["node", "--stack-size=50000", "-e", PARSE5]}
         found = {who: seconds(run, page, limit) for who, run in programs.items()}

@@ -1,16 +1,17 @@
 // browsers.js PROGRAM COUNT SEED BROWSER ..: random hostile fragments (fragments.js) and the attacks of attacks.json are cleaned by
 // PROGRAM, which is test_clean, and each BROWSER (chromium, firefox-esr) reads what is left. It reads each cleaned text in the body
-// of a page, as `innerHTML` of a div, body, td, li and blockquote, and in a template, where scripts are off; and each page that
-// `test_clean page` writes. What has to be found:
+// of a page, 25 of them in one page with a `wbr` between them; as `innerHTML` of a div, body, td, li and blockquote; and in a template,
+// where scripts are off. It also reads the page that `test_clean page` writes of every 25th fragment. What has to be found:
 //
 // - the browser's tree, written as explicit markup, is the text;
 // - no script runs: each `alert` of a fragment calls `hit` of the outermost window;
 // - no request is made but for the addresses of `src`, `background` and `poster` that the policy leaves; half of the policies leave none;
 // - each address that is left leads to an allowed scheme by the browser's own URL parser, and no `on..` attribute is there.
 //
-// Afterwards a twentieth of the fragments are read as they were, without cleaning: there scripts run and requests are made, so the
-// harness can see both. The browsers send all requests through a proxy that this program is, so each is seen, for any host.
-// With CASES=FILE the cases are kept in that file, and taken from it if it is there. Needs Debian's chromium, firefox-esr and node-parse5 (NODE_PATH=/usr/share/nodejs); runs headless, in new profiles below /tmp.
+// Afterwards every 25th fragment is read as it was, without cleaning: there scripts run and requests are made, so the harness can
+// see both. The browsers send all requests through a proxy, which this program is, so each is seen, for any host. With CASES=FILE
+// the cases are kept in that file, and taken from it if it is there. Needs Debian's chromium, firefox-esr and node-parse5
+// (NODE_PATH=/usr/share/nodejs); runs without a window, in new profiles below /tmp.
 "use strict";
 const fs = require("fs");
 const path = require("path");
@@ -21,6 +22,8 @@ const { maker } = require("./fragments.js");
 const { policyOf } = require("./model.js");
 const [program, count, seed, ...browsers] = [process.argv[2], Number(process.argv[3]), Number(process.argv[4]), ...process.argv.slice(5)];
 const HOST = "harness.example";
+// so many cleaned texts are read in one page
+const BATCH = 25;
 const HOSTS = [HOST, "h", "base.example"];
 
 // ---- cases: cleaned texts, pages, and sources
@@ -95,51 +98,51 @@ function active(root, schemes) {
   return found;
 }
 const later = (time) => new Promise((done) => setTimeout(done, time));
-function frameOf(address) {
+function frameOf(address, most = 60000) {
   const frame = document.createElement("iframe");
-  const loaded = new Promise((done) => { frame.onload = done; setTimeout(done, 4000); });
+  const loaded = new Promise((done) => { frame.onload = done; setTimeout(done, most); });
   frame.src = address;
   document.body.append(frame);
   return loaded.then(() => frame);
 }
-async function one(n, it) {
-  const bad = [], found = [];
-  const seen = (place, text, wanted, root) => {
-    if (text !== wanted) bad.push({ place, text, wanted });
-    for (const what of active(root, it.schemes)) found.push({ place, what });
+// the cases from number n on: all texts in one page, each as innerHTML, and one of their pages
+async function several(n, cases) {
+  const results = cases.map((it, i) => ({ n: n + i, bad: [], found: [] }));
+  const seen = (result, place, text, wanted, root, schemes) => {
+    if (text !== wanted) result.bad.push({ place, text, wanted });
+    for (const what of root ? active(root, schemes) : []) result.found.push({ place, what });
   };
-  now = "page " + n;
-  let frame = await frameOf("/case/" + n);
+  now = "batch " + n;
+  let frame = await frameOf("/batch/" + n);
   let page = frame.contentDocument;
   const whole = page.doctype && page.documentElement.childNodes.length === 2 && page.documentElement.attributes.length === 0 && page.body && page.body.attributes.length === 0 && page.head.childNodes.length === 0 && page.childNodes.length === 2;
-  seen("page", whole ? written(page.body.childNodes) : "another page", it.text, page);
+  const shown = whole ? written(page.body.childNodes).split('<wbr data-next="">') : [];
+  cases.forEach((it, i) => seen(results[i], "page", shown.length === cases.length ? shown[i] : "another page", it.text, i ? null : page, it.schemes));
   frame.remove();
   now = "clean_page " + n;
   frame = await frameOf("/page/" + n);
-  page = frame.contentDocument;
-  seen("clean_page", written(page.childNodes), it.page, page);
+  seen(results[0], "clean_page", written(frame.contentDocument.childNodes), cases[0].page, frame.contentDocument, cases[0].schemes);
   frame.remove();
   frame = await frameOf("/host/" + n);
   page = frame.contentDocument;
-  for (const place of ["div", "body", "td", "li", "blockquote", "template"]) {
-    now = place + " " + n;
+  for (let i = 0; i < cases.length; i++) for (const place of ["div", "td", "li", "blockquote", "template", "body"]) {
+    now = place + " " + (n + i);
     const holder = place === "body" ? page.body : page.createElement(place);
     if (place !== "body") page.body.append(holder);
-    holder.innerHTML = it.text;
-    seen(place, written((holder.content || holder).childNodes), it.text, holder.content || holder);
-    await later(0);
+    holder.innerHTML = cases[i].text;
+    seen(results[i], place, written((holder.content || holder).childNodes), cases[i].text, holder.content || holder, cases[i].schemes);
   }
-  await later(5);
+  await later(20);
   frame.remove();
-  return { n, bad, found };
+  return results;
 }
 async function uncleaned(n, it) {
   now = "uncleaned page " + n;
-  let frame = await frameOf("/raw/" + n);
+  let frame = await frameOf("/raw/" + n, 4000);
   await later(30);
   frame.remove();
   now = "uncleaned div " + n;
-  frame = await frameOf("/rawhost/" + n);
+  frame = await frameOf("/rawhost/" + n, 4000);
   const holder = frame.contentDocument.createElement("div");
   frame.contentDocument.body.append(holder);
   holder.innerHTML = it.source;
@@ -149,21 +152,19 @@ async function uncleaned(n, it) {
 const post = (address, value) => fetch(address, { method: "POST", body: JSON.stringify(value) });
 (async () => {
   const total = (await (await fetch("/total")).json()).total;
-  for (let from = 0; from < total; from += 50) {
+  for (let from = 0; from < total; from += ${BATCH}) {
     const cases = await (await fetch("/cases/" + from)).json();
-    const results = [];
-    for (let i = 0; i < cases.length; i++) {
-      try { results.push(await one(from + i, cases[i])); }
-      catch (fault) { results.push({ n: from + i, bad: [{ place: now, text: String(fault) }], found: [] }); }
-    }
+    let results = [];
+    try { results = await several(from, cases); }
+    catch (fault) { results = [{ n: from, bad: [{ place: now, text: String(fault) }], found: [] }]; }
     await post("/result", { results, hits: hits.splice(0) });
   }
   await later(3000);
   await post("/result", { results: [], hits: hits.splice(0) });
   await post("/control", {});
-  for (let from = 0; from < total; from += 50) {
+  for (let from = 0; from < total; from += ${BATCH}) {
     const cases = (await (await fetch("/cases/" + from)).json());
-    for (let i = 0; i < cases.length; i += 20) try { await uncleaned(from + i, cases[i]); } catch (fault) { hits.push(String(fault)); }
+    for (let i = 0; i < cases.length; i += ${BATCH}) try { await uncleaned(from + i, cases[i]); } catch (fault) { hits.push(String(fault)); }
     await post("/control", { hits: hits.splice(0) });
   }
   await later(2000);
@@ -172,6 +173,7 @@ const post = (address, value) => fetch(address, { method: "POST", body: JSON.str
 </script>`;
 
 // ---- the server, which is also the proxy
+const batch = (cases, number) => cases.slice(Number(number), Number(number) + BATCH);
 const SHELL = "<!DOCTYPE html><html><head></head><body>";
 function serve(cases, report) {
   const own = {};
@@ -192,6 +194,7 @@ function serve(cases, report) {
   };
   const posted = (name, value, response) => {
     if (name === "result") { seen.results.push(...value.results); seen.hits.push(...value.hits); process.stderr.write(`\r${seen.results.length} of ${cases.length} `); }
+    if (name === "control" && !seen.control) told(cases, seen);
     if (name === "control") { seen.control = seen.control || { hits: [], requests: [] }; seen.control.hits.push(...(value.hits || [])); }
     if (name === "done") { seen.control.hits.push(...value.hits); seen.agent = value.agent; seen.own = own; report(seen); }
     json(response, {});
@@ -210,8 +213,8 @@ function serve(cases, report) {
     }
     if (name === "" && number === "") return answer(response, HARNESS);
     if (name === "total") return json(response, { total: cases.length });
-    if (name === "cases") return json(response, cases.slice(Number(number), Number(number) + 50));
-    if (name === "case" && it) return answer(response, `${SHELL}${it.text}</body></html>`);
+    if (name === "cases") return json(response, cases.slice(Number(number), Number(number) + BATCH));
+    if (name === "batch" && it) return answer(response, `${SHELL}${batch(cases, number).map((one) => one.text).join("<wbr data-next>")}</body></html>`);
     if (name === "page" && it) return answer(response, it.page);
     if (name === "raw" && it) return answer(response, `${SHELL}${it.source}</body></html>`);
     if ((name === "host" || name === "rawhost") && it) return answer(response, `${SHELL}</body></html>`);
@@ -226,29 +229,35 @@ function serve(cases, report) {
 }
 
 // ---- what was found
-const number = (address) => Number((/\/(?:case|page|host)\/(\d+)$/.exec(address) || [])[1]);
+const number = (address) => (/\/(?:batch|page|host)\/(\d+)$/.exec(address) || [])[1];
+const plain = (value) => value.replace(/&lt;/g, "<").replace(/&gt;/g, ">").replace(/&quot;/g, '"').replace(/&nbsp;/g, "\u00a0").replace(/&amp;/g, "&");
 function explained(cases, noted) {
-  const it = cases[number(noted.from)];
-  if (!it || it.quiet) return false;
-  const values = [...(it.text + it.page).matchAll(/ (?:src|background|poster)="([^"]*)"/g)].map((found) => found[1].replace(/&lt;/g, "<").replace(/&gt;/g, ">").replace(/&quot;/g, '"').replace(/&nbsp;/g, "\u00a0").replace(/&amp;/g, "&"));
+  // (where the frame is gone, the page around it is named)
+  const from = number(noted.from);
+  const values = (from === undefined ? cases : batch(cases, from)).filter((it) => !it.quiet).flatMap((it) => [...(it.text + it.page).matchAll(/ (?:src|background|poster)="([^"]*)"/g)].map((found) => plain(found[1])));
   return values.some((value) => { try { const url = new URL(value, noted.from); url.hash = ""; return url.href === noted.url; } catch (fault) { return false; } });
 }
-function tell(browser, cases, seen) {
+// what was found of the cleaned texts, before the others are read
+function told(cases, seen) {
   const bad = seen.results.flatMap((it) => it.bad.map((one) => ({ n: it.n, ...one })));
   const found = seen.results.flatMap((it) => it.found.map((one) => ({ n: it.n, ...one })));
   const strange = seen.requests.filter((noted) => !explained(cases, noted));
-  console.log(`${browser}: ${seen.agent}`);
-  console.log(`  ${seen.results.length} fragments in 8 places, ${cases.filter((it) => it.text).length} with a text, ${cases.filter((it) => it.quiet).length} by policies without loaded addresses`);
+  console.log(`  ${seen.results.length} fragments in 7 places, ${cases.filter((it) => it.text).length} of ${cases.length} with a text, ${cases.filter((it) => it.quiet).length} by policies without loaded addresses`);
   console.log(`  trees that differ: ${bad.length}; scripts run: ${seen.hits.length}; active parts: ${found.length}; requests: ${seen.requests.length}, not for an allowed address: ${strange.length}`);
   for (const [name, list] of Object.entries({ bad, found, hits: seen.hits, strange })) for (const one of list.slice(0, 8)) console.log("  ", name, JSON.stringify({ ...one, ...(one.n === undefined ? {} : { lines: cases[one.n].lines, source: cases[one.n].source }) }));
-  console.log(`  control, ${Math.ceil(cases.length / 20)} of the fragments not cleaned: scripts run: ${seen.control.hits.length}; requests: ${seen.control.requests.length}`);
-  console.log(`  requests of the browser's own: ${JSON.stringify(seen.own)}`);
-  return bad.length + found.length + seen.hits.length + strange.length === 0 && seen.control.hits.length > 0 && seen.control.requests.length > 0;
+  return bad.length + found.length + seen.hits.length + strange.length === 0;
+}
+function tell(browser, cases, seen) {
+  const good = told(cases, seen);
+  console.log(`  control, ${Math.ceil(cases.length / BATCH)} of the fragments not cleaned: scripts run: ${seen.control.hits.length}; requests: ${seen.control.requests.length}`);
+  console.log(`  requests of the browser's own, ${browser}, ${seen.agent}: ${JSON.stringify(seen.own)}`);
+  return good && seen.control.hits.length > 0 && seen.control.requests.length > 0;
 }
 async function main() {
   const kept = process.env.CASES;
   const cases = kept && fs.existsSync(kept) ? JSON.parse(fs.readFileSync(kept)) : allCases();
   if (kept) fs.writeFileSync(kept, JSON.stringify(cases));
+  cases.sort((a, b) => a.quiet - b.quiet);
   console.log(`${cases.length} cases, ${cases.reduce((sum, it) => sum + it.text.length, 0)} characters`);
   let good = true;
   for (const browser of browsers) {

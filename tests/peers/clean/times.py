@@ -43,7 +43,7 @@ def instructions(words, page):
 
 
 def in_python(page):
-    """Cleaners of Python: the name, the time in ms of one call, and the length of what is left."""
+    """Prints for each cleaner of Python the time of one call, and the length of what is left."""
     text = pathlib.Path(page).read_text(encoding="utf-8", errors="replace")
     made = {}
     try:
@@ -64,7 +64,7 @@ def in_python(page):
             left = len(call())
         except Exception as fault:
             left = repr(fault)[:80]
-        yield name, (time.process_time() - began) * 1000, left
+        print(f"  {name:20} {(time.process_time() - began) * 1000:9.1f} ms, {left} characters", flush=True)
 
 
 def main(ours, peer, runs, *pages):
@@ -82,9 +82,12 @@ def main(ours, peer, runs, *pages):
         ratio = [a / b for a, b in zip(best["test_clean"][:2], best["ammonia"][:2])]
         of_counts = counts["test_clean"] / counts["ammonia"] if counts["ammonia"] else 0
         print(f"  test_clean / ammonia: time {ratio[0]:.2f}, memory {ratio[1]:.2f}, instructions {of_counts:.2f}", flush=True)
-        for name, took, left in in_python(page):
-            print(f"  {name:20} {took:9.1f} ms, {left} characters", flush=True)
+        # (in a process of its own, since the memory of this one counts for those that it starts)
+        subprocess.run([sys.executable, __file__, "python", page])
 
 
 if __name__ == "__main__":
-    main(*sys.argv[1:])
+    if sys.argv[1:2] == ["python"]:
+        in_python(sys.argv[2])
+    else:
+        main(*sys.argv[1:])
