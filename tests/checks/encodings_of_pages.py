@@ -1,7 +1,8 @@
 """Decoders and labels of encodings, asked by the program `test_encodings`. tests/data/encodings.json.gz holds the labels and the
 indexes of the Encoding Standard: each label, each byte of each single-byte encoding and each pointer of each index is asked.
 The texts of pieces of any size are those of the whole, also of every prefix of a text, and what long hostile bytes take grows
-no more than in proportion. `run()` returns how many passed and how many failed."""
+no more than in proportion. The program `test_batch` parses pages whole and in pieces that are cut at every place. `run()` returns
+how many passed and how many failed."""
 import os
 import pathlib
 import random
@@ -17,6 +18,7 @@ import decoders  # noqa: E402
 import prescan  # noqa: E402
 
 PROGRAM = TESTS.parent / "crates" / "test_encodings" / "out" / "test_encodings"
+PAGES = TESTS.parent / "crates" / "test_batch" / "out" / "test_batch"
 DATA = prescan.ALL
 ERROR = "\ufffd"
 SECONDS = 60
@@ -134,6 +136,30 @@ DECLARED = [
     (b" " * 1006 + b"<meta charset=gbk>", "GBK"),
     (b" " * 1007 + b"<meta charset=gbk>", ""),
     (b"", ""),
+]
+
+
+# Undeclared pages in pieces: the bytes, and the encoding that the first 1,024 bytes or the first that aren't ASCII decide.
+BOTH = "caf\xe9"
+GUESSED = [
+    (b"", "UTF-8"),
+    (b"<p>", "UTF-8"),
+    (BOTH.encode(), "UTF-8"),
+    (BOTH.encode("latin-1"), "windows-1252"),
+    (b"caf\xc3", "windows-1252"),
+    (b" " * 1020 + BOTH.encode(), "UTF-8"),
+    (b" " * 1020 + BOTH.encode() + b"\xe9", "UTF-8"),
+    (b" " * 1019 + BOTH.encode() + b"\xe9", "UTF-8"),
+    (b" " * 1018 + BOTH.encode() + b"\xe9" + b" " * 9, "UTF-8"),
+    (b" " * 1018 + BOTH.encode() + b"\xff" + b" " * 9, "windows-1252"),
+    (b" " * 1024 + BOTH.encode(), "UTF-8"),
+    (b" " * 1024 + BOTH.encode("latin-1"), "windows-1252"),
+    (b" " * 5000 + BOTH.encode() + b" \xe9", "UTF-8"),
+    (b" " * 5000 + BOTH.encode() + b"\xe9 ", "windows-1252"),
+    (b" " * 5000 + BOTH.encode("latin-1"), "windows-1252"),
+    (b" " * 5000 + b"\xf0\x9f\x98\x80", "UTF-8"),
+    (b" " * 5000 + b"\xf0\x9f\x98", "windows-1252"),
+    (b" " * 5000, "UTF-8"),
 ]
 
 
@@ -263,6 +289,31 @@ def pieces(counts):
             counts.compare(f"{name} by {size}", records, ask(["pieces", name, str(size)], records), whole)
 
 
+def parsed(size, label, pages):
+    """What `test_batch` prints of each page, in pieces of that size or whole (0)."""
+    given = "".join(page.hex() + "\n" for page in pages).encode()
+    words = [PAGES, "bulk", "encoded", str(size), *([label] if label else [])]
+    done = subprocess.run(words, input=given, stdout=subprocess.PIPE, timeout=SECONDS)
+    assert done.returncode == 0, (words, done.returncode)
+    return done.stdout.decode().split("\n")[:-1]
+
+
+def pages_in_pieces(counts):
+    """Pages are the same whole and in pieces: those that come with an encoding, those that declare one, and those with a byte order
+    mark, cut at every place. Where nothing says the encoding, it is decided by the first bytes."""
+    for name in MULTI + ["windows-1252", "x-user-defined"]:
+        text = b"<!DOCTYPE html><title>" + TEXTS.get(name, b"caf\xe9\x80\x81") + b"</title><p>b"
+        pages = [text, b"<meta charset=" + name.encode() + b">" + text, b"\xef\xbb\xbf" + text, b"\xff\xfe" + text, text[:20], b""]
+        for label in ("iso-2022-kr" if name == "replacement" else name, ""):
+            whole = parsed(0, label, pages)
+            for size in range(1, len(text) + 1):
+                counts.compare(f"{name}, {label!r} by {size}", pages, parsed(size, label, pages), whole)
+    pages = [page for page, _ in GUESSED]
+    for size in (1, 2, 3, 1000, 1023, 1024, 1025, 4999, 9999):
+        got = [answer.rsplit(" ", 2)[0].rsplit(" ", 1)[1] for answer in parsed(size, "", pages)]
+        counts.compare(f"guessed by {size}", pages, got, [name for _, name in GUESSED])
+
+
 def soups(counts):
     choice = random.Random(SEED)
     pages = [prescan.soup(choice) for _ in range(SOUPS)]
@@ -296,7 +347,7 @@ def hostile(counts):
 
 def run():
     counts = Counts()
-    for check in (labels, pointers, ranges, rows, pieces, soups, hostile):
+    for check in (labels, pointers, ranges, rows, pieces, pages_in_pieces, soups, hostile):
         check(counts)
     return counts.passed, counts.failed
 

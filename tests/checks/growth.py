@@ -28,7 +28,7 @@ LITTLE = 0.04
 # An exponent that docs/PERFORMANCE.md explains.
 STEEP = 1.2
 # The patterns that grow too fast for the check; docs/PERFORMANCE.md says why.
-KNOWN = {"formatting: a over many div, closed", "formatting: three of each font, then each again"}
+KNOWN = {"formatting: a over many span and div, closed", "formatting: three of each font, then each again"}
 
 TEXT, HTML, MD, JSON, COUNT = ["--text"], ["--html"], ["--md"], ["--json"], ["--count"]
 CLEAN = ["--sanitize", "--html"]
@@ -133,6 +133,8 @@ PATTERNS = {
     "formatting: b over p, closed": (page("<b><p>", closing="</b>"), COUNT + NONE),
     "formatting: b with other attributes over div, closed": (page("<b x={i}><div>", closing="</b>"), COUNT + NONE),
     "formatting: a over many div, closed": (page("<div>", "<a>", closing="</a>"), COUNT + NONE),
+    "formatting: a over many div, closed, with text": (page("<div>", "<a>", closing="</a>x"), COUNT + NONE),
+    "formatting: a over many span and div, closed": (page("<span><div>", "<a>", closing="</a>"), COUNT + NONE),
     "formatting: i over b over p": (page("<i><b><p></i>"), COUNT + NONE),
     "formatting: b closed by p": (page("<p><b>"), COUNT + NONE),
     "formatting: i over spans and div": (page("<span>", "<i>", "<div></i>"), COUNT + NONE),

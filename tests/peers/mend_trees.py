@@ -7,7 +7,9 @@
 - "any other end tag" looks for an HTML element of that name;
 - "in body", the content of `noframes` is text;
 - in a fragment, the content of `noscript` is text only with scripting;
-- `feDropShadow` is an SVG element.
+- `feDropShadow` is an SVG element;
+- in foreign content, each null character is replaced by one U+FFFD, also where several are side by side;
+- in foreign content of a fragment, an end tag for which only the topmost element is left is processed by the current insertion mode.
 
 table_rows.py knows of one more: parse5 7.1.2 doesn't know the element `search`."""
 import pathlib
@@ -29,6 +31,12 @@ CHANGES = {
             "            p._appendElement(token, html_js_1.NS.HTML);\n            break;\n        }\n"
             "        case html_js_1.TAG_ID.INPUT:\n        case html_js_1.TAG_ID.KEYGEN:\n        case html_js_1.TAG_ID.TEXTAREA:\n        case html_js_1.TAG_ID.SELECT: {\n",
         ),
+        (
+            "    for (let i = p.openElements.stackTop; i > 0; i--) {\n        const element = p.openElements.items[i];\n        if (p.treeAdapter.getNamespaceURI",
+            "    for (let i = p.openElements.stackTop; i > 0 || (i === 0 && p.openElements.stackTop > 0); i--) {\n"
+            "        const element = p.openElements.items[i];\n        if (p.treeAdapter.getNamespaceURI",
+        ),
+        ("    token.chars = unicode.REPLACEMENT_CHARACTER;\n", "    token.chars = unicode.REPLACEMENT_CHARACTER.repeat(token.chars.length);\n"),
         ("        this.currentNotInHTML = !isHTML;\n", "        this.currentNotInHTML = !isHTML;\n        this.tokenizer.allowsCdata = !isHTML;\n"),
         (
             "        if (tid === elementId && (tid !== html_js_1.TAG_ID.UNKNOWN || p.treeAdapter.getTagName(element) === tn)) {\n",

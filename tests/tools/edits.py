@@ -364,7 +364,8 @@ class Trial:
             print(f"must-fail {edit.name}: refused: {line[:160]}", flush=True)
             self.refusals.keep(self.crate, edit, line[:160])
         if len(edits) == 1 and not shown:
-            print(f"must-fail {edits[0].name}: NOT REFUSED", flush=True)
+            why = "NOT REFUSED" if said else "NOT TRIED, for the prover was not reached"
+            print(f"must-fail {edits[0].name}: {why}", flush=True)
             self.wrong += edits
         missed = [it for it in edits if it not in shown and it not in self.wrong]
         if said and not shown:
@@ -441,6 +442,10 @@ class Trials:
     def count(self, crate, proved):
         """Tries a crate's edits, and returns how many were refused and how many weren't."""
         files = sorted((EDITS / crate.name).glob("*.edit"))
+        missing = [low.name for low in crate.below() if not os.path.isdir(low.rlib)]
+        if missing:
+            print(f"must-fail {crate.name}: not tried, for these libraries below it aren't built: {', '.join(missing)}", flush=True)
+            return 0, len(files)
         try:
             edits = [Edit(file, pathlib.Path(crate.folder)) for file in files]
             bad = [it for it in edits if it.fault]

@@ -18,8 +18,8 @@ PAGE = ROOT / "docs" / "REFERENCE.md"
 # The names of each part of the page, in order. A name that no part has comes last.
 PARTS = {
     "Reading": (
-        "parse_page parse_page_bytes parse_page_fragment PageParser Options Context read_page ReadPage Charset Fallback Confidence "
-        "Encoding decode_page PageText Document Snippet Tokens Token TokenKind QuirksMode TreeSink NodeOrText ElementFlags"
+        "parse_page parse_page_bytes parse_page_fragment PageParser Options Context read_page ReadPage PageByteParser Charset Fallback "
+        "Confidence Encoding decode_page PageText Document Snippet Tokens Token TokenKind QuirksMode TreeSink NodeOrText ElementFlags"
     ),
     "Finding": (
         "DocumentSelect Selection Selections Matcher MatchNode NodeSelect DescendantMatches Matches MatcherIter InnerSelector "
@@ -32,7 +32,10 @@ PARTS = {
         "AncestorNodes DescendantNodes child_nodes ancestor_nodes descendant_nodes"
     ),
     "Editing": "NodeMut NodeMutMarkup NodeEdit SelectionMut Place NodeFragment",
-    "Sanitising": "clean clean_page clean_tree Policy PolicyFault Rules sanitize sanitize_tree Allow",
+    "Sanitising": (
+        "clean clean_page clean_bytes clean_page_bytes clean_tree clean_document write_clean_tree CleanedBytes "
+        "Policy PolicyFault Rules sanitize sanitize_tree Allow"
+    ),
     "Writing": (
         "NodeMarkup SerializableNodeRef TraversalScope NodeMd DocumentMd SelectionMd serialize_md MDSerializer FormatOpts "
         "EmphasisScope ListContext ListKind push_escaped_chunk escape_table_cell_inplace fence_len html_escape"

@@ -1,4 +1,4 @@
-"""Reads the tables of the crates that read pages: arrays of names and identifiers, and functions that match names of elements.
+"""Reads the tables of the crates that read and clean pages: arrays of names and identifiers, and functions that match names.
 
 An entry is a text such as `QUIRKY: -//sq//dtd html 2.0 hotmetal + extensions//` or `in table: td`. Each has a row in
 tests/rows/hq/tables_*.jsonl, whose field `entry` is that text (`in table: <td>` and `in table: </td>` for a start and an end tag).
@@ -7,7 +7,7 @@ import re
 
 from rows import ROOT
 
-CRATES = ("html5_tokens", "html5_trees", "hq_pages")
+CRATES = ("html5_tokens", "html5_trees", "dom_clean", "hq_pages")
 ARRAY = re.compile(r"^[ ]*(?:pub )?(?:static|const) (\w+): \[(?:[^;\]]|\[[^\]]*\])+; ?\w+\] = \[(.*?)\];", re.M | re.S)
 FUNCTION = re.compile(r"^( *)(?:pub(?:\(\w+\))? )?fn (\w+)", re.M)
 STRING = re.compile(r'"((?:[^"\\]|\\.)*)"')
@@ -135,6 +135,7 @@ OTHER_ARRAYS = {
     "CODES": "parse errors; tests/rows/test_batch/noted.jsonl has each",
     "NAMED": "the categories of element_kinds.rt; the names in each have the rows `calm`",
     "KNOWN": "names by their number in the tree; each name has rows",
+    "VOID_NAMES": "they are proved to be those of the writer of HTML",
 }
 # Options that no row can show, with what shows them.
 OTHER_OPTIONS = {
@@ -212,13 +213,15 @@ def known_functions():
 
 
 def text_entries():
-    """The entries of the arrays of texts and characters, each as (array, text); of an array of tuples it is the first text."""
+    """The entries of the arrays of texts and characters, each as (array, text); of an array of tuples it is the first text, and of
+    the attributes of one element both."""
     for crate, name, inside in arrays():
         if name in OTHER_ARRAYS or name in NAME_ARRAYS:
             continue
-        prefix = {"ADDRESSES": "--base" if "longdesc" in inside else "--sanitize"}.get(name, "")
-        label = f"{prefix} {name}".strip()
-        if "(" in inside and name not in ("FORMATS",):
+        label = "--base ADDRESSES" if name == "ADDRESSES" else name
+        if name == "OWN_ATTRIBUTES":
+            texts = [f"{element} {attribute}" for element, attribute in pairs(inside)]
+        elif "(" in inside and name not in ("FORMATS",):
             texts = [STRING.search(line)[1] for line in re.findall(r"\(\s*\"[^)]*", inside)]
         elif name in ("WINDOWS", "SPACES"):
             texts = [str(at) for at in range(len(re.findall(r"'(?:[^'\\]|\\.[^']*)'", inside)))]
@@ -236,7 +239,7 @@ def matched_texts():
         for name, body in functions(text):
             if name == "names" and file.name == "element_kinds.rt":
                 yield from (("calm", it) for it in STRING.findall(body))
-            if name in ("is_harmless_scheme", "mathml_attr"):
+            if name in ("is_refused_attribute", "may_lead", "mathml_attr"):
                 found = dict.fromkeys(STRING.findall(body))
                 yield from ((name, it) for it in found if it != "definitionURL")
 

@@ -361,33 +361,65 @@ def address_rows(entries):
         yield {**row, "markup": f"<p {name}=d>", "output": output}
 
 
+# Elements that have no end tag, of those that a policy may allow.
+VOID = "area br col hr img input source track wbr".split()
+
+
+def cleaned(args, markup, output):
+    """A row of --sanitize that prints what is in the body, on one line."""
+    return {"args": ["--sanitize", *args, "--inner", "body"], "markup": markup, "output": f"{output}\n"}
+
+
+def placed(name, attributes=""):
+    """An element of that name, which a policy may allow, where it may stand, with these attributes."""
+    markup = CALM.get(name, f"<{name}>" if name in VOID else f"<{name}>x</{name}>")
+    return markup.replace(f"<{name}>", f"<{name}{attributes}>", 1)
+
+
+def linked(markup):
+    """The markup as the common rules leave it: links get a `rel`."""
+    return re.sub(r"<(a|area)((?: [^>]*)?)>", r'<\1\2 rel="noopener noreferrer">', markup)
+
+
 def cleaning_rows(entries):
-    """Each element and attribute that --sanitize keeps, each element that it drops, and each address that it keeps or removes."""
+    """Each element and attribute that the common rules of the crate dom_clean keep, each that may be allowed besides, each attribute
+    that holds an address, and each scheme that an address may have."""
+    common = [text for array, text in entries if array == "ELEMENTS"]
     for array, text in entries:
-        row = {"entry": f"{array}: {text}", "args": ["--explicit", "--sanitize", "x-y, *"]}
+        rows = []
         if array == "ELEMENTS":
-            tag = f"<{text}>" if text in "br col hr img wbr".split() else f"<{text}>1</{text}>"
-            yield {**row, "markup": tag, "output": f"{tag}\n"}
-        if array == "ATTRS":
-            yield {**row, "markup": f'<p {text}="1" {text}x="2" x{text}="3">4</p>', "output": f'<p {text}="1">4</p>\n'}
+            rows.append(cleaned([], placed(text), linked(placed(text))))
+        if array == "KEEPABLE":
+            rows.append(cleaned(["--allow", text], placed(text), linked(placed(text))))
+            if text not in common and text not in CALM:
+                rows.append(cleaned([], f"<div>1{placed(text)}2", "<div>1x2</div>"))
         if array == "DROPPED":
-            tag = f"<{text}>" if text in "base embed frame link meta".split() else f"<{text}>2</{text}>"
-            yield {**row, "markup": f"<p>1{tag}3</p>", "output": "<p>13</p>\n"}
-        if array == "is_harmless_scheme":
-            for name in ("href", "src", "cite"):
-                kept = f'<p {name}="{text}:x">1</p>'
-                yield {**row, "markup": kept, "output": f"{kept}\n"}
-                yield {**row, "markup": f'<p {name}="x{text}:x">1</p><p {name}="{text}x:x">2</p>', "output": "<p>1</p>\n<p>2</p>\n"}
-        if array == "--sanitize ADDRESSES":
-            for address in ("javascript:x", "JavaScript:x", " java\tscript:x", "data:,x", "vbscript:x", "http://[", "https://a:99999/"):
-                yield {**row, "markup": f'<p {text}="{address}">1</p>', "output": "<p>1</p>\n"}
-            for address in ("x", "/x", "?x", "#x", "//x", "", "x:y".replace(":", "/")):
-                kept = f'<p {text}="{address}">1</p>'
-                yield {**row, "markup": kept, "output": f"{kept}\n"}
-    for name in "x-y b2 blink font form input button label marquee nobr template picture audio2".split():
-        inside = "" if name == "template" else "2"
-        row = {"entry": f"not in ELEMENTS: {name}", "args": ["--sanitize", "body"]}
-        yield {**row, "markup": f"<div>1<{name}>2", "output": f"<body><div>1{inside}</div></body>\n"}
+            rows.append(cleaned([], f"<p>1<{text}>2</{text}>3", "<p>13</p>"))
+        if array == "ATTRIBUTES":
+            rows.append(cleaned([], f'<p {text}="1" {text}x="2" x{text}="3">4', f'<p {text}="1">4</p>'))
+        if array == "OWN_ATTRIBUTES":
+            element, name = text.split()
+            page = placed(element, f' {name}="1"')
+            rows.append(cleaned([] if element in common else ["--allow", element], page, linked(page)))
+            rows.append(cleaned([], f'<em {name}="1">x', "<em>x</em>"))
+        if array == "SCHEMES":
+            for written, kept in ((text, text), (text.upper(), text.upper()), (f" {text[0]}&#9;{text[1:]}", f" {text[0]}\t{text[1:]}")):
+                rows.append(cleaned([], f'<q cite="{written}:x">1', f'<q cite="{kept}:x">1</q>'))
+            rows.append(cleaned([], f'<q cite="x-{text}:x">1</q><q cite="{text}-x:x">2', "<q>1</q><q>2</q>"))
+        if array == "ADDRESS_NAMES":
+            allow = ["--allow", f"[{text}]"]
+            for address in ("javascript:x", " JavaScript:x", "java&#10;script:x", "data:,x", "vbscript:x"):
+                rows.append(cleaned(allow, f'<em {text}="{address}">1', "<em>1</em>"))
+            for address in ("x", "/x", "?x", "#x", "//x", "", "https://a.example/"):
+                rows.append(cleaned(allow, f'<em {text}="{address}">1', f'<em {text}="{address}">1</em>'))
+        if array == "is_refused_attribute":
+            error = f"hq: --allow: attribute `{text}` can't be kept safely\n"
+            rows.append({"args": ["--sanitize", "--allow", f"[{text}]", "p"], "error": error, "status": 2})
+        if array == "may_lead":
+            error = f"hq: /dev/stdin: schemes: scheme `{text}` can't be kept safely\n"
+            row = {"args": ["--sanitize", "--policy", "/dev/stdin", "p", "examples/list.html"], "markup": f'schemes = ["{text}"]'}
+            rows.append({**row, "error": error, "status": 2})
+        yield from ({"entry": f"{array}: {text}", **row} for row in rows)
 
 
 # For each option its arguments, the page, and what is printed. A short name is tried in place of the long one.
@@ -413,6 +445,9 @@ OPTION_ROWS = {
     "base": (["--base", "https://a.example/b/", "--attr", "href", "a"], "<a href=c>", "https://a.example/b/c\n"),
     "remove": (["--remove", "b", "-r", "i", "p"], "<p>1<b>2</b><i>3</i>4", "<p>14</p>\n"),
     "sanitize": (["--sanitize", "p"], "<p onclick=x>1<script>2</script>", "<p>1</p>\n"),
+    "policy": (["--sanitize", "--policy", "/dev/stdin", "body > *", "examples/list.html"], 'elements = ["h1"]', "<h1>Reading list</h1>\n"),
+    "allow": (["--sanitize", "--allow", "p[class]", "p"], "<p class=a id=b>1", '<p class="a">1</p>\n'),
+    "deny": (["--sanitize", "--deny", "b", "p"], "<p>1<b>2</b>3", "<p>13</p>\n"),
     "explicit": (["--explicit", "p"], "<p>1<p>2</p></p>", "<p>1<p>2</p></p>\n<p>2</p>\n"),
     "context": (["--context", "tr", "td"], "<td>1", "<td>1</td>\n"),
     "scripting": (["--scripting", "--text", "noscript"], "<p><noscript><b>1", "<b>1\n"),

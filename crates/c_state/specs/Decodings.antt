@@ -11,7 +11,7 @@ use Rattle.text_decoding.specs.declared.page.Confidence.TheVariants.{Declared, F
 use Rattle.text_decoding.specs.declared.page.Fallback.TheVariants.{Guess}
 use Rattle.dom_markup.specs.Numbered.{document_of}
 use Rattle.dom_markup.specs.ValueTrees.{ValueTrees}
-use Rattle.dom_html5.specs.Calm.{IsCalmPage}
+use Rattle.calm_pages.specs.Calm.{IsCalmPage}
 use Rattle.html5_trees.specs.Shape.{IsPage}
 use Rattle.c_state.specs.declared.decoding.Decoded.{Decoded}
 use Rattle.c_state.specs.declared.state.State.{State}

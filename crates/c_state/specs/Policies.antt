@@ -3,9 +3,10 @@ use Rattle.std.specs.Prelude.{ℕ, ◌≡◌, true, false, List, Result, IfErr, 
 use Rattle.dom_markup.specs.Numbered.{document_of}
 use Rattle.dom_markup.specs.ValueTrees.{ValueTrees}
 use Rattle.dom_links.specs.Forest.{Forest}
-use Rattle.dom_html5.specs.Calm.{IsCalmPage}
+use Rattle.calm_pages.specs.Calm.{IsCalmPage}
 use Rattle.dom_clean.specs.Cleaned.{cleaned_below, cleaned_body}
-use Rattle.dom_clean.specs.Laws.{IsSafe, IsSafePage, IsSafeText, left_below, page_around, page_of}
+use Rattle.dom_clean.specs.Laws.{left_below, page_around, page_of}
+use Rattle.dom_clean.specs.Parsed.{IsCleanedAs, IsCleanedPage, IsCleanedText}
 use Rattle.dom_clean.specs.Policy.{Policy, is_sound}
 use Rattle.dom_clean.specs.Written.{text_of}
 use Rattle.c_state.specs.declared.fault.Fault.{Fault}
@@ -51,18 +52,18 @@ pub record Finishes (result : Result ℕ Fault) (old new : PolicyState) : Type 0
 
 -- The text of what the policy leaves of a fragment
 pub record IsCleanFragment (policy : Policy) (source text : List ℕ) : Type 0 where
-  pub safe : IsSafeText policy text
+  pub cleaned : IsCleanedText policy text
   pub calm : (body : ValueTrees) → IsCalmPage (page_around source) (page_of body) → text ≡ text_of (cleaned_below policy (document_of (page_of body)) 4)
 
 -- The page with what the policy leaves of the body of a page
 pub record IsCleanPage (policy : Policy) (source page : List ℕ) : Type 0 where
-  pub safe : IsSafePage policy page
+  pub cleaned : IsCleanedPage policy page
   pub calm : (trees : ValueTrees) → IsCalmPage source trees → page ≡ page_around (text_of (cleaned_body policy (document_of trees)))
 
 -- The text of what the policy leaves of the children of the root
 pub record IsCleanTree (policy : Policy) (forest : Forest) (text : List ℕ) : Type 0 where
   pub is : text ≡ text_of (cleaned_below policy forest 0)
-  pub safe : IsSafe policy text (left_below policy forest 0)
+  pub cleaned : IsCleanedAs policy text (left_below policy forest 0)
 
 -- The policy is ready, and this is true of it
 abbrev pub IfReady : Stage → (Policy → Type 0) → Type 0

@@ -2,7 +2,7 @@
 
 ghost use Rattle.std.specs.Prelude.{◌≡◌, ◌<◌, IfErr, IfOk, length, string_bytes, take};
 ghost use Rattle.dom_markup.specs.Documents.{IsDocumentOf};
-ghost use Rattle.dom_html5.specs.Calm.{ReadsCalm};
+ghost use Rattle.calm_pages.specs.Calm.{ReadsCalm};
 ghost use Rattle.html5_trees.specs.Shape.{IsPage};
 ghost use Rattle.c_state.specs.declared.fault.Fault.TheVariants.{NoNode};
 

@@ -9,8 +9,8 @@ use Rattle.dom_markup.specs.ValueTrees.ValueTrees.{no_trees, text_node, comment_
 use Rattle.html5_trees.specs.ElementKinds.{kind_of}
 use Rattle.html5_trees.specs.declared.element_kinds.ElementCategory.{ElementCategory}
 use Rattle.html5_trees.specs.declared.element_kinds.ElementCategory.TheVariants.{Html, Head, Verbatim, Pre, Table, ColumnGroup, RowGroup, TableRow}
-use Rattle.dom_html5.specs.Calm.{admits, are_calm, behind, behind_first, inside, may_hold_text}
-use Rattle.dom_html5.specs.declared.calm.nesting.Scope.{Scope}
+use Rattle.calm_pages.specs.Calm.{admits, are_calm, behind, behind_first, inside, may_hold_text}
+use Rattle.calm_pages.specs.declared.nesting.Scope.{Scope}
 use Rattle.dom_clean.specs.Joined.{AreTidy, joined, merges, with_text}
 
 both_white : (a b : List ℕ) → list_all is_whitespace a ≡ true → list_all is_whitespace b ≡ true → list_all is_whitespace (a ++ b) ≡ true

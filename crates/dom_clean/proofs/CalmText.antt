@@ -13,7 +13,7 @@ use Rattle.dom_markup.specs.Names.{void_names}
 use Rattle.dom_markup.specs.ValueTrees.{Attribute, ValueTrees}
 use Rattle.dom_markup.specs.ValueTrees.ValueTrees.{no_trees, text_node, comment_node, doctype_node, element_node}
 use Rattle.dom_markup.proofs.html.InertLemmas.{encode_lacks}
-use Rattle.dom_html5.specs.Calm.{begins_other_tag, is_calm_byte, is_calm_text}
+use Rattle.calm_pages.specs.Calm.{begins_other_tag, is_calm_byte, is_calm_text}
 use Rattle.dom_clean.specs.Spelled.{AreQuiet, AreSpelled, Front, IsQuietName, IsSpellable, IsSpelled}
 use Rattle.dom_clean.specs.Written.{attribute_text, safe_char, safe_value, start_of, text_of}
 

@@ -1,7 +1,17 @@
+pub mod Again
+pub mod AgainAttrs
+pub mod AgainCalm
+pub mod AgainTrees
+pub mod AgainValues
+pub mod AgainWords
 pub mod Allowed
 pub mod AttrWriting
 pub mod CalmJoined
+pub mod CalmPlaces
 pub mod CalmText
+pub mod CleanedParsed
+pub mod CleanedText
+pub mod EntryTexts
 pub mod Left
 pub mod Lines
 pub mod Names

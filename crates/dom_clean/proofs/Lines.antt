@@ -9,7 +9,7 @@ use Rattle.std.proofs.lemmas.Str.{chars-encodes, encode_ascii, encode_same, enco
 use Rattle.dom_nodes.specs.Escaping.{spaced_char}
 use Rattle.dom_markup.specs.Escaping.{escaped_text, lacks, text_char}
 use Rattle.dom_markup.proofs.html.InertLemmas.{encode_lacks}
-use Rattle.dom_html5.specs.Calm.{begins_line}
+use Rattle.calm_pages.specs.Calm.{begins_line}
 use Rattle.dom_clean.specs.Ahead.{is_nil, seen}
 use Rattle.dom_clean.specs.Cleaned.{after_lines}
 use Rattle.dom_clean.specs.Joined.{IsWritable}

@@ -12,7 +12,7 @@ use Rattle.dom_markup.specs.ValueTrees.{ValueTrees}
 use Rattle.dom_markup.specs.ValueTrees.ValueTrees.{no_trees, text_node, comment_node, doctype_node, element_node}
 use Rattle.html5_trees.specs.ElementKinds.{kind_of, names_of}
 use Rattle.html5_trees.specs.Framed.{IsFramed}
-use Rattle.dom_html5.specs.Calm.{IsCalmDocument, are_calm, is_calm_text}
+use Rattle.calm_pages.specs.Calm.{IsCalmDocument, are_calm, is_calm_text}
 use Rattle.dom_clean.specs.Cleaned.{cleaned_below, in_body}
 use Rattle.dom_clean.specs.Joined.{AreTidy, joined, with_text}
 use Rattle.dom_clean.specs.Laws.{AreAllowed, CleansSafely, IsSafe, left_below, page_around, page_of}

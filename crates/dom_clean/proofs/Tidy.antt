@@ -22,7 +22,7 @@ use Rattle.dom_markup.specs.ValueTrees.ValueTrees.{no_trees, text_node, comment_
 use Rattle.html5_trees.specs.ElementKinds.{kind_of}
 use Rattle.html5_trees.specs.declared.element_kinds.ElementCategory.{ElementCategory}
 use Rattle.html5_trees.specs.declared.element_kinds.ElementCategory.TheVariants.{Pre}
-use Rattle.dom_html5.specs.Calm.{admits, behind_text, may_hold_text}
+use Rattle.calm_pages.specs.Calm.{admits, behind_text, may_hold_text}
 use Rattle.dom_clean.specs.Cleaned.{after_lines, cleaned, followed_by, held_by, left_of, text_or, without_lines}
 use Rattle.dom_clean.specs.declared.fates.Fate.{Fate}
 use Rattle.dom_clean.specs.declared.fates.Place.{Place}

@@ -17,7 +17,7 @@ use Rattle.dom_markup.specs.Html.{closing, end_tag}
 use Rattle.dom_markup.specs.Names.{void_names}
 use Rattle.dom_markup.specs.ValueTrees.{ValueTrees}
 use Rattle.dom_markup.specs.ValueTrees.ValueTrees.{no_trees, text_node, comment_node, doctype_node, element_node}
-use Rattle.dom_html5.specs.Calm.{behind_text}
+use Rattle.calm_pages.specs.Calm.{behind_text}
 use Rattle.dom_clean.specs.Ahead.{AreKnown, Writes, ahead_text, front_after, front_past, is_nil, is_pre, opening, row_text, row_weight, seen, weight, with_below, with_row}
 use Rattle.dom_clean.specs.Cleaned.{after_lines, cleaned, followed_by, held_by, in_body, left_of, text_or, without_lines}
 use Rattle.dom_clean.specs.Fates.{cleaned_attrs, fate_of, place_below, spellable}

@@ -14,7 +14,7 @@ use Rattle.dom_markup.specs.ValueTrees.ValueTrees.{no_trees, text_node, comment_
 use Rattle.html5_trees.specs.ElementKinds.{kind_of}
 use Rattle.html5_trees.specs.declared.element_kinds.ElementCategory.{ElementCategory}
 use Rattle.html5_trees.specs.declared.element_kinds.ElementCategory.TheVariants.{Body, Html, Pre}
-use Rattle.dom_html5.specs.Calm.{behind, behind_text, inside, top}
+use Rattle.calm_pages.specs.Calm.{behind, behind_text, inside, top}
 use Rattle.dom_clean.specs.Fates.{cleaned_attrs, fate_of, place_below, spellable}
 use Rattle.dom_clean.specs.declared.fates.Fate.{Fate}
 use Rattle.dom_clean.specs.declared.fates.Place.{Place}

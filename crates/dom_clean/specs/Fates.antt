@@ -18,7 +18,7 @@ use Rattle.dom_markup.specs.ValueTrees.{Attribute}
 use Rattle.html5_trees.specs.ElementKinds.{kind_of}
 use Rattle.html5_trees.specs.declared.element_kinds.ElementCategory.{ElementCategory}
 use Rattle.html5_trees.specs.declared.element_kinds.ElementCategory.TheVariants.{Head, Metadata, Verbatim}
-use Rattle.dom_html5.specs.Calm.{admits, behind, inside, may_hold_text}
+use Rattle.calm_pages.specs.Calm.{admits, behind, inside, may_hold_text}
 use Rattle.url.specs.Parser.{Parsed, parse_url}
 use Rattle.url.specs.Parts.{Parts, serialize}
 use Rattle.dom_clean.specs.Addresses.{scheme_of}

@@ -5,7 +5,7 @@ use Rattle.dom_links.specs.Forest.{Forest}
 use Rattle.dom_links.specs.Trees.{Trees}
 use Rattle.dom_markup.specs.ValueTrees.{Attribute, ValueTrees}
 use Rattle.dom_markup.specs.ValueTrees.ValueTrees.{no_trees, text_node, comment_node, doctype_node, element_node}
-use Rattle.dom_html5.specs.Calm.{IsCalmPage, are_calm, behind}
+use Rattle.calm_pages.specs.Calm.{IsCalmPage, are_calm, behind}
 use Rattle.url.specs.Parser.{parse_url}
 use Rattle.url.specs.Parts.{Parts}
 use Rattle.dom_clean.specs.Addresses.{HasSchemeOf, scheme_of}
@@ -71,13 +71,6 @@ pub record IsSafe (policy : Policy) (text : List ℕ) (trees : ValueTrees) : Typ
   pub is : text ≡ text_of trees
   pub allowed : AreAllowed policy trees
   pub page : IsCalmPage (page_around text) (page_of trees)
-
-abbrev pub IsSafeText : Policy → List ℕ → Type 0
-IsSafeText policy text = (trees : ValueTrees) × IsSafe policy text trees
-
--- such a text in the body of a page
-abbrev pub IsSafePage : Policy → List ℕ → Type 0
-IsSafePage policy page = (text : List ℕ) × (page ≡ page_around text) × IsSafeText policy text
 
 -- what a policy leaves of a forest below a node, with texts side by side as one
 abbrev pub left_below : Policy → Forest → ℕ → ValueTrees

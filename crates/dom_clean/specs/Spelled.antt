@@ -3,7 +3,7 @@ use Rattle.std.specs.Prelude.{◌≡◌, ◌==◌, ℕ, true, false, List, [], �
 use Rattle.std.specs.Str.{chars}
 use Rattle.dom_markup.specs.ValueTrees.{Attribute, ValueTrees}
 use Rattle.dom_markup.specs.ValueTrees.ValueTrees.{no_trees, text_node, comment_node, doctype_node, element_node}
-use Rattle.dom_html5.specs.Calm.{begins_other_tag, is_calm_text}
+use Rattle.calm_pages.specs.Calm.{begins_other_tag, is_calm_text}
 
 -- in front of any calm text it makes a calm text
 pub record Front (text : List ℕ) : Type 0 where

@@ -1,18 +1,22 @@
 //! Cleans the text of a fragment or of a page.
 
 ghost use Rattle.std.specs.Prelude.{◌≡◌, IfOk, MatchOption, string_bytes};
+ghost use Rattle.dom_clean.specs.Again.{IsLeftBy, IsPageLeftBy};
 ghost use Rattle.dom_clean.specs.Cleaned.{body_of, cleaned_below, cleaned_body};
-ghost use Rattle.dom_clean.specs.Laws.{IsSafePage, IsSafeText, page_around, page_of};
+ghost use Rattle.dom_clean.specs.Laws.{page_around, page_of};
+ghost use Rattle.dom_clean.specs.Parsed.{IsCleanedPage, IsCleanedText};
 ghost use Rattle.dom_clean.specs.Policies.{policy_of};
 ghost use Rattle.dom_clean.specs.Policy.{is_sound};
 ghost use Rattle.dom_clean.specs.Written.{text_of};
-ghost use Rattle.dom_html5.specs.Calm.{IsCalmPage};
+ghost use Rattle.calm_pages.specs.Calm.{IsCalmPage};
 ghost use Rattle.dom_markup.specs.Numbered.{document_of};
 ghost use Rattle.dom_markup.specs.ValueTrees.{ValueTrees};
 
+use crate::laws::cleaned_text_is_parsed;
 use crate::policy::Policy;
 use crate::writer::clean_below;
-use dom_html5::{Context, Options, PageFault, parse_page, parse_page_fragment, read_calm};
+use calm_pages::read_calm;
+use dom_html5::{Context, Options, PageFault, parse_page, parse_page_fragment};
 use dom_links::iters::first_child_id;
 use dom_markup::document::Document;
 use dom_nodes::fault::OutOfMemory;
@@ -26,12 +30,22 @@ const BODY: usize = 4;
 
 /// Returns the text of what the policy leaves of a fragment, which is read as the contents of a
 /// `div`. Fails only if memory is refused or the node ids run out.
+///
+/// Whatever the source is, the HTML Standard parses the text as exactly the trees that were left:
+/// in the body of a page, and as a fragment in a `body`, `div`, `li`, `td` or `blockquote`.
+///
+/// A text that was cleaned by the same policy is returned as it is (clause `again`).
 pub fn clean(alloc: Global, source: &str, policy: &Policy) -> Result<String, PageFault>
-    ensures safe { IfOk result (λ text. IsSafeText policy.now (string_bytes text)) }
+    ensures cleaned { IfOk result (λ text. IsCleanedText policy.now (string_bytes text)) }
     ensures calm { (body : ValueTrees) → IsCalmPage (page_around source.now) (page_of body)
         → IfOk result (λ text. string_bytes text
         ≡ text_of (cleaned_below policy.now (document_of (page_of body)) 4)) }
+    ensures left { IfOk result (λ text. IsLeftBy policy.now (string_bytes text)) }
+    ensures again { IsLeftBy policy.now source.now
+        → IfOk result (λ text. string_bytes text ≡ source.now) }
 {
+    // Every policy is sound.
+    let _ = policy.lists();
     let body = NodeId::new(BODY).unwrap_or(NodeId::root());
     match calm_page(alloc, source)? {
         Some(document) => clean_node(&document.tree, body, policy),
@@ -42,12 +56,22 @@ pub fn clean(alloc: Global, source: &str, policy: &Policy) -> Result<String, Pag
 /// Returns a page with what the policy leaves of the body of a page, or of the whole document if it
 /// has no body: `<!DOCTYPE html>`, then `html` with an empty `head` and a `body`, all without
 /// attributes. Fails only if memory is refused or the node ids run out.
+///
+/// Whatever the source is, the HTML Standard parses the page as exactly the document with the trees
+/// that were left in its body.
+///
+/// A page that was cleaned by the same policy is returned as it is (clause `again`).
 pub fn clean_page(alloc: Global, source: &str, policy: &Policy) -> Result<String, PageFault>
-    ensures safe { IfOk result (λ page. IsSafePage policy.now (string_bytes page)) }
+    ensures cleaned { IfOk result (λ page. IsCleanedPage policy.now (string_bytes page)) }
     ensures calm { (trees : ValueTrees) → IsCalmPage source.now trees → IfOk result (λ page.
         string_bytes page
         ≡ page_around (text_of (cleaned_body policy.now (document_of trees)))) }
+    ensures left { IfOk result (λ page. IsPageLeftBy policy.now (string_bytes page)) }
+    ensures again { IsPageLeftBy policy.now source.now
+        → IfOk result (λ page. string_bytes page ≡ source.now) }
 {
+    // Every policy is sound.
+    let _ = policy.lists();
     let options = Options {
         scripting: false,
         max_depth: None,
@@ -59,7 +83,7 @@ pub fn clean_page(alloc: Global, source: &str, policy: &Policy) -> Result<String
 }
 
 /// Returns the body of a page, or the root if the page has none.
-fn body_of(tree: &Tree) -> NodeId
+pub(crate) fn body_of(tree: &Tree) -> NodeId
     ensures { result ≡ body_of tree.now }
 {
     match tree.body() {
@@ -69,7 +93,7 @@ fn body_of(tree: &Tree) -> NodeId
 }
 
 /// Returns the page with the text in its body.
-fn page_around(alloc: Global, text: &str) -> Result<String, OutOfMemory>
+pub(crate) fn page_around(alloc: Global, text: &str) -> Result<String, OutOfMemory>
     ensures { IfOk result (λ page. string_bytes page ≡ page_around text.now) }
 {
     let mut page = String::from_str(alloc, "<!DOCTYPE html><html><head></head><body>")?;
@@ -82,14 +106,20 @@ fn page_around(alloc: Global, text: &str) -> Result<String, OutOfMemory>
 fn clean_node(tree: &Tree, id: NodeId, policy: &Policy) -> Result<String, PageFault>
     ensures text { IfOk result (λ text. string_bytes text
         ≡ text_of (cleaned_below policy.now tree.now id)) }
-    ensures safe { IfOk result (λ text. IsSafeText policy.now (string_bytes text)) }
+    ensures cleaned { IfOk result (λ text. IsCleanedText policy.now (string_bytes text)) }
 {
-    Ok(clean_below(tree, &id, policy.lists())?)
+    // A law, called for its contract alone.
+    cleaned_text_is_parsed();
+    let text = clean_below(tree, &id, policy.lists())?;
+    // A text that is read as a `str` is known to be UTF-8.
+    let _ = text.as_str();
+    Ok(text)
 }
 
 /// Returns the text of what the policy leaves of a fragment with parse errors or without.
 fn clean_fragment(alloc: Global, source: &str, policy: &Policy) -> Result<String, PageFault>
-    ensures { IfOk result (λ text. IsSafeText policy.now (string_bytes text)) }
+    ensures cleaned { IfOk result (λ text. IsCleanedText policy.now (string_bytes text)) }
+    ensures left { IfOk result (λ text. IsLeftBy policy.now (string_bytes text)) }
 {
     let document = parse_page_fragment(alloc, source, Context::Html("div"), Options::default())?;
     let tree = &document.tree;

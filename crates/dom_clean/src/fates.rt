@@ -11,7 +11,7 @@ ghost use Rattle.html5_trees.specs.ElementKinds.{kind_of};
 
 use crate::lists::{Lists, is_among};
 use crate::values::spellable;
-use dom_html5::{Scope, TOP, holds_text};
+use calm_pages::{Scope, TOP, holds_text};
 use dom_nodes::fault::OutOfMemory;
 use dom_nodes::name::NamespaceRef;
 use dom_nodes::node_data::{Element, NodeData};

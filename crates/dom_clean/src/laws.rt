@@ -3,8 +3,15 @@
 
 ghost use Rattle.std.specs.Prelude.{◌≡◌, true, ℕ, List};
 ghost use Rattle.dom_clean.specs.Addresses.{LeadsByItsScheme};
+ghost use Rattle.dom_clean.specs.Again.{CleansOnce};
 ghost use Rattle.dom_clean.specs.Laws.{CleansSafely};
+ghost use Rattle.dom_clean.specs.Parsed.{CleanedPagesAreParsed, CleanedTextsAreParsed};
 ghost use Rattle.dom_clean.specs.Policy.{Policy, is_sound};
+
+use dom_markup::laws::plain::{
+    documents_stand_for_their_trees, one_meaning, what_is_read_is_plain,
+};
+use html_reading::{one_parse, safe_html_is_parsed};
 
 /// Whatever the base is, the parser of the URL Standard gives an address the scheme that is in
 /// front of it, or else the scheme of the base, if it accepts the address.
@@ -17,3 +24,25 @@ pub fn addresses_lead_by_their_schemes()
 pub fn what_is_left_is_safe()
     ensures { (policy : Policy) → is_sound policy ≡ true → CleansSafely policy }
 {}
+
+/// Cleaning is idempotent: what a sound policy leaves of any tree, as the body of a page, is left
+/// as exactly the same trees when it is cleaned again by the same policy.
+pub fn cleaned_again_is_the_same()
+    ensures { (policy : Policy) → is_sound policy ≡ true → CleansOnce policy }
+{}
+
+/// The text of what a sound policy leaves is parsed as exactly the trees that were left, by the
+/// tokenizer and the tree construction of the HTML Standard: in the body of a page, and as a
+/// fragment in a `body`, `div`, `li`, `td` or `blockquote` (`text`). So is a page with such a text
+/// in its body (`page`).
+pub fn cleaned_text_is_parsed()
+    ensures text { CleanedTextsAreParsed }
+    ensures page { CleanedPagesAreParsed }
+{
+    // Laws are called for their contracts alone.
+    documents_stand_for_their_trees();
+    one_meaning();
+    what_is_read_is_plain();
+    safe_html_is_parsed();
+    one_parse();
+}

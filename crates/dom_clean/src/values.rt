@@ -5,7 +5,7 @@ ghost use Rattle.std.specs.Prelude.{filter, map, string_bytes};
 ghost use Rattle.std.specs.Option.{option_map};
 ghost use Rattle.dom_clean.specs.Fates.{cleaned_classes, prefixed, spellable, spelled_char};
 ghost use Rattle.dom_clean.specs.Fates.{unless_empty, with_words};
-ghost use Rattle.dom_html5.specs.Calm.{begins_line};
+ghost use Rattle.calm_pages.specs.Calm.{begins_line};
 ghost use Rattle.dom_nodes.specs.Ascii.{line_feed};
 ghost use Rattle.dom_nodes.specs.Classes.{with_word};
 ghost use Rattle.dom_nodes.specs.Words.{is_among, words_of};

@@ -10,7 +10,8 @@ ghost use Rattle.dom_clean.specs.declared.fates.Fate.TheVariants.{Stays};
 ghost use Rattle.dom_clean.specs.declared.writer.Entry.TheVariants.{Row};
 ghost use Rattle.dom_markup.specs.Escaping.{escaped_text};
 ghost use Rattle.std.specs.Option.{option_map_or};
-ghost use Rattle.dom_clean.specs.Laws.{IsSafe, left_below};
+ghost use Rattle.dom_clean.specs.Laws.{left_below};
+ghost use Rattle.dom_clean.specs.Parsed.{IsCleanedAs};
 ghost use Rattle.dom_clean.specs.Policies.{policy_of};
 ghost use Rattle.dom_clean.specs.Written.{start_of, text_of};
 ghost use Rattle.dom_links.specs.Forest.{children_of};
@@ -23,6 +24,7 @@ ghost use Rattle.html5_trees.specs.ElementKinds.{kind_of};
 
 use crate::attributes::{is_void_name, push_start};
 use crate::fates::{Fate, Place, category, fate_of, in_body, place_below};
+use crate::laws::cleaned_text_is_parsed;
 use crate::lists::Lists;
 use crate::policy::Policy;
 use crate::values::{after_lines, push_text, spellable};
@@ -38,7 +40,7 @@ use std::marker::Model;
 
 /// Something that is still to be written.
 #[derive(Clone, Copy, Drop)]
-enum Entry {
+pub(crate) enum Entry {
     /// A node and its later siblings, at that place.
     Row { first: NodeId, place: Place },
     /// The end tag of an element.
@@ -47,7 +49,7 @@ enum Entry {
 
 /// A stack of entries; the next one to be written is on top.
 #[derive(Drop)]
-struct Ahead {
+pub(crate) struct Ahead {
     items: Vec<Entry>,
 }
 
@@ -61,7 +63,7 @@ impl Model for Ahead {
 }
 
 impl Ahead {
-    fn new(alloc: Global) -> Ahead
+    pub(crate) fn new(alloc: Global) -> Ahead
         ensures { result ≡ [] }
     {
         Ahead {
@@ -80,7 +82,7 @@ impl Ahead {
     }
 
     /// Pops the next entry.
-    fn pop(&mut self) -> Option<Entry>
+    pub(crate) fn pop(&mut self) -> Option<Entry>
         ensures { MatchOption result (self.old ≡ []) (λ entry. self.old ≡ entry ∷ self.new) }
     {
         self.items.pop()
@@ -89,21 +91,26 @@ impl Ahead {
 
 /// The text that was written so far.
 #[derive(Drop)]
-struct Output {
-    text: String,
+pub(crate) struct Output {
+    pub(crate) text: String,
     /// Whether the text ends directly after the start tag of a `pre`.
-    in_front: bool,
+    pub(crate) in_front: bool,
 }
 
 /// Returns the text of what the policy leaves of the children of the root. Fails with `OutOfMemory`
-/// if memory is refused.
+/// if memory is refused. The HTML Standard parses the text as `clean` says.
 pub fn clean_tree(tree: &Tree, policy: &Policy) -> Result<String, OutOfMemory>
     ensures text { IfOk result (λ text. string_bytes text
         ≡ text_of (cleaned_below policy.now tree.now 0)) }
-    ensures safe { IfOk result (λ text. IsSafe policy.now (string_bytes text)
+    ensures cleaned { IfOk result (λ text. IsCleanedAs policy.now (string_bytes text)
         (left_below policy.now tree.now 0)) }
 {
-    clean_below(tree, &tree.root_id(), policy.lists())
+    // A law, called for its contract alone.
+    cleaned_text_is_parsed();
+    let text = clean_below(tree, &tree.root_id(), policy.lists())?;
+    // A text that is read as a `str` is known to be UTF-8.
+    let _ = text.as_str();
+    Ok(text)
 }
 
 /// Returns the text of what is left of the children of a node.
@@ -138,14 +145,14 @@ fn clean_forest(tree: &Tree, id: &NodeId, lists: &Lists) -> Result<String, OutOf
 }
 
 /// Returns the first child of a node.
-fn first_below(tree: &Tree, id: &NodeId) -> Option<NodeId>
+pub(crate) fn first_below(tree: &Tree, id: &NodeId) -> Option<NodeId>
     ensures { result ≡ first (children_of tree.now id.now) }
 {
     first_child_id(tree.nodes(), id)
 }
 
 /// Writes the first part of an entry, and pushes entries for the rest of it.
-fn write_entry(
+pub(crate) fn write_entry(
     tree: &Tree,
     lists: &Lists,
     entry: Entry,
@@ -272,7 +279,11 @@ fn push_inside(
 }
 
 /// Pushes an entry for a row, if there is a node in it.
-fn push_row(ahead: &mut Ahead, first: Option<NodeId>, place: Place) -> Result<(), OutOfMemory>
+pub(crate) fn push_row(
+    ahead: &mut Ahead,
+    first: Option<NodeId>,
+    place: Place,
+) -> Result<(), OutOfMemory>
     ensures { OnOk result (ahead.new ≡ with_row first place ahead.old) }
 {
     if let Some(first) = first {

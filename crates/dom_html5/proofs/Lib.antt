@@ -1,6 +1,2 @@
-mod CalmFrames
-mod CalmPages
-mod NodeRows
+mod PageLemmas
 mod PartLemmas
-mod ScopeLemmas
-mod TextLemmas

@@ -1,3 +1,2 @@
-pub mod Calm
-pub mod Scopes
 pub mod Parsers
+pub mod Pages

@@ -1,12 +1,10 @@
 //! Parsing pages in any encoding.
 
-ghost use Rattle.std.specs.Prelude.{◌≡◌, IfOk};
+ghost use Rattle.std.specs.Prelude.{◌≡◌, IfOk, IsUtf8, Some};
 ghost use Rattle.decoded_text.specs.Characters.{errors_in};
-ghost use Rattle.dom_links.specs.Forest.{Forest};
-ghost use Rattle.dom_markup.specs.Numbered.{document_of};
-ghost use Rattle.dom_markup.specs.ValueTrees.{ValueTrees};
-ghost use Rattle.dom_trees.specs.SameTree.{SameTree};
-ghost use Rattle.dom_html5.specs.Calm.{IsCalmPage, ReadsCalm, SpellsCalmPage};
+ghost use Rattle.calm_pages.specs.Calm.{ReadsCalm};
+ghost use Rattle.dom_html5.specs.Pages.{ReadsAsWritten};
+ghost use Rattle.encodings.specs.declared.encoding.Encoding.TheVariants.{Utf8};
 ghost use Rattle.html5_trees.specs.Shape.{IsPage};
 ghost use Rattle.text_decoding.specs.Decoding.{characters};
 ghost use Rattle.text_decoding.specs.Pages.{IsPageEncoding, behind_mark, page_text};
@@ -32,8 +30,11 @@ pub struct ReadPage {
 
 /// Parses a page in whatever encoding like `parse_page`. The encoding is found as `decode_page`
 /// finds it: from a byte order mark, or else from the transport, or else from what the page
-/// declares, or else from the fallback. The byte order mark isn't part of the page's text. Fails only
-/// with `Memory` or `TooManyNodes`.
+/// declares, or else from the fallback. The byte order mark isn't part of the page's text. A calm
+/// page is parsed as `parse_page` parses it: its text, and a page that comes as UTF-8 and is UTF-8.
+/// Fails only with `Memory` or `TooManyNodes`.
+///
+/// `PageByteParser` parses a page whose bytes come in pieces.
 pub fn read_page(
     alloc: Global,
     bytes: &[u8],
@@ -45,12 +46,10 @@ pub fn read_page(
         IsPageEncoding charset bytes.now read.encoding read.confidence) }
     ensures replaced { IfOk result (λ read.
         read.replaced ≡ errors_in (characters read.encoding (behind_mark bytes.now))) }
-    ensures calm { (trees : ValueTrees) → ReadsCalm options → IfOk result (λ read.
-        IsCalmPage (page_text read.encoding bytes.now) trees
-        → read.document.tree ≡ document_of trees) }
-    ensures same { (forest : Forest) → ReadsCalm options → IfOk result (λ read.
-        SpellsCalmPage (page_text read.encoding bytes.now) forest
-        → SameTree forest 0 read.document.tree 0) }
+    ensures written { ReadsCalm options → IfOk result (λ read.
+        ReadsAsWritten (page_text read.encoding bytes.now) read.document.tree) }
+    ensures utf8 { charset.transport ≡ Some Utf8 → IsUtf8 bytes.now → ReadsCalm options
+        → IfOk result (λ read. ReadsAsWritten bytes.now read.document.tree) }
 {
     let page = decode_page(alloc, bytes, charset)?;
     let document = parse_page(alloc, page.text.as_str(), options)?;

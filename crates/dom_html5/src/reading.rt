@@ -6,12 +6,14 @@ ghost use Rattle.dom_links.specs.Forest.{Forest};
 ghost use Rattle.dom_markup.specs.Numbered.{document_of};
 ghost use Rattle.dom_markup.specs.ValueTrees.{ValueTrees};
 ghost use Rattle.dom_trees.specs.SameTree.{SameTree};
-ghost use Rattle.dom_html5.specs.Calm.{IsCalmPage, ReadsCalm, SpellsCalmPage};
+ghost use Rattle.calm_pages.specs.Calm.{IsCalmPage, ReadsCalm, SpellsCalmPage};
 ghost use Rattle.dom_html5.specs.Parsers.{ReadsPage};
 ghost use Rattle.html5_trees.specs.Shape.{IsPage};
+ghost use Rattle.html_reading.specs.Pages.{IsParsedPage, IsWrittenPage};
 
-use crate::calm::read_calm;
+use calm_pages::read_calm;
 use dom_markup::document::Document;
+use html_reading::written_pages_are_parsed;
 use html5_trees::{Context, Options, PageFault, PageReader, make_page, without_mark};
 use std::alloc::Global;
 
@@ -27,13 +29,27 @@ pub struct PageParser {
 /// `TooManyNodes`.
 ///
 /// A calm page, which is explicit markup that tree construction would leave as it is, is parsed as
-/// `Document::parse` does, if depth is not limited and errors are not collected.
+/// `Document::parse` does, if depth is not limited and errors are not collected. If it is written
+/// as `html` or `clean_page` writes it, this is the tree that the HTML Standard gives.
 pub fn parse_page(alloc: Global, source: &str, options: Options) -> Result<Document, PageFault>
     ensures page { IfOk result (λ document. IsPage document.tree) }
     ensures calm { (trees : ValueTrees) → IsCalmPage source.now trees → ReadsCalm options
         → IfOk result (λ document. document.tree ≡ document_of trees) }
     ensures same { (forest : Forest) → SpellsCalmPage source.now forest → ReadsCalm options
         → IfOk result (λ document. SameTree forest 0 document.tree 0) }
+    ensures standard { IsWrittenPage source.now → ReadsCalm options
+        → IfOk result (λ document. IsParsedPage source.now document.tree) }
+{
+    // A law, called for its contract alone.
+    written_pages_are_parsed();
+    parse_text(alloc, source, options)
+}
+
+/// Parses a page: a calm page as explicit markup, if the options allow it.
+fn parse_text(alloc: Global, source: &str, options: Options) -> Result<Document, PageFault>
+    ensures page { IfOk result (λ document. IsPage document.tree) }
+    ensures calm { (trees : ValueTrees) → IsCalmPage source.now trees → ReadsCalm options
+        → IfOk result (λ document. document.tree ≡ document_of trees) }
 {
     if !reads_calm(options) {
         return parse_any_page(alloc, source, options);
@@ -72,6 +88,8 @@ pub fn parse_page_bytes(
         → ReadsCalm options → IfOk result (λ document. document.tree ≡ document_of trees) }
     ensures same { (forest : Forest) → IsUtf8 source.now → SpellsCalmPage source.now forest
         → ReadsCalm options → IfOk result (λ document. SameTree forest 0 document.tree 0) }
+    ensures standard { IsUtf8 source.now → IsWrittenPage source.now → ReadsCalm options
+        → IfOk result (λ document. IsParsedPage source.now document.tree) }
 {
     let source = without_mark(source);
     if let Ok(text) = str::from_utf8(source) {

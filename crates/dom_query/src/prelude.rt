@@ -5,8 +5,8 @@ pub use crate::selection_md::SelectionMd;
 pub use dom_edits::edit::SelectionFault;
 pub use dom_edits::selection_mut::SelectionMut;
 pub use dom_html5::{
-    Charset, Confidence, Context, Encoding, Fallback, Options, PageFault, PageParser, ReadPage,
-    parse_page, parse_page_bytes, parse_page_fragment, read_page,
+    Charset, Confidence, Context, Encoding, Fallback, Options, PageByteParser, PageFault,
+    PageParser, ReadPage, parse_page, parse_page_bytes, parse_page_fragment, read_page,
 };
 pub use dom_links::gap::Place;
 pub use dom_markup::document::Document;

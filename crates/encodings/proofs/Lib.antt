@@ -1,3 +1,12 @@
 pub mod Bytes
-pub mod Units
+pub mod Comments
+pub mod Cuts
+pub mod Declares
+pub mod Fronts
+pub mod MetaLemmas
+pub mod Parts
 pub mod Rows
+pub mod Steps
+pub mod Tails
+pub mod Units
+pub mod Words

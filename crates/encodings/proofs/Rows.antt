@@ -1,5 +1,5 @@
 -- Rows of labels.
-use Rattle.std.proofs.Common.{◌≡◌, ℕ, ◌+◌, ◌<◌, ◌≤◌, List, Bool, true, false, cond, map, length, drop, get_or, refl, sym, ap, ◌∙◌, Option, Some, None}
+use Rattle.std.proofs.Common.{◌≡◌, ℕ, ◌+◌, ◌<◌, ◌≤◌, List, Bool, true, false, cond, map, length, drop, get_or, refl, sym, ap, ◌∙◌, Some, None}
 use Rattle.std.proofs.lemmas.List.{at_drop_more, at_drop_all}
 use Rattle.std.specs.Prelude.{◌↔◌, IsTrue, Decides, bytes_eq}
 use Rattle.std.specs.Char.{to_ascii_lowercase}

@@ -1,5 +1,5 @@
 -- What the first bytes of a text in UTF-16 give, whatever follows.
-use Rattle.std.proofs.Common.{◌≡◌, ℕ, List, [], ◌∷◌, ◌++◌, Bool, true, false, refl, sym, ap, ◌∙◌, length, arith, Option, Some, None}
+use Rattle.std.proofs.Common.{◌≡◌, ℕ, List, [], ◌∷◌, ◌++◌, true, false, refl, sym, ap, ◌∙◌, length, arith, Option, None}
 use Rattle.encodings.specs.declared.utf16.ByteOrder.{ByteOrder}
 use Rattle.encodings.specs.Utf16.{character, characters, is_high, is_low, pair_code, unit_of}
 

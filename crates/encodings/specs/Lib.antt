@@ -1,3 +1,9 @@
+pub mod Attributes
+pub mod Bytes
 pub mod Labels
+pub mod Places
+pub mod Prescan
+pub mod Runs
 pub mod SingleByte
 pub mod Utf16
+pub mod Views

@@ -1,9 +1,8 @@
 //! Encodings, their labels and names.
 
-ghost use Rattle.std.specs.Prelude.{◌≡◌, List, Some, bytes_eq, map, ℕ};
-ghost use Rattle.std.specs.Str.{IsTrimAscii};
+ghost use Rattle.std.specs.Prelude.{◌≡◌, List, bytes_eq, map, ℕ};
 ghost use Rattle.std.specs.Char.{to_ascii_lowercase};
-ghost use Rattle.encodings.specs.Labels.{for_bom, labelled};
+ghost use Rattle.encodings.specs.Labels.{encoding_of, for_bom, labelled, of_markup, of_xml_markup};
 
 use crate::labels::LABELS;
 use crate::single_byte::SingleByte;
@@ -44,9 +43,7 @@ impl Encoding {
     /// around the label and the case of its letters don't matter: ` UTF-8 `, `latin1` and
     /// `ISO-8859-1` are labels, and the last two name windows-1252.
     pub fn for_label(label: &[u8]) -> Option<Encoding>
-        ensures { (trimmed : List ℕ) × IsTrimAscii label.now trimmed
-            × (result ≡ labelled (λ row. row.0.now) (λ row. row.1) LABELS
-            (map to_ascii_lowercase trimmed)) }
+        ensures { result ≡ encoding_of label.now }
     {
         find(&LABELS, label.trim_ascii())
     }
@@ -98,12 +95,25 @@ impl Encoding {
     /// Returns the encoding of a page that declares this encoding in its markup. A page in UTF-16
     /// could not be read as far as its declaration, so UTF-16 means UTF-8 there; and
     /// `x-user-defined` means windows-1252.
-    pub(crate) fn of_markup(self) -> Encoding {
+    pub(crate) fn of_markup(self) -> Encoding
+        ensures { result ≡ of_markup self }
+    {
         match self {
             Encoding::Utf16Be | Encoding::Utf16Le => Encoding::Utf8,
             Encoding::SingleByte(SingleByte::XUserDefined) => {
                 Encoding::SingleByte(SingleByte::Windows1252)
             }
+            _ => self,
+        }
+    }
+
+    /// Returns the encoding of a page that declares this encoding in an XML declaration, where
+    /// UTF-16 means UTF-8 too.
+    pub(crate) fn of_xml_markup(self) -> Encoding
+        ensures { result ≡ of_xml_markup self }
+    {
+        match self {
+            Encoding::Utf16Be | Encoding::Utf16Le => Encoding::Utf8,
             _ => self,
         }
     }

@@ -38,7 +38,7 @@ fn obey(rt: &HostRuntime) -> Result<u8, Fault> {
     match command(rt.alloc())?.try_get_matches_from(words.as_slice()) {
         Ok(matches) => {
             let terminal = rt.stdout().is_terminal();
-            do_files(rt, &Options::new(rt.alloc(), &matches, terminal)?)
+            do_files(rt, &Options::new(rt, &matches, terminal)?)
         }
         Err(refused) => Ok(show(rt, &refused)),
     }

@@ -2,10 +2,9 @@
 
 use crate::output::print_matches;
 use crate::rewriting::{print_document, write_back};
-use dom_query::{Document, DocumentSelect, SelectionMut, run_commands};
-use hq_pages::addresses::make_whole;
+use dom_query::{Document, DocumentSelect, SelectionMut, clean_document, run_commands};
+use hq_pages::addresses::{make_absolute, make_absolute_at};
 use hq_pages::charset::{declare_utf8, report_found};
-use hq_pages::cleaning::sanitize_page;
 use hq_pages::faults::Fault;
 use hq_pages::options::{Job, Options};
 use hq_pages::pages::{read_document, top_of};
@@ -32,7 +31,7 @@ pub fn do_file<W: Write>(
         report_found(rt, name, found, options.verbose, options.printing.json)?;
     }
     let mut page = Page { name, document };
-    change(&mut page.document, options)?;
+    change(&mut page.document, None, options)?;
     let matched = do_job(&mut page, options, out)?;
     if options.in_place {
         write_back(rt, &page)?;
@@ -54,7 +53,7 @@ fn do_job<W: Write>(
             Ok(true)
         }
         Job::Tree => {
-            let text = tree_text(&page.document, top_of(&page.document, options.reading))?;
+            let text = tree_text(&page.document, top_of(&page.document, options))?;
             out.write_all(text.as_bytes())?;
             Ok(true)
         }
@@ -66,20 +65,29 @@ fn do_job<W: Write>(
     }
 }
 
-/// Changes a document as the options say, before anything is printed: elements are removed, the
-/// document is sanitised, and its addresses are made absolute.
-pub fn change(document: &mut Document, options: &Options<'_>) -> Result<(), Fault> {
+/// Changes a document as the options say, before anything is printed: elements are removed, its
+/// addresses are made absolute, and what is left of it by a policy becomes a document of its own.
+/// `address` is that which the page was read from, if it is known.
+pub fn change(
+    document: &mut Document,
+    address: Option<&str>,
+    options: &Options<'_>,
+) -> Result<(), Fault> {
     for selector in options.removed.as_slice() {
         let ids = document.select_matcher(selector)?.ids()?;
         if let Err(refused) = SelectionMut::new(&mut document.tree, ids).remove() {
             return Err(Fault::from(refused.fault));
         }
     }
-    if options.sanitizes {
-        sanitize_page(document)?;
+    make_absolute(document, options)?;
+    if let Some(address) = address {
+        make_absolute_at(document, address)?;
     }
     if options.declares_utf8() {
         declare_utf8(document)?;
     }
-    make_whole(document, options)
+    if let Some(policy) = &options.policy {
+        *document = clean_document(&document.tree, policy)?;
+    }
+    Ok(())
 }

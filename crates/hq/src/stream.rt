@@ -3,7 +3,6 @@
 use crate::archive::answer_records;
 use crate::pages::change;
 use dom_query::{Command, Document, DocumentSelect, Matcher, NodeMarkup, NodeRef, run_commands};
-use hq_pages::addresses::make_whole_at;
 use hq_pages::charset::{Found, put_found};
 use hq_pages::faults::Fault;
 use hq_pages::json::summary_value;
@@ -204,10 +203,7 @@ fn answer_page(
     if options.verbose || found.replaced > 0 {
         put_found(alloc, members, found)?;
     }
-    change(&mut document, options)?;
-    if let Some(address) = address_of(members) {
-        make_whole_at(&mut document, address)?;
-    }
+    change(&mut document, address_of(members), options)?;
     match &options.job {
         Job::Select(selector) => put_matches(alloc, &document, selector, options, counts, members),
         Job::Script(commands) => {

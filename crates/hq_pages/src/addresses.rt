@@ -27,22 +27,22 @@ static ADDRESSES: [&str; 11] = [
 /// `base` element, which is itself resolved against the base of the options. Nothing changes if the
 /// options have no base. An address that can't be resolved stays as it is, and so does the address
 /// of the `base` element.
-pub fn make_whole(document: &mut Document, options: &Options<'_>) -> Result<(), Fault> {
+pub fn make_absolute(document: &mut Document, options: &Options<'_>) -> Result<(), Fault> {
     match &options.base {
-        Some(given) => make_whole_by(document, given),
+        Some(given) => make_absolute_by(document, given),
         None => Ok(()),
     }
 }
 
-fn make_whole_by(document: &mut Document, given: &Url) -> Result<(), Fault> {
+fn make_absolute_by(document: &mut Document, given: &Url) -> Result<(), Fault> {
     let base = base_of(document, given)?;
     for name in &ADDRESSES {
-        for (id, whole) in whole_values(document, name, &base)?.as_slice() {
+        for (id, absolute) in absolute_values(document, name, &base)?.as_slice() {
             document.tree.try_change_of(
                 id,
                 Change::SetAttr {
                     name,
-                    value: whole.as_str(),
+                    value: absolute.as_str(),
                 },
             )?;
         }
@@ -52,9 +52,9 @@ fn make_whole_by(document: &mut Document, given: &Url) -> Result<(), Fault> {
 
 /// Makes the addresses of a document absolute, with the address that it was read from as the base.
 /// Nothing changes if that isn't an absolute address.
-pub fn make_whole_at(document: &mut Document, address: &str) -> Result<(), Fault> {
+pub fn make_absolute_at(document: &mut Document, address: &str) -> Result<(), Fault> {
     match Url::parse(document.tree.allocator(), address) {
-        Ok(given) => make_whole_by(document, &given),
+        Ok(given) => make_absolute_by(document, &given),
         Err(ParseError::OutOfMemory) => Err(Fault::Memory),
         Err(_) => Ok(()),
     }
@@ -74,7 +74,7 @@ fn base_of(document: &Document, given: &Url) -> Result<Url, Fault> {
 
 /// Returns the elements with an attribute of that name whose value can be resolved, each with the
 /// absolute address.
-fn whole_values(
+fn absolute_values(
     document: &Document,
     name: &str,
     base: &Url,
@@ -82,8 +82,8 @@ fn whole_values(
     let alloc = document.tree.allocator();
     let mut found = Vec::new(alloc);
     for node in document.root().descendants_it() {
-        if let Some(whole) = whole_value(alloc, &node, name, base)? {
-            found.push((node.id, whole))?;
+        if let Some(absolute) = absolute_value(alloc, &node, name, base)? {
+            found.push((node.id, absolute))?;
         }
     }
     Ok(found)
@@ -91,7 +91,7 @@ fn whole_values(
 
 /// Returns the absolute address of an element's attribute; `None` if the element doesn't have the
 /// attribute, or if the value can't be resolved.
-fn whole_value(
+fn absolute_value(
     alloc: Global,
     node: &NodeRef<'_>,
     name: &str,
@@ -116,17 +116,4 @@ fn joined(base: &Url, address: &str) -> Result<Option<Url>, Fault> {
         Err(ParseError::OutOfMemory) => Err(Fault::Memory),
         Err(_) => Ok(None),
     }
-}
-
-/// Returns whether an address is relative, or has a scheme that `--sanitize` keeps.
-pub fn is_harmless(alloc: Global, address: &str) -> Result<bool, Fault> {
-    match Url::parse(alloc, address) {
-        Ok(url) => Ok(is_harmless_scheme(url.scheme())),
-        Err(ParseError::OutOfMemory) => Err(Fault::Memory),
-        Err(fault) => Ok(fault == ParseError::RelativeUrlWithoutBase),
-    }
-}
-
-fn is_harmless_scheme(scheme: &str) -> bool {
-    matches!(scheme, "http" | "https" | "mailto" | "ftp" | "tel")
 }

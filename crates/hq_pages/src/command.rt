@@ -15,7 +15,7 @@ const USAGE: &str = "hq [OPTIONS] SELECTOR [FILE ..]
 const AFTER: &str = "Examples:
   hq --text h1 page.html               the headings of a page
   hq --attr href --base https://example.com/ 'main a' page.html
-                                       the links of its main part, as whole addresses
+                                       the links of its main part, as absolute addresses
   hq --document --remove script -i *.html
                                        rewrites pages without their scripts
 
@@ -31,7 +31,7 @@ const NONE: char = ' ';
 
 /// All options, in the order in which `--help` lists them.
 #[rattlefmt::skip]
-static OPTIONS: [Choice; 31] = [
+static OPTIONS: [Choice; 34] = [
     ("html", NONE, "", "", "Print each match as HTML (the default)"),
     ("inner", NONE, "", "", "Print what is inside each match: HTML, or with --md Markdown"),
     ("text", 't', "", "", "Print the text of each match"),
@@ -50,9 +50,12 @@ static OPTIONS: [Choice; 31] = [
     ("null", '0', "", "", "End each answer with a NUL byte instead of a line feed"),
     ("with-filename", 'H', "", "", "Print the name of the file in front of each answer"),
     ("color", NONE, "WHEN", "", "Colour file names: auto (the default), always or never"),
-    ("base", 'b', "URL", "", "Make addresses whole, relative to this one and the page's base"),
-    ("remove", 'r', "SELECTOR", "", "First take out what this matches; may be repeated"),
-    ("sanitize", NONE, "", "", "Then keep only harmless elements, attributes and addresses"),
+    ("base", 'b', "URL", "", "Make addresses absolute: resolve them against this URL and the page's base"),
+    ("remove", 'r', "SELECTOR", "", "First remove what this matches; may be repeated"),
+    ("sanitize", NONE, "", "", "Then keep only what the rules for HTML from strangers allow"),
+    ("policy", NONE, "FILE", "", "With --sanitize: take the rules of this file, in TOML"),
+    ("allow", NONE, "NAMES", "", "With --sanitize: also allow p, a[href], [lang] ..; may be repeated"),
+    ("deny", NONE, "NAMES", "", "With --sanitize: remove these elements and their contents; may be repeated"),
     ("in-place", 'i', "", "", "Write the document back to its file; with --document or --script"),
     ("keep-charset", NONE, "", "", "Leave the encoding that a written document declares"),
     ("charset", NONE, "LABEL", "explicit", "Read pages in this encoding, as an HTTP header names it"),
@@ -134,7 +137,7 @@ fn option<'a>(alloc: Global, choice: &Choice) -> Result<Arg<'a>, AllocError> {
 fn action(name: &str, value: &str) -> ArgAction {
     if value.is_empty() {
         ArgAction::SetTrue
-    } else if matches!(name, "remove" | "script") {
+    } else if matches!(name, "remove" | "script" | "allow" | "deny") {
         ArgAction::Append
     } else {
         ArgAction::Set

@@ -1,6 +1,7 @@
 //! What can go wrong, and how it is reported.
 
 use crate::hints::hint_of;
+use crate::rule_faults::RuleFault;
 use dom_query::{
     EditFault, MarkupFaultKind, OutOfMemory, PageFault, RunFault, SelectorFault,
     valid_selector_prefix,
@@ -42,6 +43,11 @@ pub enum Fault {
     Compressed(&'static str),
     /// The base isn't a URL.
     Base(ParseError),
+    /// The rules of `--sanitize` are at fault: the option or the file that says so, and why.
+    Rules {
+        place: String,
+        fault: RuleFault,
+    },
     /// A file can't be read.
     File(io::Error),
     /// Explicit markup is refused at this line and column. Without a kind, the bytes from there on
@@ -70,6 +76,7 @@ impl fmt::Display for Fault {
             Fault::Edit { line, fault } => write!(f, "--script: line {line}: {fault}"),
             Fault::Compressed(command) => write!(f, "compressed; decompress it first: {command}"),
             Fault::Base(fault) => write!(f, "--base: {fault}"),
+            Fault::Rules { place, fault } => write!(f, "{place}: {fault}"),
             Fault::File(fault) => write!(f, "{fault}"),
             Fault::Markup {
                 kind: Some(kind),

@@ -3,8 +3,8 @@
 #![tactic(auto)]
 
 pub mod addresses;
+pub mod allowing;
 pub mod charset;
-pub mod cleaning;
 pub mod command;
 pub mod compressed;
 pub mod csv_rows;
@@ -14,5 +14,8 @@ pub mod json;
 pub mod options;
 pub mod page_lines;
 pub mod pages;
+pub mod policies;
+pub mod policy_files;
+pub mod rule_faults;
 pub mod showing;
 pub mod tree;

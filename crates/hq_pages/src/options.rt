@@ -2,8 +2,11 @@
 
 use crate::charset::charset_of;
 use crate::faults::Fault;
+use crate::policies::policy_of;
 use clap::ArgMatches;
-use dom_query::{Charset, Command, Context, Matcher, ScriptFault, SelectorFault, read_script};
+use dom_query::{
+    Charset, Command, Context, Matcher, Policy, ScriptFault, SelectorFault, read_script,
+};
 use std::alloc::Global;
 use url::{ParseError, Url};
 
@@ -13,8 +16,8 @@ pub struct Options<'a> {
     pub reading: Reading<'a>,
     /// What is removed from a page first.
     pub removed: Vec<Matcher>,
-    /// Whether a page is sanitised before anything is printed.
-    pub sanitizes: bool,
+    /// The policy by which a page is sanitised before anything is printed.
+    pub policy: Option<Policy>,
     /// The URL against which relative addresses are resolved.
     pub base: Option<Url>,
     pub job: Job,
@@ -114,17 +117,18 @@ impl<'a> Options<'a> {
     /// Returns the options of a command line. `terminal` says whether standard output is a
     /// terminal.
     ///
-    /// Fails if a value isn't what its option takes (a selector, a URL, a number), if options can't
-    /// be combined, and if memory runs out.
+    /// Fails if a value isn't what its option takes (a selector, a URL, a number, the file of a
+    /// policy), if options can't be combined, and if memory runs out.
     pub fn new(
-        alloc: Global,
+        rt: &HostRuntime,
         matches: &ArgMatches<'a>,
         terminal: bool,
     ) -> Result<Options<'a>, Fault> {
+        let alloc = rt.alloc();
         let mut options = Options {
             reading: reading_of(alloc, matches)?,
             removed: Vec::new(alloc),
-            sanitizes: matches.get_flag("sanitize"),
+            policy: policy_of(rt, matches)?,
             base: None,
             job: job_of(alloc, matches)?,
             printing: printing_of(matches, terminal)?,
@@ -188,7 +192,7 @@ impl<'a> Options<'a> {
     fn misfit(&self) -> Option<&'static str> {
         let selects = matches!(self.job, Job::Select(_));
         if self.base.is_some() && !self.prints_addresses() {
-            return Some("--base: nothing that is printed holds an address to make whole");
+            return Some("--base: nothing that is printed holds an address");
         }
         if self.in_place && !matches!(self.job, Job::Document | Job::Script(_)) {
             return Some("--in-place: only with --document or --script");

@@ -3,7 +3,7 @@
 use crate::charset::Found;
 use crate::compressed::command_for;
 use crate::faults::Fault;
-use crate::options::Reading;
+use crate::options::{Options, Reading};
 use dom_query::{
     Charset, Document, Encoding, MarkupFault, MarkupFaultKind, NodeId, Options as PageOptions,
     PageParser, decode_page, read_page,
@@ -14,14 +14,19 @@ use std::io::Read;
 use text_decoding::label_in_content;
 
 /// Returns the node whose children are the top of what was read: the root, or for a fragment the
-/// element `html` around it.
-pub fn top_of(document: &Document, reading: Reading<'_>) -> NodeId {
+/// element around it, which is `html`, or `body` once the fragment has been sanitised.
+pub fn top_of(document: &Document, options: &Options<'_>) -> NodeId {
     let root = document.root().id;
-    if !is_of_fragment(reading) {
+    if !is_of_fragment(options.reading) {
         return root;
     }
-    match document.html_root() {
-        Some(html) => html.id,
+    let around = if options.policy.is_some() {
+        document.body()
+    } else {
+        document.html_root()
+    };
+    match around {
+        Some(node) => node.id,
         None => root,
     }
 }
@@ -197,6 +202,16 @@ fn refused(text: &str, fault: MarkupFault) -> Fault {
 
 /// Returns the fault for bytes that aren't UTF-8 from this offset on, with line and column.
 fn not_utf8(bytes: &[u8], at: usize) -> Fault {
+    let (line, column) = line_and_column(bytes, at);
+    Fault::Markup {
+        kind: None,
+        line,
+        column,
+    }
+}
+
+/// Returns the line and the column of an offset in a text in UTF-8, both counted from 1.
+pub fn line_and_column(bytes: &[u8], at: usize) -> (usize, usize) {
     let front = match bytes.get(..at) {
         Some(front) => front,
         None => bytes,
@@ -211,9 +226,5 @@ fn not_utf8(bytes: &[u8], at: usize) -> Fault {
             column = column.saturating_add(1);
         }
     }
-    Fault::Markup {
-        kind: None,
-        line,
-        column,
-    }
+    (line, column)
 }

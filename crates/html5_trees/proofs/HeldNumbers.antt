@@ -1,10 +1,10 @@
 -- The numbers that tree construction holds, as its stack, its list and its tree change.
-use Rattle.std.proofs.Common.{ℕ, ◌≡◌, ◌+◌, suc, List, [], ◌∷◌, ◌++◌, Option, Some, take, drop, Result, Ok, Err, sym, ap, subst}
+use Rattle.std.proofs.Common.{ℕ, ◌≡◌, ◌+◌, suc, List, [], ◌∷◌, ◌++◌, Option, Some, take, drop, Result, Ok, Err, refl, sym, ap, subst, ◌∙◌, ◌≤◌}
 use Rattle.std.specs.Prelude.{All, OnErr, OnOk, insert, remove, slice_get, slice_set}
 use Rattle.std.specs.Option.{option_to_list}
 use Rattle.std.proofs.lemmas.List.{take-append-drop}
 use Rattle.std.proofs.lemmas.List.Elements.{All-append, All-cons, All-drop, All-pop, All-push, All-same, All-set, All-take, All-weaker}
-use Rattle.std.proofs.lemmas.Option.{IfSome_then}
+use Rattle.std.proofs.lemmas.Option.{IfSome_then, slice_get_within}
 use Rattle.dom_links.specs.Forest.{Forest}
 use Rattle.dom_links.specs.Moves.{moved_to}
 use Rattle.dom_links.specs.declared.gap.InsertionPoint.{InsertionPoint}
@@ -17,6 +17,7 @@ use Rattle.html5_trees.specs.declared.pointers.FormPointer.{FormPointer}
 use Rattle.html5_trees.specs.declared.pointers.FormPointer.TheVariants.{Context, Element as TheForm, None as NoForm}
 use Rattle.html5_trees.specs.declared.stack.Open.{Open}
 use Rattle.html5_trees.specs.Popping.{before_last, is_a_marker}
+use Rattle.html5_trees.proofs.Carrying.{carried_next}
 use Rattle.html5_trees.proofs.PoppingLemmas.{all_before_last}
 use Rattle.html5_trees.proofs.MadeNodes.{Keeps, keeps_contents}
 use Rattle.html5_trees.proofs.StackOrder.{order_copied, order_front, order_grown, order_moved, order_pushed, order_removed, order_renewed}
@@ -96,14 +97,15 @@ stack_pushed f g os ns es h m c o (Ok done) all grows fresh ok err =
     (subst (IsInOrder g) (sym ok) (order_pushed f g os o grows fresh all.stack all.order))
 stack_pushed f g os ns es h m c o (Err fault) all grows fresh ok err = subst (λ ps. AreElements g ps es h m c) (sym err) (grown f g os es h m c all grows)
 
--- a copy is opened behind the element that it lies in
-pub stack_copied : (f g : Forest) (os ns : List Open) (es : List Entry) (h : Option ℕ) (m : FormPointer) (c : Option Open) (n : ℕ) (copy furthest : Open) (r : Result Unit PageFault) → IsForest f → AreElements f os es h m c → Grows f g →
-    IsInside f g copy.id furthest.id → slice_get os n ≡ Some furthest → OnOk r (ns ≡ insert os (n + 1) copy) → OnErr r (ns ≡ os) → AreElements g ns es h m c
-stack_copied f g os ns es h m c n copy furthest (Ok done) good all grows inside there ok err =
+-- a copy leaves the place of an element, and is opened behind the one that it lies in
+pub stack_carried : (f g : Forest) (os ns : List Open) (es : List Entry) (h : Option ℕ) (m : FormPointer) (c : Option Open) (p n : ℕ) (copy furthest : Open) → IsForest f → AreElements f os es h m c → Grows f g →
+    IsInside f g copy.id furthest.id → slice_get os n ≡ Some furthest → p ≤ n → ns ≡ insert (remove os p) n copy → AreElements g ns es h m c
+stack_carried f g os ns es h m c p n copy furthest good all grows inside there le e =
+    let same = e ∙ sym (carried_next os p n copy le (slice_get_within os n furthest there)) in
+    let are = all_inserted (λ (o : Open). IsElement g o.id) os (insert os (n + 1) copy) (n + 1) copy refl inside.element (open_kept f g os (keeps_of f g grows) all.stack) in
     kept f g os ns es h m c all (keeps_of f g grows)
-    (all_inserted (λ (p : Open). IsElement g p.id) os ns (n + 1) copy ok inside.element (open_kept f g os (keeps_of f g grows) all.stack))
-    (subst (IsInOrder g) (sym ok) (order_copied f g os n copy furthest good grows inside all.stack there all.order))
-stack_copied f g os ns es h m c n copy furthest (Err fault) good all grows inside there ok err = subst (λ ps. AreElements g ps es h m c) (sym err) (grown f g os es h m c all grows)
+    (all_removed (λ (o : Open). IsElement g o.id) (insert os (n + 1) copy) ns p same are)
+    (subst (IsInOrder g) (sym same) (order_removed g (insert os (n + 1) copy) p (order_copied f g os n copy furthest good grows inside all.stack there all.order)))
 
 -- a copy takes the places of an element
 pub stack_renewed : (f g : Forest) (os ns : List Open) (es fs : List Entry) (h : Option ℕ) (m : FormPointer) (c : Option Open) (n i : ℕ) (copy last : Open) → AreElements f os es h m c → Grows f g → IsAround f g copy.id last.id →

@@ -7,3 +7,4 @@ mod StackOrder
 mod Ways
 mod PoppingLemmas
 mod PlacingLemmas
+mod Carrying

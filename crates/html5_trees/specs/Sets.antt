@@ -222,3 +222,13 @@ has_foreign_content o = not (is_in_html o.ns) && not (is_a_text_point o) && not 
 
 abbrev pub has_html_content : Open → Bool
 has_html_content o = not (has_foreign_content o)
+
+-- the special elements at which the search for an open list item goes on
+abbrev pub is_crossed_name : Name → Bool
+is_crossed_name Name.Address = true
+is_crossed_name Name.Div = true
+is_crossed_name Name.P = true
+is_crossed_name _ = false
+
+abbrev pub is_crossed : Open → Bool
+is_crossed o = is_in_html o.ns && is_crossed_name o.name

@@ -1,7 +1,8 @@
 //! Sets of elements that the standard names: scopes, special elements and so on.
 
 ghost use Rattle.std.specs.Prelude.{◌≡◌};
-ghost use Rattle.html5_trees.specs.Sets.{ends_context, ends_scope, ends_select, is_a_heading};
+ghost use Rattle.html5_trees.specs.Sets.{ends_context, ends_scope};
+ghost use Rattle.html5_trees.specs.Sets.{ends_select, is_a_heading, is_crossed};
 ghost use Rattle.html5_trees.specs.Sets.{is_implied, is_special_element, is_special_name_of_html};
 
 use crate::name::Name;
@@ -120,8 +121,11 @@ fn is_special_name(name: Name) -> bool
 }
 
 /// Returns whether the search for an open list item goes on past that special element.
-pub fn is_crossed_by_items(open: &Open) -> bool {
-    open.is_html(Name::Address) || open.is_html(Name::Div) || open.is_html(Name::P)
+pub fn is_crossed_by_items(element: &Open) -> bool
+    ensures { result ≡ is_crossed element.now }
+{
+    element.ns == ElementNamespace::Html
+        && matches!(element.name, Name::Address | Name::Div | Name::P)
 }
 
 /// Returns whether the element's end tag can be implied (13.2.6.3).

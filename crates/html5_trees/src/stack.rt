@@ -2,11 +2,12 @@
 //! with `TooManyNodes` if there are too many names.
 
 ghost use Rattle.std.specs.Prelude.{◌≡◌, [], ◌∷◌, ◌++◌, Contains, IfNone, IfSome, OnErr, OnOk};
-ghost use Rattle.std.specs.Prelude.{◌+◌, ◌-◌, drop, insert, length, remove, slice_get};
-ghost use Rattle.std.specs.Prelude.{slice_set, take};
+ghost use Rattle.std.specs.Prelude.{◌+◌, ◌-◌, ◌<◌, ◌≤◌, List, drop, insert, length, remove};
+ghost use Rattle.std.specs.Prelude.{slice_get, slice_set, take};
 ghost use Rattle.std.specs.Option.{option_to_list};
 ghost use Rattle.html5_trees.specs.Popping.{first_from, up_to_last};
 ghost use Rattle.html5_trees.specs.Sets.{ends_context, has_html_content, is_special_element};
+ghost use Rattle.html5_trees.specs.declared.stack.Open.{Open as AnOpen};
 
 mod marks;
 mod others;
@@ -40,6 +41,11 @@ pub struct Open {
 }
 
 impl Open {
+    /// Returns whether the two elements have the same name and namespace.
+    pub fn is_named_like(&self, other: &Open) -> bool {
+        self.ns == other.ns && self.name == other.name && self.number == other.number
+    }
+
     pub fn is_html(&self, name: Name) -> bool {
         self.ns == ElementNamespace::Html && self.name == name
     }
@@ -220,29 +226,58 @@ impl OpenElements {
         }
     }
 
-    /// Replaces the element at an index of the stack. The caller calls `mark` afterwards.
-    pub fn replace(&mut self, place: usize, element: &Open)
-        ensures { self.new.elements.items ≡ slice_set self.old.elements.items place element.now }
+    /// Replaces the element at an index of the stack by a copy of it. The caller calls `mark`
+    /// afterwards.
+    pub fn replace(&mut self, place: usize, copy: &Open)
+        ensures { self.new.elements.items ≡ slice_set self.old.elements.items place copy.now }
     {
-        self.marks.cut(place, self.elements.as_slice());
-        if let Some(entry) = self.elements.get_mut(place) {
-            *entry = *element;
+        if let Some(old) = self.get(place)
+            && !old.is_named_like(copy)
+        {
+            self.marks.cut(place, self.elements.as_slice());
+        }
+        self.put(place, copy);
+    }
+
+    /// Removes the element at an index of the stack, and inserts a copy of it after the element at
+    /// the index `last`.
+    pub fn carry(&mut self, place: usize, last: usize, copy: &Open)
+        requires order { place ≤ last }
+        requires within { last < length self.old.elements.items }
+        ensures { let others = remove self.old.elements.items place in
+            self.new.elements.items ≡ insert others last copy.now }
+    {
+        self.replace(place, copy);
+        self.mark();
+        let mut index = place;
+        while index < last {
+            self.exchange(index);
+            index += 1;
         }
     }
 
-    /// Inserts an element after an index of the stack. The caller calls `mark` afterwards.
-    pub fn insert_behind(&mut self, place: usize, element: &Open) -> Result<(), PageFault>
-        ensures ok { let old = self.old.elements.items in
-            OnOk result (self.new.elements.items ≡ insert old (place + 1) element.now) }
-        ensures err { OnErr result (self.new.elements.items ≡ self.old.elements.items) }
+    /// Exchanges the elements at an index of the stack and at the next one.
+    fn exchange(&mut self, place: usize)
+        requires { place + 1 < length self.old.elements.items }
+        ensures { (others : List AnOpen) (element : AnOpen) →
+            self.old.elements.items ≡ insert others place element → place < length others →
+            self.new.elements.items ≡ insert others (place + 1) element }
     {
-        if place >= self.elements.len() {
-            return self.push(element);
+        let (Some(lower), Some(upper)) = (self.get(place), self.behind(place)) else {
+            return;
+        };
+        self.put(place, &upper);
+        self.put(place + 1, &lower);
+        self.marks.exchange(place, self.elements.as_slice());
+    }
+
+    /// Writes an element at an index of the stack. The caller brings the search index up to date.
+    fn put(&mut self, place: usize, element: &Open)
+        ensures { self.new.elements.items ≡ slice_set self.old.elements.items place element.now }
+    {
+        if let Some(entry) = self.elements.get_mut(place) {
+            *entry = *element;
         }
-        self.marks.reserve(self.elements.len().saturating_add(1))?;
-        self.marks.cut(place + 1, self.elements.as_slice());
-        self.elements.insert(place + 1, *element)?;
-        Ok(())
     }
 
     /// Returns the index of an element on the stack.

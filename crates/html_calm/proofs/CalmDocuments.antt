@@ -10,8 +10,8 @@ use Rattle.dom_markup.specs.Bytes.{is_whitespace}
 use Rattle.dom_markup.specs.Plain.{IsPlainTrees}
 use Rattle.dom_markup.specs.ValueTrees.{Attribute, ValueTrees}
 use Rattle.dom_markup.specs.ValueTrees.ValueTrees.{no_trees, doctype_node, element_node}
-use Rattle.dom_html5.specs.Calm.{IsCalmDocument, admits, are_calm, behind, behind_text, inside, may_hold_text, top}
-use Rattle.dom_html5.specs.declared.calm.nesting.Scope.{Scope}
+use Rattle.calm_pages.specs.Calm.{IsCalmDocument, admits, are_calm, behind, behind_text, inside, may_hold_text, top}
+use Rattle.calm_pages.specs.declared.nesting.Scope.{Scope}
 use Rattle.html5_trees.specs.ElementKinds.{kind_of, names_of}
 use Rattle.html5_trees.specs.declared.element_kinds.ElementCategory.{ElementCategory}
 use Rattle.html5_trees.specs.declared.element_kinds.ElementCategory.TheVariants.{Html, Head, Body}

@@ -11,8 +11,8 @@ use Rattle.dom_markup.specs.Names.{mode_in, raw_names, raw_text_of, text_of, tex
 use Rattle.dom_markup.specs.Plain.{IsPlainIn, IsPlainTrees, begins_with_text}
 use Rattle.dom_markup.specs.ValueTrees.{ValueTrees}
 use Rattle.dom_markup.specs.ValueTrees.ValueTrees.{no_trees, text_node, comment_node, doctype_node, element_node}
-use Rattle.dom_html5.specs.Calm.{admits, are_calm, bars, begins_line, behind, behind_first, inside, may_hold_comment, may_hold_text}
-use Rattle.dom_html5.specs.declared.calm.nesting.Scope.{Scope}
+use Rattle.calm_pages.specs.Calm.{admits, are_calm, bars, begins_line, behind, behind_first, inside, may_hold_comment, may_hold_text}
+use Rattle.calm_pages.specs.declared.nesting.Scope.{Scope}
 use Rattle.html5_trees.specs.ElementKinds.{kind_among, kind_of, may_hold, named_kinds, names_of}
 use Rattle.html5_trees.specs.declared.element_kinds.ElementCategory.{ElementCategory}
 use Rattle.html5_trees.specs.declared.element_kinds.ElementCategory.TheVariants.{Document, Html, Head, Body, Metadata, Verbatim, Phrase, Anchor, Button, Paragraph, Block, Heading, Form, Pre, ItemList, Item, DescriptionList, Description, Table, Caption, ColumnGroup, Column, RowGroup, TableRow, Cell, Other}

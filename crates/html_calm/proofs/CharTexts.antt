@@ -8,7 +8,7 @@ use Rattle.std.proofs.lemmas.Str.{IsUtf8-past_char, chars-nil, chars_past_char, 
 use Rattle.std.specs.Cmp.Derive.{both_true}
 use mathlib.Core.Path.{◌∙◌, sym, ap}
 use Rattle.dom_markup.specs.Bytes.{is_whitespace}
-use Rattle.dom_html5.specs.Calm.{begins_line}
+use Rattle.calm_pages.specs.Calm.{begins_line}
 use Rattle.html_rules.specs.Building.{is_space}
 use Rattle.html_rules.specs.PlainTrees.{is_text}
 use Rattle.html_rules.proofs.TreeLists.{each_space}

@@ -6,9 +6,9 @@ use Rattle.dom_markup.specs.ValueTrees.{Attribute, ValueTrees}
 use Rattle.dom_markup.specs.ValueTrees.ValueTrees.{no_trees, text_node, comment_node, doctype_node, element_node}
 use Rattle.html5_trees.specs.declared.element_kinds.ElementCategory.{ElementCategory}
 use Rattle.html5_trees.specs.declared.element_kinds.ElementCategory.TheVariants.{Heading, ItemList, DescriptionList, Table, ColumnGroup, RowGroup, TableRow, Head}
-use Rattle.dom_html5.specs.Calm.{top}
+use Rattle.calm_pages.specs.Calm.{top}
 use Rattle.html5_trees.specs.ElementKinds.{kind_of}
-use Rattle.dom_html5.specs.declared.calm.nesting.Scope.{Scope}
+use Rattle.calm_pages.specs.declared.nesting.Scope.{Scope}
 use Rattle.html_rules.specs.PlainTrees.{Place, FlowPlace, HeadingPlace, ListPlace, DescriptionListPlace, TablePlace, ColumnGroupPlace, RowGroupPlace, RowPlace, HeadPlace, Within}
 use Rattle.html_standard.specs.Tokens.{Attr}
 use Rattle.html_rules.specs.TreeTokens.{Trees, no_trees as no_nodes, text_node as text, comment_node as comment, doctype_node as doctype, element_node as element}

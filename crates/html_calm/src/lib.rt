@@ -3,7 +3,7 @@
 #![tactic(auto)]
 
 ghost use Rattle.std.specs.Prelude.{◌≡◌, false, ℕ, List, Some, true};
-ghost use Rattle.dom_html5.specs.Calm.{IsCalmDocument, are_calm};
+ghost use Rattle.calm_pages.specs.Calm.{IsCalmDocument, are_calm};
 ghost use Rattle.dom_markup.specs.Plain.{IsPlainTrees};
 ghost use Rattle.dom_markup.specs.ValueTrees.{ValueTrees};
 ghost use Rattle.html_calm.specs.CalmTrees.{have_no_null, nodes_of, scope_in};

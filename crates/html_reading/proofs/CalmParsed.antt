@@ -16,7 +16,7 @@ use Rattle.dom_markup.specs.Plain.{HaveNoIdentifiers, IsPlain, IsPlainTrees, Rep
 use Rattle.dom_markup.specs.ReadingBack.{DocumentIsWrittenAsTrees}
 use Rattle.dom_markup.specs.ValueTrees.{ValueTrees}
 use Rattle.dom_markup.specs.ValueTrees.ValueTrees.{no_trees, text_node, comment_node, doctype_node, element_node}
-use Rattle.dom_html5.specs.Calm.{IsCalmDocument, is_calm_text}
+use Rattle.calm_pages.specs.Calm.{IsCalmDocument, is_calm_text}
 use Rattle.html_rules.specs.Building.{Building, children_of, fragment_start, start, tree_of}
 use Rattle.html_rules.specs.PlainTrees.{flow_contexts}
 use Rattle.html_rules.specs.TreeTokens.{is_among, tokens}

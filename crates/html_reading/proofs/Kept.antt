@@ -12,7 +12,7 @@ use Rattle.std.proofs.lemmas.Str.{encodes-chars}
 use mathlib.Core.Path.{◌∙◌, sym, ap, subst}
 use Rattle.dom_nodes.specs.Escaping.{value_char}
 use Rattle.dom_markup.specs.Escaping.{escaped_text, text_char}
-use Rattle.dom_html5.specs.Calm.{begins_close, has_close, is_calm_byte, is_calm_text}
+use Rattle.calm_pages.specs.Calm.{begins_close, has_close, is_calm_byte, is_calm_text}
 use Rattle.html_standard.specs.Machine.{same_case_less}
 use Rattle.html_standard.specs.PlainMarkup.{TextKind, Rcdata, Rawtext, Script, begins_with, contains_word, is_comment_text, is_raw_char, lacks_end}
 use Rattle.html_laws.specs.ReadableTrees.{IsKept}

@@ -6,3 +6,4 @@ pub mod Kept
 pub mod OneWay
 pub mod ParsedExamples
 pub mod Utf8Pieces
+pub mod WrittenPages

@@ -15,8 +15,8 @@ use Rattle.dom_markup.specs.Names.{raw_names, void_names}
 use Rattle.dom_markup.specs.Plain.{ArePlain, HaveNoIdentifiers, IsPlainTrees}
 use Rattle.dom_markup.specs.ValueTrees.{Attribute, ValueTrees}
 use Rattle.dom_markup.specs.ValueTrees.ValueTrees.{no_trees, text_node, comment_node, doctype_node, element_node}
-use Rattle.dom_html5.specs.Calm.{IsCalmDocument, admits, are_calm, bars, behind, behind_text, inside, may_hold_comment, may_hold_text, top}
-use Rattle.dom_html5.specs.declared.calm.nesting.Scope.{Scope}
+use Rattle.calm_pages.specs.Calm.{IsCalmDocument, admits, are_calm, bars, behind, behind_text, inside, may_hold_comment, may_hold_text, top}
+use Rattle.calm_pages.specs.declared.nesting.Scope.{Scope}
 use Rattle.html5_trees.specs.ElementKinds.{holds_doctype, kind_of, may_hold}
 use Rattle.html5_trees.specs.declared.element_kinds.ElementCategory.{ElementCategory}
 use Rattle.html5_trees.specs.declared.element_kinds.ElementCategory.TheVariants.{Document, Html, Head, Body, Metadata, Verbatim, Phrase, Anchor, Button, Paragraph, Block, Heading, Form, Pre, ItemList, Item, DescriptionList, Description, Table, Caption, ColumnGroup, Column, RowGroup, TableRow, Cell, Other}

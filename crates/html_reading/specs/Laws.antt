@@ -6,7 +6,7 @@ use Rattle.dom_links.specs.Sound.{IsForest}
 use Rattle.dom_markup.specs.Html.{html_of}
 use Rattle.dom_markup.specs.Plain.{IsPlain, IsPlainTrees}
 use Rattle.dom_markup.specs.ValueTrees.{ValueTrees}
-use Rattle.dom_html5.specs.Calm.{IsCalmDocument, IsCalmForest, IsCalmPage, are_calm}
+use Rattle.calm_pages.specs.Calm.{IsCalmDocument, IsCalmForest, IsCalmPage, are_calm}
 use Rattle.html_rules.specs.PlainTrees.{flow_contexts}
 use Rattle.html_rules.specs.TreeTokens.{Trees, is_among}
 use Rattle.html_calm.specs.CalmTrees.{nodes_of, scope_in}

@@ -1,3 +1,4 @@
 pub mod Examples
 pub mod Laws
+pub mod Pages
 pub mod Parsing

@@ -8,9 +8,12 @@ ghost use Rattle.html_reading.specs.Examples.{ImpliedTagsAreParsed, TextStatesAr
 ghost use Rattle.html_reading.specs.Laws.{CalmDocumentsAreParsed, CalmFragmentsAreParsed};
 ghost use Rattle.html_reading.specs.Laws.{CalmHtmlIsParsed, CalmPagesAreParsed};
 ghost use Rattle.html_reading.specs.Laws.{FragmentsAreParsedOneWay, PagesAreParsedOneWay};
+ghost use Rattle.html_reading.specs.Pages.{CalmHtmlIsWritten, WrittenPagesAreParsed};
 
+use calm_pages::laws::calm_documents_are_pages;
 use dom_markup::laws::plain::{
-    documents_stand_for_their_trees, html_of_trees, one_meaning, what_is_read_is_plain,
+    documents_stand_for_their_trees, html_of_trees, one_meaning, plain_reads_back,
+    what_is_read_is_plain,
 };
 
 /// The HTML of a calm document is parsed as that document (`html`), and so is every calm page that
@@ -46,6 +49,26 @@ pub fn one_parse()
     ensures page { PagesAreParsedOneWay }
     ensures fragment { FragmentsAreParsedOneWay }
 {}
+
+/// A calm page that is written as `html` writes it, or with `<` and `>` escaped in values too, is
+/// parsed as its document and as no other.
+pub fn written_pages_are_parsed()
+    ensures { WrittenPagesAreParsed }
+{
+    calm_html_is_parsed();
+    safe_html_is_parsed();
+    one_parse();
+}
+
+/// The HTML of a plain and calm document is such a page.
+pub fn calm_html_is_written()
+    ensures { CalmHtmlIsWritten }
+{
+    calm_documents_are_pages();
+    html_of_trees();
+    one_meaning();
+    plain_reads_back();
+}
 
 /// Two pages that are parsed as the trees that are given with them: one without most of its tags,
 /// and one with elements whose text has states of its own.

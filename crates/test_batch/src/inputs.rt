@@ -1,6 +1,7 @@
 //! Many inputs in one process. `test_batch bulk inputs KIND` reads inputs in hexadecimal from
 //! standard input, one on each line, and prints one line for each. `test_batch bulk pages WAY` does
-//! so with pages that are parsed in that way.
+//! so with pages that are parsed in that way, and `test_batch bulk encoded SIZE [LABEL]` with pages in
+//! any encoding, in pieces of that size or whole (0), which came with that label or with none.
 
 use crate::web::show_bytes;
 use dom_query::{Document, Matcher, parse_selector_list, run};
@@ -20,7 +21,7 @@ fn digit_of(byte: u8) -> Option<u8> {
 }
 
 /// Returns the bytes that a line has in hexadecimal; `None` if it has another character.
-fn bytes_of(alloc: Global, line: &str) -> Option<Vec<u8>> {
+pub fn bytes_of(alloc: Global, line: &str) -> Option<Vec<u8>> {
     let mut bytes = Vec::new(alloc);
     let mut is_second = false;
     let mut first: u8 = 0;

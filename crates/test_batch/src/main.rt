@@ -6,6 +6,7 @@
 #![tactic(auto)]
 
 mod asking;
+mod encoded;
 mod inputs;
 mod streams;
 mod web;
@@ -28,6 +29,7 @@ fn read_many(rt: &HostRuntime, words: &[String]) -> Option<()> {
     match word.as_str() {
         "inputs" => inputs::answer_all(rt, only(words)?),
         "pages" => inputs::read_pages(rt, only(words)?),
+        "encoded" => encoded::read_all(rt, words),
         "streams" => streams::drive_all(rt, words),
         _ => None,
     }

@@ -3,6 +3,7 @@ use Rattle.std.specs.Prelude.{◌≡◌, ℕ, List, drop, Option, Some, None, Ma
 use Rattle.std.specs.Option.{option_map_or}
 use Rattle.decoded_text.specs.Characters.{text_of}
 use Rattle.encodings.specs.Labels.{for_bom}
+use Rattle.encodings.specs.Prescan.{declared_encoding}
 use Rattle.encodings.specs.declared.encoding.Encoding.{Encoding}
 use Rattle.encodings.specs.declared.encoding.Encoding.TheVariants.{SingleByte, Utf8}
 use Rattle.encodings.specs.declared.single_byte.SingleByte.TheVariants.{Windows1252}
@@ -34,9 +35,8 @@ abbrev pub IsFallback : Fallback → List ℕ → Encoding → Type 0
 IsFallback (Of given) bytes encoding = encoding ≡ given
 IsFallback Guess bytes encoding = (IsUtf8 bytes → encoding ≡ Utf8) × ((IsUtf8 bytes → ⊥) → encoding ≡ SingleByte Windows1252)
 
--- the page is in the encoding that the strongest of these says, and in the fallback where none does; what the page declares is
--- what `declared_encoding` finds
+-- the page is in the encoding that the strongest of these says, and in the fallback where none does
 abbrev pub IsPageEncoding : Charset → List ℕ → Encoding → Confidence → Type 0
 IsPageEncoding charset bytes encoding confidence =
-    (declared : Option Encoding) × MatchOption (said (for_bom bytes) charset.transport declared)
+    MatchOption (said (for_bom bytes) charset.transport (declared_encoding bytes))
     (IsFallback charset.fallback bytes encoding × (confidence ≡ Unsaid)) (λ found. found ≡ (encoding, confidence))

@@ -1,8 +1,8 @@
 //! Decoding pages, whose encoding has to be found first.
 
-ghost use Rattle.std.specs.Prelude.{◌≡◌, IfOk, None, Option, Some, drop};
+ghost use Rattle.std.specs.Prelude.{◌≡◌, IfOk, None, Some, drop};
 ghost use Rattle.encodings.specs.Labels.{for_bom};
-ghost use Rattle.encodings.specs.declared.encoding.Encoding.{Encoding};
+ghost use Rattle.encodings.specs.Prescan.{declared_encoding};
 ghost use Rattle.text_decoding.specs.Decoding.{IsTextOf, characters};
 ghost use Rattle.text_decoding.specs.Pages.{IsFallback, IsPageEncoding, behind_mark, said};
 ghost use Rattle.text_decoding.specs.declared.page.Confidence.TheVariants.{Fallback as Unsaid};
@@ -103,8 +103,7 @@ fn said_encoding(
     bytes: &[u8],
     transport: Option<Encoding>,
 ) -> (Option<(Encoding, Confidence)>, &[u8])
-    ensures said { (declared : Option Encoding)
-        × (result.0 ≡ said (for_bom bytes.now) transport declared) }
+    ensures said { result.0 ≡ said (for_bom bytes.now) transport (declared_encoding bytes.now) }
     ensures rest { result.1.now ≡ behind_mark bytes.now }
 {
     if let Some((encoding, length)) = Encoding::for_bom(bytes) {

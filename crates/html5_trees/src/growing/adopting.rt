@@ -1,7 +1,7 @@
 //! Reconstructing the active formatting elements (13.2.4.3), and the adoption agency algorithm
 //! (13.2.6.4.7). A call that returns a `Result` fails only when memory or node ids run out.
 
-ghost use Rattle.std.specs.Prelude.{◌≡◌};
+ghost use Rattle.std.specs.Prelude.{◌≡◌, ◌+◌, ◌^◌, ◌<◌, ◌≤◌, false, true};
 ghost use Rattle.html5_trees.specs.Elements.{IsElement};
 
 use super::GrowingTree;
@@ -23,7 +23,12 @@ struct Bookmark {
 
 impl Bookmark {
     /// Returns the bookmark after the first entry that was replaced.
-    fn behind(self, index: usize) -> Bookmark {
+    fn behind(self, index: usize) -> Bookmark
+        ensures first { let room = index + 1 < 2 ^ 64 in
+            self.renewed ≡ false → room → result.index ≡ index + 1 }
+        ensures later { self.renewed ≡ true → result ≡ self }
+        ensures renewed { result.renewed ≡ true }
+    {
         if self.renewed {
             return self;
         }
@@ -34,7 +39,11 @@ impl Bookmark {
     }
 
     /// Returns the bookmark after an entry is removed.
-    fn without(self, index: usize) -> Bookmark {
+    fn without(self, index: usize) -> Bookmark
+        ensures before { index < self.index → result.index + 1 ≡ self.index }
+        ensures behind { self.index ≤ index → result ≡ self }
+        ensures renewed { result.renewed ≡ self.renewed }
+    {
         if index >= self.index {
             return self;
         }
@@ -118,9 +127,7 @@ impl GrowingTree {
         bookmark: Bookmark,
         foster: bool,
     ) -> Result<(), PageFault> {
-        let Some(furthest) = self.stack.get(furthest_place) else {
-            return Ok(());
-        };
+        let count = self.stack.len();
         let mut bookmark = bookmark;
         let mut round: usize = 0;
         for node_place in (place.saturating_add(1)..furthest_place).rev() {
@@ -129,10 +136,8 @@ impl GrowingTree {
         }
         self.mark();
         self.put_below(place, foster);
-        match self.stack.place_of(&furthest) {
-            Some(furthest_place) => self.adopt_children(place, furthest_place, bookmark),
-            None => Ok(()),
-        }
+        let removed = count.saturating_sub(self.stack.len());
+        self.adopt_children(place, furthest_place.saturating_sub(removed), bookmark)
     }
 
     /// Runs the inner loop for one element. It is replaced by a copy if it is in the list and among
@@ -199,38 +204,33 @@ impl GrowingTree {
         let Some(furthest) = self.stack.get(furthest_place) else {
             return Ok(());
         };
+        if place > furthest_place {
+            return Ok(());
+        }
         is_forest(&self.tree);
         let parent = furthest.id;
+        let element = formatting.id;
         let copy = put_children_into_copy(&mut self.tree, formatting, parent)?;
-        self.stack.insert_behind(furthest_place, &copy)?;
-        self.put_in_place(place, bookmark, &copy)
+        self.stack.carry(place, furthest_place, &copy);
+        self.put_in_place(element, bookmark, &copy)
     }
 
-    /// Returns the index in the list of the element at an index of the stack.
-    fn entry_at(&self, place: usize) -> Option<usize> {
-        self.formatting.index_of(self.stack.get(place)?.id)
-    }
-
-    /// Replaces an element of the list by its copy at the bookmark, and removes the element from
-    /// the stack.
+    /// Replaces an element of the list by its copy at the bookmark.
     fn put_in_place(
         &mut self,
-        place: usize,
+        element: NodeId,
         bookmark: Bookmark,
         copy: &Open,
     ) -> Result<(), PageFault>
         requires { IsElement self.old copy.now.id }
     {
         let mut index = bookmark.index;
-        if let Some(gone) = self.entry_at(place) {
+        if let Some(gone) = self.formatting.index_of(element) {
             self.remove_entry(gone);
             index = bookmark.without(gone).index;
         }
         let likeness = self.likeness_of(copy.id);
-        self.insert_entry(index, copy, likeness)?;
-        self.remove_at(place);
-        self.mark();
-        Ok(())
+        self.insert_entry(index, copy, likeness)
     }
 
     /// Inserts an entry of that likeness at an index of the list.

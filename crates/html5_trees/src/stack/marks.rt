@@ -14,6 +14,8 @@ pub struct Mark {
     /// The previous element with the same name that is an HTML element or a foreign one, like this
     /// one.
     same: usize,
+    /// The next such element.
+    next: usize,
     /// The last HTML element up to here.
     html: usize,
     /// The last special element up to here.
@@ -27,6 +29,7 @@ pub struct Mark {
 /// The answers for an empty stack.
 const NOTHING: Mark = Mark {
     same: 0,
+    next: 0,
     html: 0,
     special: 0,
     ends: 0,
@@ -36,6 +39,30 @@ const NOTHING: Mark = Mark {
 /// Returns this position if the element qualifies, and otherwise the one found before.
 fn topmost_of(is_one: bool, top: usize, below: usize) -> usize {
     if is_one { top } else { below }
+}
+
+impl Mark {
+    /// Returns whether the other entry has the same answers, apart from those about names.
+    fn has_answers_of(&self, other: &Mark) -> bool {
+        self.html == other.html
+            && self.special == other.special
+            && self.ends == other.ends
+            && self.item_ends == other.item_ends
+    }
+}
+
+/// Returns the answers for an element at index `top` - 1, apart from those about names; `below` has
+/// those for the element before it.
+fn found(open: &Open, top: usize, below: &Mark) -> Mark {
+    let special = is_special(open);
+    let is_html = open.ns == ElementNamespace::Html;
+    Mark {
+        html: topmost_of(is_html, top, below.html),
+        special: topmost_of(special, top, below.special),
+        ends: topmost_of(ends_default_scope(open), top, below.ends),
+        item_ends: topmost_of(special && !is_crossed_by_items(open), top, below.item_ends),
+        ..NOTHING
+    }
 }
 
 /// The last HTML element and the last foreign element with some name, as one more than an index.
@@ -55,6 +82,13 @@ fn put(all: &mut [Tops], index: usize, tops: Tops) {
     if let Some(entry) = all.get_mut(index) {
         *entry = tops;
     }
+}
+
+/// Returns whether two elements have the same name, and both are HTML elements or neither is.
+fn is_alike(one: &Open, other: &Open) -> bool {
+    (one.ns == ElementNamespace::Html) == (other.ns == ElementNamespace::Html)
+        && one.name == other.name
+        && one.number == other.number
 }
 
 /// The index over the stack, one entry for each element. The entries from some position on may be
@@ -183,6 +217,7 @@ impl Marks {
                 && let Some(open) = elements.get(index)
             {
                 self.set_top(open, mark.same);
+                self.set_next(mark.same, 0);
             }
         }
     }
@@ -198,24 +233,100 @@ impl Marks {
 
     fn add(&mut self, open: &Open) {
         let top = self.rows.len().saturating_add(1);
-        let mark = self.mark_of(open, top);
+        let tops = self.tops_of(open);
+        let same = if open.ns == ElementNamespace::Html {
+            tops.html
+        } else {
+            tops.foreign
+        };
+        let mark = found(open, top, &self.last());
         if self.rows.len() < self.rows.capacity() {
-            self.rows.push_reserved(mark);
+            self.rows.push_reserved(Mark { same, ..mark });
+            self.set_next(same, top);
             self.set_top(open, top);
         }
     }
 
-    fn mark_of(&self, open: &Open, top: usize) -> Mark {
-        let below = self.last();
-        let special = is_special(open);
-        let is_html = open.ns == ElementNamespace::Html;
-        let same = self.tops_of(open);
-        Mark {
-            same: if is_html { same.html } else { same.foreign },
-            html: topmost_of(is_html, top, below.html),
-            special: topmost_of(special, top, below.special),
-            ends: topmost_of(ends_default_scope(open), top, below.ends),
-            item_ends: topmost_of(special && !is_crossed_by_items(open), top, below.item_ends),
+    /// Notes the next element like the one at index `place` - 1.
+    fn set_next(&mut self, place: usize, next: usize) {
+        if let Some(index) = place.checked_sub(1)
+            && let Some(mark) = self.rows.get_mut(index)
+        {
+            mark.next = next;
+        }
+    }
+
+    /// Notes the previous element like the one at index `place` - 1.
+    fn set_same(&mut self, place: usize, same: usize) {
+        if let Some(index) = place.checked_sub(1)
+            && let Some(mark) = self.rows.get_mut(index)
+        {
+            mark.same = same;
+        }
+    }
+
+    /// Updates the entries, none of which is missing, after the elements at an index of the stack
+    /// and at the next one changed places. It takes as many steps as there are elements up to the
+    /// next one for which all answers stay the same.
+    pub fn exchange(&mut self, place: usize, elements: &[Open]) {
+        let upper_place = place.saturating_add(1);
+        if let Some(lower) = elements.get(place)
+            && let Some(upper) = elements.get(upper_place)
+            && !is_alike(lower, upper)
+        {
+            let was_lower = self.row(upper_place);
+            let was_upper = self.row(place);
+            self.relink(lower, was_lower, upper_place);
+            self.relink(upper, was_upper, upper_place.saturating_add(1));
+        }
+        self.refresh(place, elements);
+    }
+
+    fn row(&self, place: usize) -> Mark {
+        self.rows.get(place).copied().unwrap_or(NOTHING)
+    }
+
+    /// Links an element that is now at index `place` - 1 with the previous one like it and the next
+    /// one, which its former entry names.
+    fn relink(&mut self, open: &Open, former: Mark, place: usize) {
+        self.set_same(place, former.same);
+        self.set_next(place, former.next);
+        self.set_next(former.same, place);
+        if former.next == 0 {
+            self.set_top(open, place);
+        } else {
+            self.set_same(former.next, place);
+        }
+    }
+
+    /// Updates the answers from an index on, up to the first element that is unchanged and has the
+    /// same answers as before.
+    fn refresh(&mut self, place: usize, elements: &[Open]) {
+        let mut below = match place.checked_sub(1) {
+            Some(index) => self.row(index),
+            None => NOTHING,
+        };
+        for index in place..self.rows.len() {
+            let Some(open) = elements.get(index) else {
+                return;
+            };
+            let mark = found(open, index.saturating_add(1), &below);
+            let old = self.row(index);
+            if index > place.saturating_add(1) && mark.has_answers_of(&old) {
+                return;
+            }
+            below = Mark {
+                same: old.same,
+                next: old.next,
+                ..mark
+            };
+            self.set_row(index, below);
+        }
+    }
+
+    fn set_row(&mut self, index: usize, mark: Mark) {
+        if let Some(entry) = self.rows.get_mut(index) {
+            *entry = mark;
         }
     }
 }

@@ -1,5 +1,5 @@
 use Rattle.std.proofs.Common.{◌∙◌, subst, sym}
-use Rattle.dom_html5.specs.Calm.{IsCalmPage}
+use Rattle.calm_pages.specs.Calm.{IsCalmPage}
 use Rattle.dom_clean.specs.Laws.{page_of}
 use Rattle.dom_clean.proofs.cleaning.calm_page.Goals as goal
 

@@ -1,7 +1,7 @@
 use Rattle.std.proofs.Common.{◌≡◌, ◌∙◌, ◌∷◌, List, ap, arith, drop, get_or, length, sym, ℕ}
 use Rattle.std.proofs.lemmas.Bool.{ne_eqb}
 use Rattle.std.proofs.lemmas.Str.{IsCharBoundary-after_ascii}
-use Rattle.dom_html5.specs.Calm.{begins_line}
+use Rattle.calm_pages.specs.Calm.{begins_line}
 use Rattle.dom_clean.proofs.values.strip_line.Goals as goal
 
 pub range_from-requires : goal.range_from-requires

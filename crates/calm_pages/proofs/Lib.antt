@@ -1,0 +1,5 @@
+mod CalmFrames
+mod CalmPages
+mod NodeRows
+mod ScopeLemmas
+mod TextLemmas

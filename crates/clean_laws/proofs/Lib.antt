@@ -1,3 +1,0 @@
-pub mod CalmPlaces
-pub mod CleanedParsed
-pub mod CleanedText

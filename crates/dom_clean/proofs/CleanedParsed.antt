@@ -1,0 +1,86 @@
+-- The text of what was left is parsed as what was left.
+use Rattle.std.specs.Prelude.{◌≡◌, ℕ, true, false, List}
+use Rattle.std.specs.Str.{IsUtf8, chars}
+use mathlib.Core.Path.{◌∙◌, sym, ap, subst}
+use Rattle.dom_markup.specs.Numbered.{document_of}
+use Rattle.dom_markup.specs.Plain.{IsPlain, IsPlainTrees}
+use Rattle.dom_markup.specs.ValueTrees.{ValueTrees}
+use Rattle.dom_links.specs.Forest.{Forest, children_of}
+use Rattle.calm_pages.specs.Calm.{IsCalmPage}
+use Rattle.html_rules.specs.PlainTrees.{flow_contexts}
+use Rattle.html_rules.specs.TreeTokens.{is_among}
+use Rattle.html_calm.specs.CalmTrees.{nodes_of}
+use Rattle.html_laws.specs.ReadableTrees.{AreReadable}
+use Rattle.html_laws.specs.Values.{safe_char, safe_piece}
+use Rattle.html_laws.specs.WrittenTrees.{text_by}
+use Rattle.html_laws.proofs.Pieces.{safe_writes_values}
+use Rattle.html_reading.specs.Laws.{CalmFragmentsAreParsed, CalmPagesAreParsed, FragmentsAreParsedOneWay, PagesAreParsedOneWay}
+use Rattle.html_reading.specs.Parsing.{IsFragmentOf, IsPageOf, IsPageOnlyOf}
+use Rattle.html_reading.proofs.CalmParsed.{OneMeaning, ReadIsPlain, StandForTheirTrees}
+use Rattle.html_reading.proofs.CalmReadable.{document_readable}
+use Rattle.html_reading.proofs.Kept.{calm_kept, safe_shows}
+use Rattle.html_reading.proofs.Utf8Pieces.{document_bare, document_utf8}
+use Rattle.dom_clean.specs.Cleaned.{cleaned_below}
+use Rattle.dom_clean.specs.Laws.{IsSafe, left_below, page_around, page_of}
+use Rattle.dom_clean.specs.Policy.{Policy, is_sound}
+use Rattle.dom_clean.specs.Written.{text_of}
+use Rattle.dom_clean.specs.Parsed.{CleanedPagesAreParsed, CleanedTextsAreParsed, IsCleanedAs, IsCleanedPage, IsCleanedText}
+use Rattle.dom_clean.proofs.CalmPlaces.{fragment_calm}
+use Rattle.dom_clean.proofs.CleanedText.{page_utf8, same_page, same_text}
+use Rattle.dom_clean.proofs.Pages.{safe_text}
+
+-- the page as html_laws writes it
+page_is : (policy : Policy) → is_sound policy ≡ true → (text : List ℕ) (trees : ValueTrees) → IsSafe policy text trees → page_around text ≡ text_by safe_char false (page_of trees)
+page_is policy sound text trees safe = ap page_around safe.is ∙ sym (same_page policy sound trees safe.allowed)
+
+text_is : (policy : Policy) → is_sound policy ≡ true → (text : List ℕ) (trees : ValueTrees) → IsSafe policy text trees → text ≡ text_by safe_char false trees
+text_is policy sound text trees safe = safe.is ∙ sym (same_text policy sound trees safe.allowed)
+
+-- ---- pages
+
+pub pages_parsed : CalmPagesAreParsed safe_char → PagesAreParsedOneWay → CleanedPagesAreParsed
+pages_parsed calm once policy sound text trees utf8 safe =
+    let is : page_around text ≡ text_by safe_char false (page_of trees) = page_is policy sound text trees safe in
+    let parsed : IsPageOf (chars (page_around text)) (nodes_of (page_of trees)) =
+    subst (λ t. IsPageOf (chars t) (nodes_of (page_of trees))) (sym is) (calm (page_of trees) (subst IsUtf8 is utf8) (subst (λ t. IsCalmPage t (page_of trees)) is safe.page)) in
+    record { parsed = parsed; only = λ other p. once (chars (page_around text)) other (nodes_of (page_of trees)) p parsed }
+
+-- ---- fragments
+
+-- the document of a calm page is plain
+page_plain : OneMeaning → ReadIsPlain → StandForTheirTrees → (text : List ℕ) (trees : ValueTrees) → IsUtf8 text → IsCalmPage text trees → IsPlainTrees true trees
+page_plain meaning read stand text trees utf8 page =
+    let plain : IsPlain (document_of trees) = read text trees utf8 page.spelled (document_bare trees page.document) in
+    subst (IsPlainTrees true) (meaning (document_of trees) (children_of (document_of trees) 0) plain.trees trees plain.below (stand trees)) plain.plain
+
+pub texts_parsed : OneMeaning → ReadIsPlain → StandForTheirTrees → CalmPagesAreParsed safe_char → CalmFragmentsAreParsed safe_char → PagesAreParsedOneWay → FragmentsAreParsedOneWay →
+    CleanedTextsAreParsed
+texts_parsed meaning read stand calm pieces page_once fragment_once policy sound text trees utf8 safe =
+    let is : page_around text ≡ text_by safe_char false (page_of trees) = page_is policy sound text trees safe in
+    let page : IsCalmPage (text_by safe_char false (page_of trees)) (page_of trees) = subst (λ t. IsCalmPage t (page_of trees)) is safe.page in
+    let page_is_utf8 : IsUtf8 (text_by safe_char false (page_of trees)) = subst IsUtf8 is (page_utf8 text utf8) in
+    let plain : IsPlainTrees true (page_of trees) = page_plain meaning read stand (text_by safe_char false (page_of trees)) (page_of trees) page_is_utf8 page in
+    let readable : AreReadable (page_of trees) =
+    document_readable safe_char safe_shows (page_of trees) page.document plain (document_utf8 safe_char safe_piece safe_writes_values (page_of trees) page.document plain page_is_utf8)
+    (calm_kept (text_by safe_char false (page_of trees)) page.bytes) in
+    let fragment : (context : List ℕ) → is_among context flow_contexts ≡ true → IsFragmentOf context (chars text) (nodes_of trees) =
+    λ context among. subst (λ t. IsFragmentOf context (chars t) (nodes_of trees)) (sym (text_is policy sound text trees safe))
+    (pieces context trees among (fragment_calm trees page.document.calm context among) plain.4.5.6.5 readable.1.3.4.3) in
+    record {
+      page = pages_parsed calm page_once policy sound text trees (page_utf8 text utf8) safe;
+      fragment = λ context among. record { parsed = fragment context among; only = λ other p. fragment_once context (chars text) other (nodes_of trees) p (fragment context among) };
+    }
+
+-- ---- what is returned
+
+-- the text of what is left below a node
+pub cleaned_text : CleanedTextsAreParsed → (policy : Policy) → is_sound policy ≡ true → (forest : Forest) (n : ℕ) (text : List ℕ) → IsUtf8 text → text ≡ text_of (cleaned_below policy forest n) →
+    IsCleanedAs policy text (left_below policy forest n)
+cleaned_text parsed policy sound forest n text utf8 is =
+    let safe : IsSafe policy text (left_below policy forest n) = safe_text policy sound forest n text is in
+    record { safe = safe; parsed = parsed policy sound text (left_below policy forest n) utf8 safe }
+
+-- a page with such a text in its body
+pub cleaned_page : (policy : Policy) (page text : List ℕ) → page ≡ page_around text → IsCleanedText policy text → IsCleanedPage policy page
+cleaned_page policy page text is cleaned =
+    record { text = text; trees = cleaned.0; is = is; cleaned = cleaned.1; parsed = subst (λ t. IsPageOnlyOf (chars t) (nodes_of (page_of cleaned.0))) (sym is) cleaned.1.parsed.page }

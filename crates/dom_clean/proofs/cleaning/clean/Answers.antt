@@ -1,0 +1,57 @@
+use Rattle.std.proofs.Common.{◌≡◌, ℕ, ◌≤◌, Option, None, Some, sym, ap, ◌∙◌, arith}
+use Rattle.std.specs.Prelude.{MatchOption, unwrap_or}
+use Rattle.std.proofs.lemmas.Option.{none-some, same_Some}
+use Rattle.std.proofs.lemmas.Result.{IfOk-weaker}
+use Rattle.dom_links.specs.Forest.{Forest}
+use Rattle.dom_markup.specs.Numbered.{document_of}
+use Rattle.dom_markup.specs.declared.document.Document.{Document}
+use Rattle.dom_clean.specs.Cleaned.{cleaned_below}
+use Rattle.dom_clean.specs.Laws.{left_below, page_of}
+use Rattle.dom_clean.specs.Written.{text_of}
+use Rattle.dom_clean.proofs.Again.{page_read, text_stays}
+use Rattle.dom_clean.proofs.cleaning.clean.Goals as goal
+
+-- the document that was found
+found_is : (found : Option Document) (document : Document) (forest : Forest) → found ≡ Some document → MatchOption found ⊥ (λ d. d.tree ≡ forest) → document.tree ≡ forest
+found_is None document forest is holds = absurd holds
+found_is (Some d) document forest is holds = ap (λ (x : Document). x.tree) (sym (same_Some d document is)) ∙ holds
+
+found_none : (found : Option Document) (forest : Forest) → found ≡ None → MatchOption found ⊥ (λ d. d.tree ≡ forest) → ⊥
+found_none None forest is holds = holds
+found_none (Some d) forest is holds = none-some d (sym is)
+
+id_is : (found : Option ℕ) (other : ℕ) → MatchOption found (4294967295 ≤ 4) (λ id. id ≡ 4) → unwrap_or found other ≡ 4
+id_is None other holds = absurd (omega (arith, holds))
+id_is (Some id) other holds = holds
+
+pub returns-in-Some-clause-calm : goal.returns-in-Some-clause-calm
+returns-in-Some-clause-calm c = λ body calm.
+    let policy = c.args.policy.now in
+    let read = found_is c.in_ok-document.field-0 c.in-Some.document (document_of (page_of body)) c.in-Some.is (c.in_ok-document.ensures body calm) in
+    let four : c.unwrap_or-body.result ≡ 4 = c.unwrap_or-body.ensures ∙ id_is c.new.result c.root.result c.new.ensures in
+    IfOk-weaker c.clean_node.result _ _
+    (λ text is. is ∙ ap (λ n. text_of (cleaned_below policy c.in-Some.document.tree n)) four ∙ ap (λ (forest : Forest). text_of (cleaned_below policy forest 4)) read)
+    c.clean_node.ensures.text
+
+pub returns-in-Some-clause-left : goal.returns-in-Some-clause-left
+returns-in-Some-clause-left c = IfOk-weaker c.clean_node.result _ _ (λ text is. (c.in-Some.document.tree, c.unwrap_or-body.result, is)) c.clean_node.ensures.text
+
+pub returns-in-Some-clause-again : goal.returns-in-Some-clause-again
+returns-in-Some-clause-again c = λ left.
+    let policy = c.args.policy.now in
+    let sound = c.lists.ensures.sound in
+    let page = document_of (page_of (left_below policy left.0 left.1)) in
+    let read = found_is c.in_ok-document.field-0 c.in-Some.document page c.in-Some.is (c.in_ok-document.ensures (left_below policy left.0 left.1) (page_read policy sound c.args.source.now left)) in
+    let four : c.unwrap_or-body.result ≡ 4 = c.unwrap_or-body.ensures ∙ id_is c.new.result c.root.result c.new.ensures in
+    IfOk-weaker c.clean_node.result _ _
+    (λ text is. is ∙ ap (λ n. text_of (cleaned_below policy c.in-Some.document.tree n)) four ∙ ap (λ (forest : Forest). text_of (cleaned_below policy forest 4)) read ∙ text_stays policy sound c.args.source.now left)
+    c.clean_node.ensures.text
+
+pub returns-in-None-clause-calm : goal.returns-in-None-clause-calm
+returns-in-None-clause-calm c = λ body calm. absurd (found_none c.in_ok-document.field-0 (document_of (page_of body)) c.in-None.is (c.in_ok-document.ensures body calm))
+
+pub returns-in-None-clause-again : goal.returns-in-None-clause-again
+returns-in-None-clause-again c = λ left.
+    let policy = c.args.policy.now in
+    let body = left_below policy left.0 left.1 in
+    absurd (found_none c.in_ok-document.field-0 (document_of (page_of body)) c.in-None.is (c.in_ok-document.ensures body (page_read policy c.lists.ensures.sound c.args.source.now left)))

@@ -1,0 +1,42 @@
+-- What the HTML Standard makes of the text of what is left.
+use Rattle.std.specs.Prelude.{◌≡◌, ℕ, true, List}
+use Rattle.std.specs.Str.{IsUtf8, chars}
+use Rattle.dom_markup.specs.ValueTrees.{ValueTrees}
+use Rattle.html_rules.specs.PlainTrees.{flow_contexts}
+use Rattle.html_rules.specs.TreeTokens.{is_among}
+use Rattle.html_calm.specs.CalmTrees.{nodes_of}
+use Rattle.html_reading.specs.Parsing.{IsFragmentOnlyOf, IsPageOnlyOf}
+use Rattle.dom_clean.specs.Laws.{IsSafe, page_around, page_of}
+use Rattle.dom_clean.specs.Policy.{Policy, is_sound}
+
+-- the text is parsed as these trees and as no others: in the body of a page, and as a fragment in a `body`, `div`, `li`, `td` or `blockquote`
+pub record IsParsedAs (text : List ℕ) (trees : ValueTrees) : Type 0 where
+  pub page : IsPageOnlyOf (chars (page_around text)) (nodes_of (page_of trees))
+  pub fragment : (context : List ℕ) → is_among context flow_contexts ≡ true → IsFragmentOnlyOf context (chars text) (nodes_of trees)
+
+-- A text that is safe by a sound policy is parsed as the trees that are its own.
+abbrev pub CleanedTextsAreParsed : Type 0
+CleanedTextsAreParsed = (policy : Policy) → is_sound policy ≡ true → (text : List ℕ) (trees : ValueTrees) → IsUtf8 text → IsSafe policy text trees → IsParsedAs text trees
+
+-- So is a page with such a text in its body.
+abbrev pub CleanedPagesAreParsed : Type 0
+CleanedPagesAreParsed = (policy : Policy) → is_sound policy ≡ true → (text : List ℕ) (trees : ValueTrees) → IsUtf8 (page_around text) → IsSafe policy text trees →
+    IsPageOnlyOf (chars (page_around text)) (nodes_of (page_of trees))
+
+-- ---- what is cleaned
+
+-- the text is that of these trees, which the policy allows, and it is parsed as these trees
+pub record IsCleanedAs (policy : Policy) (text : List ℕ) (trees : ValueTrees) : Type 0 where
+  pub safe : IsSafe policy text trees
+  pub parsed : IsParsedAs text trees
+
+abbrev pub IsCleanedText : Policy → List ℕ → Type 0
+IsCleanedText policy text = (trees : ValueTrees) × IsCleanedAs policy text trees
+
+-- a page with such a text in its body, and it is parsed as their document
+pub record IsCleanedPage (policy : Policy) (page : List ℕ) : Type 0 where
+  pub text : List ℕ
+  pub trees : ValueTrees
+  pub is : page ≡ page_around text
+  pub cleaned : IsCleanedAs policy text trees
+  pub parsed : IsPageOnlyOf (chars page) (nodes_of (page_of trees))

@@ -1,0 +1,107 @@
+//! The values of `--allow` and `--deny`.
+
+use crate::rule_faults::RuleFault;
+use dom_query::Rules;
+use std::alloc::Global;
+
+/// The forms of what `--allow` takes.
+const ALLOWED: &str = "NAME, NAME[ATTRIBUTE], NAME[ATTRIBUTE=VALUE] or [ATTRIBUTE]";
+
+/// The form of what `--deny` takes.
+const DENIED: &str = "the NAME of an element";
+
+/// Adds to the rules what a value of `--allow` allows, a list whose items are separated by commas:
+///
+/// - `NAME` allows elements of that name,
+/// - `NAME[ATTRIBUTE]` allows them, and the attribute on them,
+/// - `NAME[ATTRIBUTE=VALUE]` allows them, and the attribute on them if it has that value,
+/// - `[ATTRIBUTE]` allows the attribute on every element.
+///
+/// Several attributes may follow a name, each in brackets. Fails if an item has another form, and if
+/// memory runs out.
+pub fn allow(alloc: Global, rules: &mut Rules, text: &str) -> Result<(), RuleFault> {
+    for item in text.split(',') {
+        let item = item.trim();
+        if !allow_item(rules, item)? {
+            return Err(form_fault(alloc, item, ALLOWED));
+        }
+    }
+    Ok(())
+}
+
+/// Adds to the rules what an item allows. Returns whether the item has one of the forms.
+fn allow_item(rules: &mut Rules, item: &str) -> Result<bool, RuleFault> {
+    let Some((name, rest)) = item.split_once('[') else {
+        rules.allow_element(item)?;
+        return Ok(is_name(item));
+    };
+    let Some(inside) = rest.strip_suffix(']') else {
+        return Ok(false);
+    };
+    if !name.is_empty() {
+        rules.allow_element(name)?;
+        if !is_name(name) {
+            return Ok(false);
+        }
+    }
+    for attribute in inside.split("][") {
+        if !allow_attribute(rules, name, attribute)? {
+            return Ok(false);
+        }
+    }
+    Ok(true)
+}
+
+/// Allows an attribute, which may have a value behind `=`, on elements of that name, or if the name
+/// is empty, on every element. Returns whether it has the form of an attribute.
+fn allow_attribute(rules: &mut Rules, name: &str, text: &str) -> Result<bool, RuleFault> {
+    if let Some((attribute, value)) = text.split_once('=') {
+        rules.allow_value(name, attribute, value)?;
+        return Ok(is_name(attribute) && !name.is_empty());
+    }
+    if name.is_empty() {
+        rules.allow_attribute(text)?;
+    } else {
+        rules.allow_attribute_of(name, text)?;
+    }
+    Ok(is_name(text))
+}
+
+/// Adds to the rules that elements are removed with everything in them, whose names `--deny` lists,
+/// separated by commas. Fails if a name is missing or is none, and if memory runs out.
+pub fn deny(alloc: Global, rules: &mut Rules, text: &str) -> Result<(), RuleFault> {
+    for item in text.split(',') {
+        let name = item.trim();
+        if !is_name(name) {
+            return Err(form_fault(alloc, name, DENIED));
+        }
+        rules.drop_element(name)?;
+    }
+    Ok(())
+}
+
+/// Returns whether the text has at least one character, and none that can't be in a name.
+fn is_name(text: &str) -> bool {
+    if text.is_empty() {
+        return false;
+    }
+    for byte in text.as_bytes() {
+        if matches!(
+            *byte,
+            b'[' | b']' | b'=' | b'"' | b'\'' | b'<' | b'>' | b'/'
+        ) {
+            return false;
+        }
+        if byte.is_ascii_whitespace() {
+            return false;
+        }
+    }
+    true
+}
+
+fn form_fault(alloc: Global, text: &str, wanted: &'static str) -> RuleFault {
+    match String::from_str(alloc, text) {
+        Ok(text) => RuleFault::Form { text, wanted },
+        Err(_) => RuleFault::Memory,
+    }
+}

@@ -1,0 +1,260 @@
+// browsers.js PROGRAM COUNT SEED BROWSER ..: random hostile fragments (fragments.js) and the attacks of attacks.json are cleaned by
+// PROGRAM, which is test_clean, and each BROWSER (chromium, firefox-esr) reads what is left. It reads each cleaned text in the body
+// of a page, as `innerHTML` of a div, body, td, li and blockquote, and in a template, where scripts are off; and each page that
+// `test_clean page` writes. What has to be found:
+//
+// - the browser's tree, written as explicit markup, is the text;
+// - no script runs: each `alert` of a fragment calls `hit` of the outermost window;
+// - no request is made but for the addresses of `src`, `background` and `poster` that the policy leaves; half of the policies leave none;
+// - each address that is left leads to an allowed scheme by the browser's own URL parser, and no `on..` attribute is there.
+//
+// Afterwards a twentieth of the fragments are read as they were, without cleaning: there scripts run and requests are made, so the
+// harness can see both. The browsers send all requests through a proxy that this program is, so each is seen, for any host.
+// With CASES=FILE the cases are kept in that file, and taken from it if it is there. Needs Debian's chromium, firefox-esr and node-parse5 (NODE_PATH=/usr/share/nodejs); runs headless, in new profiles below /tmp.
+"use strict";
+const fs = require("fs");
+const path = require("path");
+const http = require("http");
+const { spawnSync } = require("child_process");
+const { read } = require("../browser.js");
+const { maker } = require("./fragments.js");
+const { policyOf } = require("./model.js");
+const [program, count, seed, ...browsers] = [process.argv[2], Number(process.argv[3]), Number(process.argv[4]), ...process.argv.slice(5)];
+const HOST = "harness.example";
+const HOSTS = [HOST, "h", "base.example"];
+
+// ---- cases: cleaned texts, pages, and sources
+const made = maker(seed);
+const LOADED = /^(element (img|input|video|audio|source)|attribute (src|background|poster))/;
+const OPEN = ["common", "element form", "element input", "element button", "element label", "element font", "element fieldset", "element menu", "element center", "attribute class", "attribute id", "attribute name", "attribute href", "attribute action", "attribute formaction", "data-attributes"];
+const payload = (source) => source.replace(/alert\(/g, "top.hit(");
+const byProgram = (words, input) => {
+  const ran = spawnSync(program, words, { input, maxBuffer: 1 << 30 });
+  if (ran.status !== 0) throw new Error(`status ${ran.status} for ${words}: ${ran.stdout}`);
+  return ran.stdout.toString();
+};
+function cleaned(lines, sources, quiet) {
+  const schemes = [...policyOf(lines).schemes, "http"];
+  const texts = byProgram(["each", ...lines], sources.join("\x1e")).split("\x1e").slice(0, -1);
+  return sources.map((source, i) => ({ lines, source, text: texts[i], page: byProgram(["page", ...lines], source), schemes, quiet }));
+}
+function allCases() {
+  const cases = [];
+  const attacks = JSON.parse(fs.readFileSync(path.join(__dirname, "attacks.json"))).map(([, markup]) => payload(markup));
+  for (const lines of [["common", "drop img"], OPEN.concat("drop img"), OPEN.concat("attribute src", "element video", "attribute poster")]) cases.push(...cleaned(lines, attacks, lines.includes("drop img")));
+  while (cases.length < count + 3 * attacks.length) {
+    const quiet = made.random(2) === 0;
+    let lines = made.policyLines();
+    if (quiet) lines = lines.filter((line) => !LOADED.test(line)).concat("drop img");
+    const sources = Array.from({ length: 25 }, () => payload(made.fragment()));
+    cases.push(...cleaned(lines, sources, quiet));
+  }
+  return cases;
+}
+
+// ---- what runs in the browser; `hit` and `walk` stand for themselves
+const HARNESS = `<!DOCTYPE html><meta charset=utf-8><title>harness</title><body><script>
+"use strict";
+const HTML = "http://www.w3.org/1999/xhtml";
+const VOID = new Set("area base basefont bgsound br col embed frame hr img input keygen link meta param source track wbr".split(" "));
+const ADDRESSES = "action background cite classid codebase data dynsrc formaction href icon longdesc lowsrc manifest poster profile src usemap".split(" ");
+let now = "start", hits = [];
+window.hit = () => { hits.push(now); };
+window.alert = window.confirm = window.prompt = window.hit;
+const esc = (text) => text.replace(/&/g, "&amp;").replace(/</g, "&lt;").replace(/>/g, "&gt;").replace(/\\u00a0/g, "&nbsp;");
+function written(nodes) {
+  let text = "";
+  for (const node of nodes) {
+    if (node.nodeType === 3) text += esc(node.data);
+    else if (node.nodeType === 8) text += "<!--" + node.data + "-->";
+    else if (node.nodeType === 10) text += "<!DOCTYPE " + node.name + (node.publicId || node.systemId ? " ids" : "") + ">";
+    else if (node.nodeType !== 1) text += "<?>";
+    else {
+      const name = (node.namespaceURI === HTML ? "" : "foreign:") + node.localName;
+      text += "<" + name;
+      for (const attr of node.attributes) text += " " + (attr.namespaceURI ? "foreign:" : "") + attr.name + '="' + esc(attr.value).replace(/"/g, "&quot;") + '"';
+      text += ">";
+      if (!VOID.has(node.localName)) text += written((node.content || node).childNodes) + "</" + name + ">";
+    }
+  }
+  return text;
+}
+function active(root, schemes) {
+  const found = [];
+  for (const node of root.querySelectorAll("*")) {
+    if (/^(script|style|iframe|object|embed|svg|math|template|noscript|base|meta|link)$/i.test(node.localName)) found.push("element " + node.localName);
+    for (const attr of node.attributes) {
+      if (/^on/i.test(attr.name) || attr.name === "style" || attr.name === "srcdoc") found.push("attribute " + attr.name);
+      if (!ADDRESSES.includes(attr.name)) continue;
+      let url = null;
+      try { url = new URL(attr.value, location.href); } catch (fault) { continue; }
+      if (!schemes.includes(url.protocol.slice(0, -1))) found.push(attr.name + " " + url.protocol);
+    }
+    if ((node.localName === "a" || node.localName === "area") && node.hasAttribute("href") && node.protocol !== ":" && !schemes.includes(node.protocol.slice(0, -1))) found.push("protocol " + node.protocol);
+  }
+  return found;
+}
+const later = (time) => new Promise((done) => setTimeout(done, time));
+function frameOf(address) {
+  const frame = document.createElement("iframe");
+  const loaded = new Promise((done) => { frame.onload = done; setTimeout(done, 4000); });
+  frame.src = address;
+  document.body.append(frame);
+  return loaded.then(() => frame);
+}
+async function one(n, it) {
+  const bad = [], found = [];
+  const seen = (place, text, wanted, root) => {
+    if (text !== wanted) bad.push({ place, text, wanted });
+    for (const what of active(root, it.schemes)) found.push({ place, what });
+  };
+  now = "page " + n;
+  let frame = await frameOf("/case/" + n);
+  let page = frame.contentDocument;
+  const whole = page.doctype && page.documentElement.childNodes.length === 2 && page.documentElement.attributes.length === 0 && page.body && page.body.attributes.length === 0 && page.head.childNodes.length === 0 && page.childNodes.length === 2;
+  seen("page", whole ? written(page.body.childNodes) : "another page", it.text, page);
+  frame.remove();
+  now = "clean_page " + n;
+  frame = await frameOf("/page/" + n);
+  page = frame.contentDocument;
+  seen("clean_page", written(page.childNodes), it.page, page);
+  frame.remove();
+  frame = await frameOf("/host/" + n);
+  page = frame.contentDocument;
+  for (const place of ["div", "body", "td", "li", "blockquote", "template"]) {
+    now = place + " " + n;
+    const holder = place === "body" ? page.body : page.createElement(place);
+    if (place !== "body") page.body.append(holder);
+    holder.innerHTML = it.text;
+    seen(place, written((holder.content || holder).childNodes), it.text, holder.content || holder);
+    await later(0);
+  }
+  await later(5);
+  frame.remove();
+  return { n, bad, found };
+}
+async function uncleaned(n, it) {
+  now = "uncleaned page " + n;
+  let frame = await frameOf("/raw/" + n);
+  await later(30);
+  frame.remove();
+  now = "uncleaned div " + n;
+  frame = await frameOf("/rawhost/" + n);
+  const holder = frame.contentDocument.createElement("div");
+  frame.contentDocument.body.append(holder);
+  holder.innerHTML = it.source;
+  await later(60);
+  frame.remove();
+}
+const post = (address, value) => fetch(address, { method: "POST", body: JSON.stringify(value) });
+(async () => {
+  const total = (await (await fetch("/total")).json()).total;
+  for (let from = 0; from < total; from += 50) {
+    const cases = await (await fetch("/cases/" + from)).json();
+    const results = [];
+    for (let i = 0; i < cases.length; i++) {
+      try { results.push(await one(from + i, cases[i])); }
+      catch (fault) { results.push({ n: from + i, bad: [{ place: now, text: String(fault) }], found: [] }); }
+    }
+    await post("/result", { results, hits: hits.splice(0) });
+  }
+  await later(3000);
+  await post("/result", { results: [], hits: hits.splice(0) });
+  await post("/control", {});
+  for (let from = 0; from < total; from += 50) {
+    const cases = (await (await fetch("/cases/" + from)).json());
+    for (let i = 0; i < cases.length; i += 20) try { await uncleaned(from + i, cases[i]); } catch (fault) { hits.push(String(fault)); }
+    await post("/control", { hits: hits.splice(0) });
+  }
+  await later(2000);
+  await post("/done", { hits: hits.splice(0), agent: navigator.userAgent });
+})();
+</script>`;
+
+// ---- the server, which is also the proxy
+const SHELL = "<!DOCTYPE html><html><head></head><body>";
+function serve(cases, report) {
+  const own = {};
+  const seen = { results: [], hits: [], requests: [], others: {}, control: null };
+  const answer = (response, text, type = "text/html; charset=utf-8") => {
+    response.writeHead(200, { "Content-Type": type, "Referrer-Policy": "unsafe-url", "Cache-Control": "no-store" });
+    response.end(text);
+  };
+  const json = (response, value) => answer(response, JSON.stringify(value), "application/json");
+  const unseen = (url, request, response) => {
+    if (!HOSTS.includes(url.hostname)) own[url.hostname] = (own[url.hostname] || 0) + 1;
+    else if (url.pathname !== "/favicon.ico") {
+      const noted = { url: url.href, from: request.headers.referer || "" };
+      (seen.control ? seen.control.requests : seen.requests).push(noted);
+    }
+    response.writeHead(404, { "Content-Type": "text/plain" });
+    response.end("none");
+  };
+  const posted = (name, value, response) => {
+    if (name === "result") { seen.results.push(...value.results); seen.hits.push(...value.hits); process.stderr.write(`\r${seen.results.length} of ${cases.length} `); }
+    if (name === "control") { seen.control = seen.control || { hits: [], requests: [] }; seen.control.hits.push(...(value.hits || [])); }
+    if (name === "done") { seen.control.hits.push(...value.hits); seen.agent = value.agent; seen.own = own; report(seen); }
+    json(response, {});
+  };
+  return http.createServer((request, response) => {
+    const url = new URL(request.url, `http://${request.headers.host}`);
+    const [, name, number] = /^\/([a-z]*)\/?(\d*)$/.exec(url.pathname) || [];
+    if (url.hostname !== HOST || name === undefined) return unseen(url, request, response);
+    const it = number === "" ? null : cases[Number(number)];
+    if (request.method === "POST" && ["result", "control", "done"].includes(name)) {
+      let body = "";
+      request.setEncoding("utf8");
+      request.on("data", (part) => { body += part; });
+      request.on("end", () => posted(name, JSON.parse(body), response));
+      return;
+    }
+    if (name === "" && number === "") return answer(response, HARNESS);
+    if (name === "total") return json(response, { total: cases.length });
+    if (name === "cases") return json(response, cases.slice(Number(number), Number(number) + 50));
+    if (name === "case" && it) return answer(response, `${SHELL}${it.text}</body></html>`);
+    if (name === "page" && it) return answer(response, it.page);
+    if (name === "raw" && it) return answer(response, `${SHELL}${it.source}</body></html>`);
+    if ((name === "host" || name === "rawhost") && it) return answer(response, `${SHELL}</body></html>`);
+    return unseen(url, request, response);
+  }).on("connect", (request, socket) => {
+    const host = request.url.split(":")[0];
+    if (HOSTS.includes(host)) (seen.control ? seen.control.requests : seen.requests).push({ url: `CONNECT ${request.url}`, from: "" });
+    else own[host] = (own[host] || 0) + 1;
+    socket.on("error", () => {});
+    socket.end("HTTP/1.1 404 None\r\n\r\n");
+  });
+}
+
+// ---- what was found
+const number = (address) => Number((/\/(?:case|page|host)\/(\d+)$/.exec(address) || [])[1]);
+function explained(cases, noted) {
+  const it = cases[number(noted.from)];
+  if (!it || it.quiet) return false;
+  const values = [...(it.text + it.page).matchAll(/ (?:src|background|poster)="([^"]*)"/g)].map((found) => found[1].replace(/&lt;/g, "<").replace(/&gt;/g, ">").replace(/&quot;/g, '"').replace(/&nbsp;/g, "\u00a0").replace(/&amp;/g, "&"));
+  return values.some((value) => { try { const url = new URL(value, noted.from); url.hash = ""; return url.href === noted.url; } catch (fault) { return false; } });
+}
+function tell(browser, cases, seen) {
+  const bad = seen.results.flatMap((it) => it.bad.map((one) => ({ n: it.n, ...one })));
+  const found = seen.results.flatMap((it) => it.found.map((one) => ({ n: it.n, ...one })));
+  const strange = seen.requests.filter((noted) => !explained(cases, noted));
+  console.log(`${browser}: ${seen.agent}`);
+  console.log(`  ${seen.results.length} fragments in 8 places, ${cases.filter((it) => it.text).length} with a text, ${cases.filter((it) => it.quiet).length} by policies without loaded addresses`);
+  console.log(`  trees that differ: ${bad.length}; scripts run: ${seen.hits.length}; active parts: ${found.length}; requests: ${seen.requests.length}, not for an allowed address: ${strange.length}`);
+  for (const [name, list] of Object.entries({ bad, found, hits: seen.hits, strange })) for (const one of list.slice(0, 8)) console.log("  ", name, JSON.stringify({ ...one, ...(one.n === undefined ? {} : { lines: cases[one.n].lines, source: cases[one.n].source }) }));
+  console.log(`  control, ${Math.ceil(cases.length / 20)} of the fragments not cleaned: scripts run: ${seen.control.hits.length}; requests: ${seen.control.requests.length}`);
+  console.log(`  requests of the browser's own: ${JSON.stringify(seen.own)}`);
+  return bad.length + found.length + seen.hits.length + strange.length === 0 && seen.control.hits.length > 0 && seen.control.requests.length > 0;
+}
+async function main() {
+  const kept = process.env.CASES;
+  const cases = kept && fs.existsSync(kept) ? JSON.parse(fs.readFileSync(kept)) : allCases();
+  if (kept) fs.writeFileSync(kept, JSON.stringify(cases));
+  console.log(`${cases.length} cases, ${cases.reduce((sum, it) => sum + it.text.length, 0)} characters`);
+  let good = true;
+  for (const browser of browsers) {
+    const seen = await read(browser, HOST, (done) => serve(cases, done));
+    good = tell(browser, cases, seen) && good;
+  }
+  process.exit(good ? 0 : 1);
+}
+main();
