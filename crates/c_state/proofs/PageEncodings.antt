@@ -10,7 +10,8 @@ use Rattle.text_decoding.specs.declared.page.Fallback.TheVariants.{Guess}
 use Rattle.dom_markup.specs.Numbered.{document_of}
 use Rattle.dom_markup.specs.ValueTrees.{ValueTrees}
 use Rattle.dom_markup.specs.declared.document.Document.{Document}
-use Rattle.dom_html5.specs.Calm.{IsCalmPage, ReadsCalm}
+use Rattle.calm_pages.specs.Calm.{IsCalmPage, ReadsCalm}
+use Rattle.dom_html5.specs.Pages.{ReadsAsWritten}
 use Rattle.dom_html5.specs.declared.charset.ReadPage.{ReadPage}
 use Rattle.html5_trees.specs.Shape.{IsPage}
 use Rattle.html5_trees.specs.declared.reading.Options.{Options}
@@ -31,13 +32,13 @@ decoded_as label bytes charset decoded guess labelled encoding replaced = record
 -- the state of what was read
 pub decoded_page : (label bytes : List ℕ) (max_depth : ℕ) (charset : Charset) (options : Options) (read : ReadPage) (decoded : Decoded) (state : State) → charset.fallback ≡ Guess → IsTransport label charset.transport → (max_depth ≡ 0 → ReadsCalm options)
     → IsPage read.document.tree → IsPageEncoding charset bytes read.encoding read.confidence → read.replaced ≡ errors_in (characters read.encoding (behind_mark bytes))
-    → ((trees : ValueTrees) → ReadsCalm options → IsCalmPage (page_text read.encoding bytes) trees → read.document.tree ≡ document_of trees)
+    → (ReadsCalm options → ReadsAsWritten (page_text read.encoding bytes) read.document.tree)
     → decoded ≡ record { encoding = read.encoding; source = read.confidence; replaced = read.replaced } → state.document ≡ read.document → state.decoded ≡ Some decoded → IsDecodedPage label bytes max_depth state
-decoded_page label bytes max_depth charset options read decoded state guess labelled reads page encoding replaced calm made same is =
+decoded_page label bytes max_depth charset options read decoded state guess labelled reads page encoding replaced written made same is =
     let known : state.decoded ≡ Some (record { encoding = read.encoding; source = read.confidence; replaced = read.replaced }) = is ∙ ap (λ (d : Decoded). Some d) made in record {
       page = subst (λ (d : Document). IsPage d.tree) (sym same) page;
       decoded = subst (λ (o : Option Decoded). MatchOption o ⊥ (IsDecoded label bytes)) (sym known) (decoded_as label bytes charset (record { encoding = read.encoding; source = read.confidence; replaced = read.replaced }) guess labelled encoding replaced);
       calm =
           subst (λ (o : Option Decoded). MatchOption o ⊥ (λ decoded. (trees : ValueTrees) → max_depth ≡ 0 → IsCalmPage (page_text decoded.encoding bytes) trees → state.document.tree ≡ document_of trees)) (sym known)
-          (λ trees zero is_calm. ap (λ (d : Document). d.tree) same ∙ calm trees (reads zero) is_calm);
+          (λ trees zero is_calm. ap (λ (d : Document). d.tree) same ∙ (written (reads zero)).calm trees is_calm);
     }
