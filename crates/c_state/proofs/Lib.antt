@@ -1,1 +1,3 @@
+pub mod CleanedTexts
 pub mod Found
+pub mod PageEncodings

@@ -20,7 +20,8 @@ pub fn with_rule(rules: Result<Rules, Fault>, rule: u32, text: &[u8]) -> Result<
     ensures { IsChangedTo rules result (λ old new. rule_numbered rule text.now old ≡ Some new) }
 {
     let mut rules = rules?;
-    add_rule(&mut rules, rule, as_text(text)?)?;
+    let text = as_text(text)?;
+    add_rule(&mut rules, rule, text)?;
     Ok(rules)
 }
 
