@@ -1,6 +1,6 @@
 """Compares the table of the tokenizer's states (docs/standard/tokenizer.txt) with other tokenizers of HTML, on random texts: parse5
-(Debian's node-parse5), html5lib (python3-html5lib) and, if its program is given, html5_tokens of this repository. Run outside the gate:
-compare.py [--count N] [--seed N] [--python PYTHON_WITH_HTML5LIB] [--pages FOLDER] [--program tests' program]"""
+(Debian's node-parse5) and html5lib (python3-html5lib). Run outside the gate:
+compare.py [--count N] [--seed N] [--python PYTHON_WITH_HTML5LIB] [--pages FOLDER]"""
 import argparse
 import json
 import os
