@@ -24,10 +24,8 @@ UNCALLED = {
     ("Tree", "move_allowed"): "its caller proves that the move is allowed, which only tree construction (html5_trees) does",
     ("", "plain_trees_are_built"): "a law: it has no body",
     ("", "calm_trees_are_built"): "a law: it has no body",
-    ("", "calm_html_is_parsed"): "a law: it calls laws alone",
+    ("", "calm_html_is_written"): "a law: it calls laws alone",
     ("", "examples"): "a law: it has no body",
-    ("", "cleaned_text"): "a caller of `clean` that shows what follows from its contract",
-    ("", "cleaned_page"): "a caller of `clean_page` that shows what follows from its contract",
 }
 # Comments, strings, characters, and imports of specs.
 BLANK = re.compile(r'//[^\n]*|"(?:\\.|[^"\\])*"|\'(?:\\[^\']+|[^\'\\])\'|\bghost use [^;]*;', re.S)
