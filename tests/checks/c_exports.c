@@ -128,7 +128,7 @@ static void cleaning(dq_policy *p, dq_document *d) {
     if (!IS(dq_policy_empty(p), 0)) return;
     IS(dq_clean(p, T(HTML), ROOM), DQ_UNFINISHED);
     IS(dq_policy_finish(p), 0);
-    SAYS(dq_clean(p, T("<b>1 &lt; 2</b><script>3</script>"), ROOM), "1 &lt; 23");
+    SAYS(dq_clean(p, T("<b>1 &lt; 2</b><script>3</script>"), ROOM), "1 &lt; 2");
     if (!IS(dq_policy_empty(p), 0)) return;
     IS(dq_policy_rule(p, DQ_ALLOW_ELEMENT, T("a")), 0);
     IS(dq_policy_rule(p, DQ_ALLOW_ELEMENT, T("i")), 0);
