@@ -41,7 +41,7 @@ class Cleaning(unittest.TestCase):
     def test_a_document(self):
         document = dom_query.parse("<title>t</title><p onclick=x()>a<script>x()</script>")
         self.assertEqual(dom_query.clean(document), "<p>a</p>")
-        self.assertEqual(Policy(tags={"b"}).clean(document), "ta")
+        self.assertEqual(Policy(tags={"b"}).clean(document), "a")
         self.assertEqual(document.select_one("p")["onclick"], "x()")
         document.close()
         with self.assertRaises(ClosedError):
@@ -50,7 +50,7 @@ class Cleaning(unittest.TestCase):
     def test_rules(self):
         cases = (
             ({"tags": {"b"}}, "<b>1</b><i>2</i>", "<b>1</b>2"),
-            ({"clean_content_tags": {"b"}}, "<b>1</b><i>2</i>", "2"),
+            ({"clean_content_tags": {"b"}}, "<b>1</b><i>2</i>", "<i>2</i>"),
             ({"attributes": {"*": {"id"}, "b": {"dir"}}}, "<b id=1 dir=rtl lang=de>1</b><i dir=rtl>2</i>", '<b id="1" dir="rtl">1</b><i>2</i>'),
             ({"tag_attribute_values": {"b": {"dir": {"rtl", "ltr"}}}}, "<b dir=rtl>1</b><b dir=x>2</b>", '<b dir="rtl">1</b><b>2</b>'),
             ({"url_schemes": {"https"}}, "<img src=https://a/><img src=http://a/>", '<img src="https://a/"><img>'),

@@ -187,6 +187,7 @@ SCRIPTS = {
         "</p>MonTue",
         "",
         '<a rel="nofollow noopener">More</a>',
+        "",
     ],
     "extract": [
         "examples/shop.html: Tea & more",
