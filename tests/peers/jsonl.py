@@ -20,6 +20,8 @@ import tempfile
 import time
 
 SELECTOR = "h1"
+# Debian's python3, which has python3-lxml; another one on the PATH may not.
+PYTHON = "/usr/bin/python3"
 LEAST, MOST = 12_000, 30_000
 FILES = 400
 BY_LXML = """
@@ -72,7 +74,7 @@ def times(hq, test_times, folder):
         total = sum(1 for _ in given)
     found = {"hq": [], "lxml": []}
     for _ in range(3):
-        for name, words in (("hq", [hq, "--jsonl", "--text", SELECTOR]), ("lxml", [sys.executable, "-c", BY_LXML])):
+        for name, words in (("hq", [hq, "--jsonl", "--text", SELECTOR]), ("lxml", [PYTHON, "-c", BY_LXML])):
             with open(lines, "rb") as given:
                 found[name].append(used(words, given))
     for name, runs in found.items():

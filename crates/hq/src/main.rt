@@ -56,17 +56,26 @@ fn show(rt: &HostRuntime, refused: &Error) -> u8 {
 /// Prints what is asked for of each file, and returns the exit status.
 fn do_files(rt: &HostRuntime, options: &Options<'_>) -> Result<u8, Fault> {
     let mut out = BufWriter::new(rt.alloc(), rt.stdout())?;
-    if options.stream.is_one() {
-        let matched = answer_files(rt, options, &mut out)?;
-        out.flush()?;
-        return Ok(if matched { MATCHED } else { UNMATCHED });
-    }
     let mut status = UNMATCHED;
-    for name in options.files.as_slice() {
-        status = joined_status(status, do_or_report(rt, name, options, &mut out)?);
+    if options.stream.is_one() {
+        let outcome = answer_files(rt, options, &mut out)?;
+        status = status_of(outcome.matched, outcome.all_read);
+    } else {
+        for name in options.files.as_slice() {
+            status = joined_status(status, do_or_report(rt, name, options, &mut out)?);
+        }
     }
     out.flush()?;
     Ok(status)
+}
+
+/// Returns the exit status of a stream of pages.
+fn status_of(matched: bool, all_read: bool) -> u8 {
+    match (all_read, matched) {
+        (false, _) => FAULTY,
+        (true, true) => MATCHED,
+        (true, false) => UNMATCHED,
+    }
 }
 
 /// Returns the exit status for two files from that of each.

@@ -8,21 +8,26 @@ use std::io::{self, BufWriter, ErrorKind, Write};
 
 /// Prints a whole document, doctype included, and a line feed.
 pub fn print_document<W: Write>(document: &Document, out: &mut W) -> Result<(), Fault> {
+    write_document(document, out)?;
+    out.write_all(b"\n")?;
+    Ok(())
+}
+
+/// Writes a whole document, doctype included.
+fn write_document<W: Write>(document: &Document, out: &mut W) -> Result<(), Fault> {
     match document
         .root()
         .write_html(TraversalScope::ChildrenOnly, out)
     {
-        Ok(()) => {
-            out.write_all(b"\n")?;
-            Ok(())
-        }
+        Ok(()) => Ok(()),
         Err(WriteFault::Memory) => Err(Fault::Memory),
         Err(WriteFault::Write) => Err(Fault::Output(io::Error::from(ErrorKind::Other))),
     }
 }
 
 /// Writes a document back to its file. It is written to a new file in the same folder, which then
-/// replaces the old one, so the old contents stay until the new ones are complete.
+/// replaces the old one, so the old contents stay until the new ones are complete. No line feed is
+/// added: when the file is read again, it would be part of the body.
 pub fn write_back(rt: &HostRuntime, page: &Page<'_>) -> Result<(), Fault> {
     let mut beside = String::from_str(rt.alloc(), page.name)?;
     beside.push_str(".hq-new")?;
@@ -41,7 +46,7 @@ fn write_beside(rt: &HostRuntime, page: &Page<'_>, beside: &str) -> Result<(), F
         Err(fault) => return Err(Fault::File(fault)),
     };
     let mut out = BufWriter::new(rt.alloc(), file)?;
-    print_document(&page.document, &mut out)?;
+    write_document(&page.document, &mut out)?;
     out.flush()?;
     match fs::rename(rt, beside, page.name) {
         Ok(()) => Ok(()),

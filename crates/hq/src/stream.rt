@@ -4,7 +4,7 @@ use crate::archive::answer_records;
 use crate::pages::change;
 use dom_query::{Command, Document, DocumentSelect, Matcher, NodeMarkup, NodeRef, run_commands};
 use hq_pages::charset::{Found, put_found};
-use hq_pages::faults::Fault;
+use hq_pages::faults::{Fault, report_in};
 use hq_pages::json::summary_value;
 use hq_pages::options::{Job, Options, Printing, Show};
 use hq_pages::page_lines::{PageLine, address_of, put, put_error, read_line};
@@ -48,23 +48,58 @@ impl Counts {
     }
 }
 
-/// Writes the answers to the lines of all files, and returns whether something matched. A file that
-/// can't be read ends the run.
+/// How a run over all files ended.
+#[derive(Clone, Copy, Drop)]
+pub struct Outcome {
+    /// Whether something matched in one of the pages, or a page was processed without a selector.
+    pub matched: bool,
+    /// Whether every file could be read to its end.
+    pub all_read: bool,
+}
+
+/// Writes the answers to the lines or records of all files. A file that can't be read is reported,
+/// and the next one is read.
 pub fn answer_files<W: Write>(
     rt: &HostRuntime,
     options: &Options<'_>,
     out: &mut W,
-) -> Result<bool, Fault> {
+) -> Result<Outcome, Fault> {
     let begun = Instant::now(rt).ok();
     let mut counts = Counts::new();
+    let mut all_read = true;
     for name in options.files.as_slice() {
-        answer_file(rt, name, options, &mut counts, out)?;
+        let is_read = answer_or_report(rt, name, options, &mut counts, out)?;
+        all_read = all_read && is_read;
     }
     if options.stream.progress {
         out.flush()?;
         report_counts(rt, counts, begun);
     }
-    Ok(counts.matched)
+    let matched = counts.matched;
+    Ok(Outcome { matched, all_read })
+}
+
+/// Writes the answers to the pages of a file. Returns whether it could be read to its end; if not,
+/// that is reported.
+fn answer_or_report<W: Write>(
+    rt: &HostRuntime,
+    name: &str,
+    options: &Options<'_>,
+    counts: &mut Counts,
+    out: &mut W,
+) -> Result<bool, Fault> {
+    match answer_file(rt, name, options, counts, out) {
+        Ok(()) => Ok(true),
+        Err(fault) => {
+            if !fault.is_of_a_file() {
+                return Err(fault);
+            }
+            // The output so far is written first, so that it comes before the report.
+            out.flush()?;
+            report_in(rt, name, &fault);
+            Ok(false)
+        }
+    }
 }
 
 fn answer_file<W: Write>(
