@@ -64,36 +64,41 @@ const ADDRESSES = "action background cite classid codebase data dynsrc formactio
 let now = "start", hits = [];
 window.hit = () => { hits.push(now); };
 window.alert = window.confirm = window.prompt = window.hit;
+// what an element is by its class: a control whose name is "attributes" hides that property of its form
+const part = (type, name) => { const get = Object.getOwnPropertyDescriptor(type.prototype, name).get; return (node) => get.call(node); };
+const typeOf = part(Node, "nodeType"), childrenOf = part(Node, "childNodes"), nameOf = part(Element, "localName"), spaceOf = part(Element, "namespaceURI"), attrsOf = part(Element, "attributes");
+const rootOf = part(Document, "documentElement"), headOf = part(Document, "head"), bodyOf = part(Document, "body"), doctypeOf = part(Document, "doctype");
+const insideOf = (node) => childrenOf(typeOf(node) === 1 && nameOf(node) === "template" && node.content ? node.content : node);
 const esc = (text) => text.replace(/&/g, "&amp;").replace(/</g, "&lt;").replace(/>/g, "&gt;").replace(/\\u00a0/g, "&nbsp;");
 function written(nodes) {
   let text = "";
   for (const node of nodes) {
-    if (node.nodeType === 3) text += esc(node.data);
-    else if (node.nodeType === 8) text += "<!--" + node.data + "-->";
-    else if (node.nodeType === 10) text += "<!DOCTYPE " + node.name + (node.publicId || node.systemId ? " ids" : "") + ">";
-    else if (node.nodeType !== 1) text += "<?>";
+    if (typeOf(node) === 3) text += esc(node.data);
+    else if (typeOf(node) === 8) text += "<!--" + node.data + "-->";
+    else if (typeOf(node) === 10) text += "<!DOCTYPE " + node.name + (node.publicId || node.systemId ? " ids" : "") + ">";
+    else if (typeOf(node) !== 1) text += "<?>";
     else {
-      const name = (node.namespaceURI === HTML ? "" : "foreign:") + node.localName;
+      const name = (spaceOf(node) === HTML ? "" : "foreign:") + nameOf(node);
       text += "<" + name;
-      for (const attr of node.attributes) text += " " + (attr.namespaceURI ? "foreign:" : "") + attr.name + '="' + esc(attr.value).replace(/"/g, "&quot;") + '"';
+      for (const attr of attrsOf(node)) text += " " + (attr.namespaceURI ? "foreign:" : "") + attr.name + '="' + esc(attr.value).replace(/"/g, "&quot;") + '"';
       text += ">";
-      if (!VOID.has(node.localName)) text += written((node.content || node).childNodes) + "</" + name + ">";
+      if (!VOID.has(nameOf(node))) text += written(insideOf(node)) + "</" + name + ">";
     }
   }
   return text;
 }
 function active(root, schemes) {
   const found = [];
-  for (const node of root.querySelectorAll("*")) {
-    if (/^(script|style|iframe|object|embed|svg|math|template|noscript|base|meta|link)$/i.test(node.localName)) found.push("element " + node.localName);
-    for (const attr of node.attributes) {
+  for (const node of (root.nodeType === 9 ? Document : root.nodeType === 11 ? DocumentFragment : Element).prototype.querySelectorAll.call(root, "*")) {
+    if (/^(script|style|iframe|object|embed|svg|math|template|noscript|base|meta|link)$/i.test(nameOf(node))) found.push("element " + nameOf(node));
+    for (const attr of attrsOf(node)) {
       if (/^on/i.test(attr.name) || attr.name === "style" || attr.name === "srcdoc") found.push("attribute " + attr.name);
       if (!ADDRESSES.includes(attr.name)) continue;
       let url = null;
       try { url = new URL(attr.value, location.href); } catch (fault) { continue; }
       if (!schemes.includes(url.protocol.slice(0, -1))) found.push(attr.name + " " + url.protocol);
     }
-    if ((node.localName === "a" || node.localName === "area") && node.hasAttribute("href") && node.protocol !== ":" && !schemes.includes(node.protocol.slice(0, -1))) found.push("protocol " + node.protocol);
+    if ((nameOf(node) === "a" || nameOf(node) === "area") && node.hasAttribute("href") && node.protocol !== ":" && !schemes.includes(node.protocol.slice(0, -1))) found.push("protocol " + node.protocol);
   }
   return found;
 }
@@ -105,6 +110,15 @@ function frameOf(address, most = 60000) {
   document.body.append(frame);
   return loaded.then(() => frame);
 }
+// a frame in which the page was read to its end; a frame that stays blank on a busy machine is asked for again
+async function wholeFrame(address) {
+  for (let tries = 1; ; tries++) {
+    const frame = await frameOf(address);
+    const page = frame.contentDocument;
+    if (tries === 4 || (page && page.readyState === "complete" && new URL(page.URL).pathname === address)) return frame;
+    frame.remove();
+  }
+}
 // the cases from number n on: all texts in one page, each as innerHTML, and one of their pages
 async function several(n, cases) {
   const results = cases.map((it, i) => ({ n: n + i, bad: [], found: [] }));
@@ -113,24 +127,24 @@ async function several(n, cases) {
     for (const what of root ? active(root, schemes) : []) result.found.push({ place, what });
   };
   now = "batch " + n;
-  let frame = await frameOf("/batch/" + n);
+  let frame = await wholeFrame("/batch/" + n);
   let page = frame.contentDocument;
-  const whole = page.doctype && page.documentElement.childNodes.length === 2 && page.documentElement.attributes.length === 0 && page.body && page.body.attributes.length === 0 && page.head.childNodes.length === 0 && page.childNodes.length === 2;
-  const shown = whole ? written(page.body.childNodes).split('<wbr data-next="">') : [];
+  const whole = doctypeOf(page) && rootOf(page).childNodes.length === 2 && rootOf(page).attributes.length === 0 && bodyOf(page) && bodyOf(page).attributes.length === 0 && headOf(page).childNodes.length === 0 && childrenOf(page).length === 2;
+  const shown = whole ? written(childrenOf(bodyOf(page))).split('<wbr data-next="">') : [];
   cases.forEach((it, i) => seen(results[i], "page", shown.length === cases.length ? shown[i] : "another page", it.text, i ? null : page, it.schemes));
   frame.remove();
   now = "clean_page " + n;
-  frame = await frameOf("/page/" + n);
-  seen(results[0], "clean_page", written(frame.contentDocument.childNodes), cases[0].page, frame.contentDocument, cases[0].schemes);
+  frame = await wholeFrame("/page/" + n);
+  seen(results[0], "clean_page", written(childrenOf(frame.contentDocument)), cases[0].page, frame.contentDocument, cases[0].schemes);
   frame.remove();
-  frame = await frameOf("/host/" + n);
+  frame = await wholeFrame("/host/" + n);
   page = frame.contentDocument;
   for (let i = 0; i < cases.length; i++) for (const place of ["div", "td", "li", "blockquote", "template", "body"]) {
     now = place + " " + (n + i);
-    const holder = place === "body" ? page.body : page.createElement(place);
-    if (place !== "body") page.body.append(holder);
+    const holder = place === "body" ? bodyOf(page) : page.createElement(place);
+    if (place !== "body") bodyOf(page).append(holder);
     holder.innerHTML = cases[i].text;
-    seen(results[i], place, written((holder.content || holder).childNodes), cases[i].text, holder.content || holder, cases[i].schemes);
+    seen(results[i], place, written(insideOf(holder)), cases[i].text, holder.content || holder, cases[i].schemes);
   }
   await later(20);
   frame.remove();
@@ -155,8 +169,11 @@ const post = (address, value) => fetch(address, { method: "POST", body: JSON.str
   for (let from = 0; from < total; from += ${BATCH}) {
     const cases = await (await fetch("/cases/" + from)).json();
     let results = [];
-    try { results = await several(from, cases); }
-    catch (fault) { results = [{ n: from, bad: [{ place: now, text: String(fault) }], found: [] }]; }
+    // (a browser that has little time may lose a frame; a fault of a page comes again)
+    for (let tries = 1; tries <= 2 && results.length === 0; tries++) {
+      try { results = await several(from, cases); }
+      catch (fault) { if (tries === 2) results = [{ n: from, bad: [{ place: now, text: String(fault) }], found: [] }]; }
+    }
     await post("/result", { results, hits: hits.splice(0) });
   }
   await later(3000);
