@@ -272,6 +272,8 @@ CALM = {
     "li": "<ul><li>x</li></ul>",
     "dd": "<dl><dd>x</dd></dl>",
     "dt": "<dl><dt>x</dt></dl>",
+    "rp": "<ruby><rp>x</rp></ruby>",
+    "rt": "<ruby><rt>x</rt></ruby>",
     "caption": "<table><caption>x</caption></table>",
     "colgroup": "<table><colgroup></colgroup></table>",
     "col": "<table><colgroup><col></colgroup></table>",
@@ -319,7 +321,10 @@ NOT_CALM = {
     "title": "b",
     "option": "option p",
     "nobr": "nobr",
-    "ruby": "rt",
+    "ruby": "rb rtc",
+    "rp": "rt",
+    "rt": "rp rt",
+    "span": "rt",
     "select": "p",
 }
 
@@ -327,7 +332,7 @@ NOT_CALM = {
 def not_calm_rows():
     """Pages of explicit markup that aren't calm, and are read by tree construction."""
     pages, inner = Pages(), {"tr": "<tbody><tr>", "td": "<tbody><tr><td>", "li": "<li>", "dd": "<dd>", "dt": "<dt>"}
-    around = {"li": "ul", "dd": "dl", "tbody": "table", "caption": "table", "colgroup": "table", "option": "select"}
+    around = {"li": "ul", "dd": "dl", "tbody": "table", "caption": "table", "colgroup": "table", "option": "select", "rp": "ruby", "rt": "ruby", "span": "ruby"}
     for outer, names in NOT_CALM.items():
         for name in names.split():
             body = f"<{outer}>1<{name}>2</{name}>3</{outer}>4"

@@ -71,7 +71,7 @@ refused_attributes = codes "archive" ∷ codes "attributionsrc" ∷ codes "http-
 
 -- the elements that can be kept: they stand in a body, are read as markup, and bring in no other document
 unfoldable pub keepable_names : List (List ℕ)
-keepable_names = codes "a" ∷ codes "abbr" ∷ codes "acronym" ∷ codes "address" ∷ codes "area" ∷ codes "article" ∷ codes "aside" ∷ codes "audio" ∷ codes "b" ∷ codes "bdi" ∷ codes "bdo" ∷ codes "big" ∷ codes "blockquote" ∷ codes "br" ∷ codes "button" ∷ codes "canvas" ∷ codes "caption" ∷ codes "center" ∷ codes "cite" ∷ codes "code" ∷ codes "col" ∷ codes "colgroup" ∷ codes "data" ∷ codes "datalist" ∷ codes "dd" ∷ codes "del" ∷ codes "details" ∷ codes "dfn" ∷ codes "dialog" ∷ codes "dir" ∷ codes "div" ∷ codes "dl" ∷ codes "dt" ∷ codes "em" ∷ codes "fieldset" ∷ codes "figcaption" ∷ codes "figure" ∷ codes "font" ∷ codes "footer" ∷ codes "form" ∷ codes "h1" ∷ codes "h2" ∷ codes "h3" ∷ codes "h4" ∷ codes "h5" ∷ codes "h6" ∷ codes "header" ∷ codes "hgroup" ∷ codes "hr" ∷ codes "i" ∷ codes "img" ∷ codes "input" ∷ codes "ins" ∷ codes "kbd" ∷ codes "label" ∷ codes "legend" ∷ codes "li" ∷ codes "main" ∷ codes "map" ∷ codes "mark" ∷ codes "menu" ∷ codes "meter" ∷ codes "nav" ∷ codes "ol" ∷ codes "output" ∷ codes "p" ∷ codes "picture" ∷ codes "pre" ∷ codes "progress" ∷ codes "q" ∷ codes "s" ∷ codes "samp" ∷ codes "search" ∷ codes "section" ∷ codes "slot" ∷ codes "small" ∷ codes "source" ∷ codes "span" ∷ codes "strike" ∷ codes "strong" ∷ codes "sub" ∷ codes "summary" ∷ codes "sup" ∷ codes "table" ∷ codes "tbody" ∷ codes "td" ∷ codes "tfoot" ∷ codes "th" ∷ codes "thead" ∷ codes "time" ∷ codes "tr" ∷ codes "track" ∷ codes "tt" ∷ codes "u" ∷ codes "ul" ∷ codes "var" ∷ codes "video" ∷ codes "wbr" ∷ []
+keepable_names = codes "a" ∷ codes "abbr" ∷ codes "acronym" ∷ codes "address" ∷ codes "area" ∷ codes "article" ∷ codes "aside" ∷ codes "audio" ∷ codes "b" ∷ codes "bdi" ∷ codes "bdo" ∷ codes "big" ∷ codes "blockquote" ∷ codes "br" ∷ codes "button" ∷ codes "canvas" ∷ codes "caption" ∷ codes "center" ∷ codes "cite" ∷ codes "code" ∷ codes "col" ∷ codes "colgroup" ∷ codes "data" ∷ codes "datalist" ∷ codes "dd" ∷ codes "del" ∷ codes "details" ∷ codes "dfn" ∷ codes "dialog" ∷ codes "dir" ∷ codes "div" ∷ codes "dl" ∷ codes "dt" ∷ codes "em" ∷ codes "fieldset" ∷ codes "figcaption" ∷ codes "figure" ∷ codes "font" ∷ codes "footer" ∷ codes "form" ∷ codes "h1" ∷ codes "h2" ∷ codes "h3" ∷ codes "h4" ∷ codes "h5" ∷ codes "h6" ∷ codes "header" ∷ codes "hgroup" ∷ codes "hr" ∷ codes "i" ∷ codes "img" ∷ codes "input" ∷ codes "ins" ∷ codes "kbd" ∷ codes "label" ∷ codes "legend" ∷ codes "li" ∷ codes "main" ∷ codes "map" ∷ codes "mark" ∷ codes "menu" ∷ codes "meter" ∷ codes "nav" ∷ codes "ol" ∷ codes "output" ∷ codes "p" ∷ codes "picture" ∷ codes "pre" ∷ codes "progress" ∷ codes "q" ∷ codes "rp" ∷ codes "rt" ∷ codes "ruby" ∷ codes "s" ∷ codes "samp" ∷ codes "search" ∷ codes "section" ∷ codes "slot" ∷ codes "small" ∷ codes "source" ∷ codes "span" ∷ codes "strike" ∷ codes "strong" ∷ codes "sub" ∷ codes "summary" ∷ codes "sup" ∷ codes "table" ∷ codes "tbody" ∷ codes "td" ∷ codes "tfoot" ∷ codes "th" ∷ codes "thead" ∷ codes "time" ∷ codes "tr" ∷ codes "track" ∷ codes "tt" ∷ codes "u" ∷ codes "ul" ∷ codes "var" ∷ codes "video" ∷ codes "wbr" ∷ []
 
 -- the schemes that run scripts, or hold documents
 unfoldable pub refused_schemes : List (List ℕ)

@@ -5,7 +5,7 @@ use dom_nodes::fault::OutOfMemory;
 use std::alloc::Global;
 
 /// The elements that stay.
-static ELEMENTS: [&str; 71] = [
+static ELEMENTS: [&str; 74] = [
     "a",
     "abbr",
     "acronym",
@@ -56,6 +56,9 @@ static ELEMENTS: [&str; 71] = [
     "p",
     "pre",
     "q",
+    "rp",
+    "rt",
+    "ruby",
     "s",
     "samp",
     "small",

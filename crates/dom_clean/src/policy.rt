@@ -206,7 +206,7 @@ fn refused_element(names: &[String]) -> Option<&String>
 }
 
 /// The elements that can be allowed.
-const KEEPABLE: [&str; 98] = [
+const KEEPABLE: [&str; 101] = [
     "a",
     "abbr",
     "acronym",
@@ -277,6 +277,9 @@ const KEEPABLE: [&str; 98] = [
     "pre",
     "progress",
     "q",
+    "rp",
+    "rt",
+    "ruby",
     "s",
     "samp",
     "search",

@@ -3,7 +3,7 @@
 use Rattle.std.specs.Prelude.{ℕ, Bool, true, false, ◌&&◌, ◌||◌, List, [], ◌∷◌, codes, if◌then◌else◌}
 use Rattle.dom_nodes.specs.Words.{is_among}
 use Rattle.html5_trees.specs.declared.element_kinds.ElementCategory.{ElementCategory}
-use Rattle.html5_trees.specs.declared.element_kinds.ElementCategory.TheVariants.{Document, Html, Head, Body, Metadata, Verbatim, Phrase, Anchor, Button, Paragraph, Block, Heading, Form, Pre, ItemList, Item, DescriptionList, Description, Table, Caption, ColumnGroup, Column, RowGroup, TableRow, Cell, Other}
+use Rattle.html5_trees.specs.declared.element_kinds.ElementCategory.TheVariants.{Document, Html, Head, Body, Metadata, Verbatim, Phrase, Anchor, Button, Paragraph, Block, Heading, Form, Pre, ItemList, Item, DescriptionList, Description, Ruby, RubyText, Table, Caption, ColumnGroup, Column, RowGroup, TableRow, Cell, Other}
 use Rattle.html5_trees.specs.declared.element_kinds.Role.{Role}
 use Rattle.html5_trees.specs.declared.element_kinds.Role.TheVariants.{Flow, FlowHolder, FlowLeaf, FlowTable, Parts, Apart}
 
@@ -26,6 +26,8 @@ names_of ItemList = codes "dir" ∷ codes "menu" ∷ codes "ol" ∷ codes "ul" �
 names_of Item = codes "li" ∷ []
 names_of DescriptionList = codes "dl" ∷ []
 names_of Description = codes "dd" ∷ codes "dt" ∷ []
+names_of Ruby = codes "ruby" ∷ []
+names_of RubyText = codes "rp" ∷ codes "rt" ∷ []
 names_of Table = codes "table" ∷ []
 names_of Caption = codes "caption" ∷ []
 names_of ColumnGroup = codes "colgroup" ∷ []
@@ -37,7 +39,7 @@ names_of _ = []
 
 -- the categories that have names
 abbrev pub named_kinds : List ElementCategory
-named_kinds = Html ∷ Head ∷ Body ∷ Metadata ∷ Verbatim ∷ Phrase ∷ Anchor ∷ Button ∷ Paragraph ∷ Block ∷ Heading ∷ Form ∷ Pre ∷ ItemList ∷ Item ∷ DescriptionList ∷ Description ∷ Table ∷ Caption ∷ ColumnGroup ∷ Column ∷ RowGroup ∷ TableRow ∷ Cell ∷ []
+named_kinds = Html ∷ Head ∷ Body ∷ Metadata ∷ Verbatim ∷ Phrase ∷ Anchor ∷ Button ∷ Paragraph ∷ Block ∷ Heading ∷ Form ∷ Pre ∷ ItemList ∷ Item ∷ DescriptionList ∷ Description ∷ Ruby ∷ RubyText ∷ Table ∷ Caption ∷ ColumnGroup ∷ Column ∷ RowGroup ∷ TableRow ∷ Cell ∷ []
 
 -- the first category of the list that has the name
 abbrev pub kind_among : List ℕ → List ElementCategory → ElementCategory
@@ -60,9 +62,11 @@ role_of Form = Flow
 role_of Pre = Flow
 role_of ItemList = Flow
 role_of DescriptionList = Flow
+role_of Ruby = Flow
 role_of Body = FlowHolder
 role_of Item = FlowHolder
 role_of Description = FlowHolder
+role_of RubyText = FlowHolder
 role_of Caption = FlowHolder
 role_of Cell = FlowHolder
 role_of Verbatim = FlowLeaf
@@ -95,6 +99,7 @@ may_hold Head Verbatim = true
 may_hold Heading Heading = false
 may_hold ItemList Item = true
 may_hold DescriptionList Description = true
+may_hold Ruby RubyText = true
 may_hold Table Caption = true
 may_hold Table ColumnGroup = true
 may_hold Table RowGroup = true

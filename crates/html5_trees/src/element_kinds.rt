@@ -47,6 +47,9 @@ pub enum ElementCategory {
     DescriptionList,
     /// `dd`, `dt`.
     Description,
+    Ruby,
+    /// `rp`, `rt`.
+    RubyText,
     Table,
     Caption,
     ColumnGroup,
@@ -78,7 +81,7 @@ pub enum Role {
 }
 
 /// The categories that have names.
-const NAMED: [ElementCategory; 24] = [
+const NAMED: [ElementCategory; 26] = [
     ElementCategory::Html,
     ElementCategory::Head,
     ElementCategory::Body,
@@ -96,6 +99,8 @@ const NAMED: [ElementCategory; 24] = [
     ElementCategory::Item,
     ElementCategory::DescriptionList,
     ElementCategory::Description,
+    ElementCategory::Ruby,
+    ElementCategory::RubyText,
     ElementCategory::Table,
     ElementCategory::Caption,
     ElementCategory::ColumnGroup,
@@ -196,6 +201,8 @@ impl ElementCategory {
             ElementCategory::Item => &["li"],
             ElementCategory::DescriptionList => &["dl"],
             ElementCategory::Description => &["dd", "dt"],
+            ElementCategory::Ruby => &["ruby"],
+            ElementCategory::RubyText => &["rp", "rt"],
             ElementCategory::Table => &["table"],
             ElementCategory::Caption => &["caption"],
             ElementCategory::ColumnGroup => &["colgroup"],
@@ -221,10 +228,12 @@ impl ElementCategory {
             | ElementCategory::Form
             | ElementCategory::Pre
             | ElementCategory::ItemList
-            | ElementCategory::DescriptionList => Role::Flow,
+            | ElementCategory::DescriptionList
+            | ElementCategory::Ruby => Role::Flow,
             ElementCategory::Body
             | ElementCategory::Item
             | ElementCategory::Description
+            | ElementCategory::RubyText
             | ElementCategory::Caption
             | ElementCategory::Cell => { Role::FlowHolder }
             ElementCategory::Verbatim => Role::FlowLeaf,
@@ -268,6 +277,7 @@ impl ElementCategory {
             | (ElementCategory::Head, ElementCategory::Metadata | ElementCategory::Verbatim)
             | (ElementCategory::ItemList, ElementCategory::Item)
             | (ElementCategory::DescriptionList, ElementCategory::Description)
+            | (ElementCategory::Ruby, ElementCategory::RubyText)
             | (
                 ElementCategory::Table,
                 ElementCategory::Caption | ElementCategory::ColumnGroup | ElementCategory::RowGroup,

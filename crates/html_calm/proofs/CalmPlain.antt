@@ -15,13 +15,13 @@ use Rattle.calm_pages.specs.Calm.{admits, are_calm, bars, begins_line, behind, b
 use Rattle.calm_pages.specs.declared.nesting.Scope.{Scope}
 use Rattle.html5_trees.specs.ElementKinds.{kind_among, kind_of, may_hold, named_kinds, names_of}
 use Rattle.html5_trees.specs.declared.element_kinds.ElementCategory.{ElementCategory}
-use Rattle.html5_trees.specs.declared.element_kinds.ElementCategory.TheVariants.{Document, Html, Head, Body, Metadata, Verbatim, Phrase, Anchor, Button, Paragraph, Block, Heading, Form, Pre, ItemList, Item, DescriptionList, Description, Table, Caption, ColumnGroup, Column, RowGroup, TableRow, Cell, Other}
-use Rattle.html_rules.specs.PlainTrees.{Class, ABlock, AList, ADescriptionList, AHeading, AParagraph, APhrase, AFormatting, AnAnchor, AVoid, AnItem, ADescription, AButton, ABreak, ASource, AnInput, AForm, APre, ARawText, AMetadata, ATable, ACaption, AColumnGroup, AColumn, ARowGroup, ARow, ACell, Within, are_plain, begins_feed, begins_text, class_of, is_flow, is_heading, is_none, is_raw, admits as admits_class, inside as inside_class}
+use Rattle.html5_trees.specs.declared.element_kinds.ElementCategory.TheVariants.{Document, Html, Head, Body, Metadata, Verbatim, Phrase, Anchor, Button, Paragraph, Block, Heading, Form, Pre, ItemList, Item, DescriptionList, Description, Ruby, RubyText, Table, Caption, ColumnGroup, Column, RowGroup, TableRow, Cell, Other}
+use Rattle.html_rules.specs.PlainTrees.{Class, ABlock, AList, ADescriptionList, AHeading, AParagraph, APhrase, AFormatting, AnAnchor, AVoid, AnItem, ADescription, AButton, ABreak, ASource, AnInput, AForm, APre, ARuby, ARubyText, ARawText, AMetadata, ATable, ACaption, AColumnGroup, AColumn, ARowGroup, ARow, ACell, Within, are_plain, begins_feed, begins_text, class_of, is_flow, is_heading, is_none, is_raw, admits as admits_class, inside as inside_class}
 use Rattle.html_rules.specs.TreeTokens.{text_node as text}
 use Rattle.html_rules.proofs.PlainElements.{not_so}
 use Rattle.html_rules.proofs.TreeLists.{Each}
 use Rattle.html_calm.specs.CalmTrees.{have_no_null, nodes_of, place_in, within}
-use Rattle.html_calm.proofs.CategoryPlaces.{is_inner, holds_Phrase, holds_Anchor, holds_Button, holds_Paragraph, holds_Block, holds_Form, holds_Pre, holds_ItemList, holds_DescriptionList, holds_Table, holds_Heading, holds_Verbatim, holds_Item, holds_Description, holds_Caption, holds_ColumnGroup, holds_RowGroup, holds_Column, holds_TableRow, holds_Cell, holds_Metadata, holds_no_Html, holds_no_Head, holds_no_Body, holds_no_Other, text_in}
+use Rattle.html_calm.proofs.CategoryPlaces.{is_inner, holds_Phrase, holds_Anchor, holds_Button, holds_Paragraph, holds_Block, holds_Form, holds_Pre, holds_ItemList, holds_DescriptionList, holds_Table, holds_Heading, holds_Verbatim, holds_Item, holds_Description, holds_Ruby, holds_RubyText, holds_Caption, holds_ColumnGroup, holds_RowGroup, holds_Column, holds_TableRow, holds_Cell, holds_Metadata, holds_no_Html, holds_no_Head, holds_no_Body, holds_no_Other, text_in}
 use Rattle.html_calm.proofs.CharTexts.{feed_chars}
 
 -- an element of that name and category that is admitted is admitted by its class, and its children are in the same place by both
@@ -190,6 +190,16 @@ as_description name is scope children i h v m p c =
     let a : (may_hold scope.parent Description ≡ true) × (not (bars scope Description) ≡ true) = halves scope Description h in
     met Description ADescription name scope children is (holds_Description scope.parent i a.0, refl, refl)
 
+as_ruby : (name : List ℕ) → class_of name ≡ ARuby → Meets Ruby name
+as_ruby name is scope children i h v m p c =
+    let a : (may_hold scope.parent Ruby ≡ true) × (not (bars scope Ruby) ≡ true) = halves scope Ruby h in
+    met Ruby ARuby name scope children is (holds_Ruby scope.parent i a.0, refl, refl)
+
+as_ruby_text : (name : List ℕ) → class_of name ≡ ARubyText → Meets RubyText name
+as_ruby_text name is scope children i h v m p c =
+    let a : (may_hold scope.parent RubyText ≡ true) × (not (bars scope RubyText) ≡ true) = halves scope RubyText h in
+    met RubyText ARubyText name scope children is (holds_RubyText scope.parent i a.0, refl, refl)
+
 -- an element that holds a text alone holds one or none
 raw_text : (name : List ℕ) (children : ValueTrees) → IsPlainIn (raw_text_of name) children → is_raw (nodes_of children) ≡ true
 raw_text name no_trees p = refl
@@ -285,6 +295,14 @@ description_names : Each (Meets Description) (names_of Description)
 unfolding names_of void_names raw_names text_names
 description_names = (as_description (codes "dd") refl, (as_description (codes "dt") refl, tt))
 
+ruby_names : Each (Meets Ruby) (names_of Ruby)
+unfolding names_of void_names raw_names text_names
+ruby_names = (as_ruby (codes "ruby") refl, tt)
+
+rubytext_names : Each (Meets RubyText) (names_of RubyText)
+unfolding names_of void_names raw_names text_names
+rubytext_names = (as_ruby_text (codes "rp") refl, (as_ruby_text (codes "rt") refl, tt))
+
 table_names : Each (Meets Table) (names_of Table)
 unfolding names_of void_names raw_names text_names
 table_names = (as_table (codes "table") refl, tt)
@@ -334,6 +352,8 @@ meets ItemList name is = of_names (Meets ItemList) (names_of ItemList) itemlist_
 meets Item name is = of_names (Meets Item) (names_of Item) item_names name is
 meets DescriptionList name is = of_names (Meets DescriptionList) (names_of DescriptionList) descriptionlist_names name is
 meets Description name is = of_names (Meets Description) (names_of Description) description_names name is
+meets Ruby name is = of_names (Meets Ruby) (names_of Ruby) ruby_names name is
+meets RubyText name is = of_names (Meets RubyText) (names_of RubyText) rubytext_names name is
 meets Table name is = of_names (Meets Table) (names_of Table) table_names name is
 meets Caption name is = of_names (Meets Caption) (names_of Caption) caption_names name is
 meets ColumnGroup name is = of_names (Meets ColumnGroup) (names_of ColumnGroup) columngroup_names name is
@@ -385,6 +405,8 @@ place_behind ItemList = refl
 place_behind Item = refl
 place_behind DescriptionList = refl
 place_behind Description = refl
+place_behind Ruby = refl
+place_behind RubyText = refl
 place_behind Table = refl
 place_behind Caption = refl
 place_behind ColumnGroup = refl
@@ -413,6 +435,8 @@ inner_behind ItemList i = i
 inner_behind Item i = i
 inner_behind DescriptionList i = i
 inner_behind Description i = i
+inner_behind Ruby i = i
+inner_behind RubyText i = i
 inner_behind Table i = i
 inner_behind Caption i = i
 inner_behind ColumnGroup i = i

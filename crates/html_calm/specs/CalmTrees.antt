@@ -5,11 +5,11 @@ use Rattle.std.specs.Str.{chars}
 use Rattle.dom_markup.specs.ValueTrees.{Attribute, ValueTrees}
 use Rattle.dom_markup.specs.ValueTrees.ValueTrees.{no_trees, text_node, comment_node, doctype_node, element_node}
 use Rattle.html5_trees.specs.declared.element_kinds.ElementCategory.{ElementCategory}
-use Rattle.html5_trees.specs.declared.element_kinds.ElementCategory.TheVariants.{Heading, ItemList, DescriptionList, Table, ColumnGroup, RowGroup, TableRow, Head}
+use Rattle.html5_trees.specs.declared.element_kinds.ElementCategory.TheVariants.{Heading, ItemList, DescriptionList, Ruby, Table, ColumnGroup, RowGroup, TableRow, Head}
 use Rattle.calm_pages.specs.Calm.{top}
 use Rattle.html5_trees.specs.ElementKinds.{kind_of}
 use Rattle.calm_pages.specs.declared.nesting.Scope.{Scope}
-use Rattle.html_rules.specs.PlainTrees.{Place, FlowPlace, HeadingPlace, ListPlace, DescriptionListPlace, TablePlace, ColumnGroupPlace, RowGroupPlace, RowPlace, HeadPlace, Within}
+use Rattle.html_rules.specs.PlainTrees.{Place, FlowPlace, HeadingPlace, ListPlace, DescriptionListPlace, RubyPlace, TablePlace, ColumnGroupPlace, RowGroupPlace, RowPlace, HeadPlace, Within}
 use Rattle.html_standard.specs.Tokens.{Attr}
 use Rattle.html_rules.specs.TreeTokens.{Trees, no_trees as no_nodes, text_node as text, comment_node as comment, doctype_node as doctype, element_node as element}
 
@@ -37,6 +37,7 @@ abbrev pub place_in : ElementCategory → Place
 place_in Heading = HeadingPlace
 place_in ItemList = ListPlace
 place_in DescriptionList = DescriptionListPlace
+place_in Ruby = RubyPlace
 place_in Table = TablePlace
 place_in ColumnGroup = ColumnGroupPlace
 place_in RowGroup = RowGroupPlace

@@ -15,7 +15,7 @@ use Rattle.calm_pages.specs.Calm.{IsCalmDocument, admits, are_calm, bars, behind
 use Rattle.calm_pages.specs.declared.nesting.Scope.{Scope}
 use Rattle.html5_trees.specs.ElementKinds.{kind_among, kind_of, may_hold, named_kinds, names_of}
 use Rattle.html5_trees.specs.declared.element_kinds.ElementCategory.{ElementCategory}
-use Rattle.html5_trees.specs.declared.element_kinds.ElementCategory.TheVariants.{Document, Html, Head, Body, Metadata, Verbatim, Phrase, Anchor, Button, Paragraph, Block, Heading, Form, Pre, ItemList, Item, DescriptionList, Description, Table, Caption, ColumnGroup, Column, RowGroup, TableRow, Cell, Other}
+use Rattle.html5_trees.specs.declared.element_kinds.ElementCategory.TheVariants.{Document, Html, Head, Body, Metadata, Verbatim, Phrase, Anchor, Button, Paragraph, Block, Heading, Form, Pre, ItemList, Item, DescriptionList, Description, Ruby, RubyText, Table, Caption, ColumnGroup, Column, RowGroup, TableRow, Cell, Other}
 use Rattle.html_rules.specs.TreeTokens.{doctype_named, end_of, tokens}
 use Rattle.html_rules.proofs.TreeLists.{Each}
 use Rattle.html_standard.specs.Tokens.{Token, AChar, AComment, ADoctype, AStart, AnEnd}
@@ -101,6 +101,14 @@ description_known : Each Known (names_of Description)
 unfolding names_of kind_of chars void_names raw_names encode
 description_known = (record { ascii = refl; ends = refl; utf8 = (codes "dd", (refl, refl)); read = inl refl }, (record { ascii = refl; ends = refl; utf8 = (codes "dt", (refl, refl)); read = inl refl }, tt))
 
+ruby_known : Each Known (names_of Ruby)
+unfolding names_of kind_of chars void_names raw_names encode
+ruby_known = (record { ascii = refl; ends = refl; utf8 = (codes "ruby", (refl, refl)); read = inl refl }, tt)
+
+rubytext_known : Each Known (names_of RubyText)
+unfolding names_of kind_of chars void_names raw_names encode
+rubytext_known = (record { ascii = refl; ends = refl; utf8 = (codes "rp", (refl, refl)); read = inl refl }, (record { ascii = refl; ends = refl; utf8 = (codes "rt", (refl, refl)); read = inl refl }, tt))
+
 table_known : Each Known (names_of Table)
 unfolding names_of kind_of chars void_names raw_names encode
 table_known = (record { ascii = refl; ends = refl; utf8 = (codes "table", (refl, refl)); read = inl refl }, tt)
@@ -149,6 +157,8 @@ of_category ItemList name is = of_names Known (names_of ItemList) itemlist_known
 of_category Item name is = of_names Known (names_of Item) item_known name is
 of_category DescriptionList name is = of_names Known (names_of DescriptionList) descriptionlist_known name is
 of_category Description name is = of_names Known (names_of Description) description_known name is
+of_category Ruby name is = of_names Known (names_of Ruby) ruby_known name is
+of_category RubyText name is = of_names Known (names_of RubyText) rubytext_known name is
 of_category Table name is = of_names Known (names_of Table) table_known name is
 of_category Caption name is = of_names Known (names_of Caption) caption_known name is
 of_category ColumnGroup name is = of_names Known (names_of ColumnGroup) columngroup_known name is
@@ -216,6 +226,8 @@ inner_inside scope ItemList i h = refl
 inner_inside scope Item i h = refl
 inner_inside scope DescriptionList i h = refl
 inner_inside scope Description i h = refl
+inner_inside scope Ruby i h = refl
+inner_inside scope RubyText i h = refl
 inner_inside scope Table i h = refl
 inner_inside scope Caption i h = refl
 inner_inside scope ColumnGroup i h = refl

@@ -19,7 +19,7 @@ use Rattle.calm_pages.specs.Calm.{IsCalmDocument, admits, are_calm, bars, behind
 use Rattle.calm_pages.specs.declared.nesting.Scope.{Scope}
 use Rattle.html5_trees.specs.ElementKinds.{holds_doctype, kind_of, may_hold}
 use Rattle.html5_trees.specs.declared.element_kinds.ElementCategory.{ElementCategory}
-use Rattle.html5_trees.specs.declared.element_kinds.ElementCategory.TheVariants.{Document, Html, Head, Body, Metadata, Verbatim, Phrase, Anchor, Button, Paragraph, Block, Heading, Form, Pre, ItemList, Item, DescriptionList, Description, Table, Caption, ColumnGroup, Column, RowGroup, TableRow, Cell, Other}
+use Rattle.html5_trees.specs.declared.element_kinds.ElementCategory.TheVariants.{Document, Html, Head, Body, Metadata, Verbatim, Phrase, Anchor, Button, Paragraph, Block, Heading, Form, Pre, ItemList, Item, DescriptionList, Description, Ruby, RubyText, Table, Caption, ColumnGroup, Column, RowGroup, TableRow, Cell, Other}
 use Rattle.html_standard.specs.PlainMarkup.{Piece}
 use Rattle.html_calm.proofs.CategoryPlaces.{is_inner}
 use Rattle.html_calm.proofs.CalmPlain.{inner_behind}
@@ -221,6 +221,8 @@ no_doctype ItemList i = refl
 no_doctype Item i = refl
 no_doctype DescriptionList i = refl
 no_doctype Description i = refl
+no_doctype Ruby i = refl
+no_doctype RubyText i = refl
 no_doctype Table i = refl
 no_doctype Caption i = refl
 no_doctype ColumnGroup i = refl

@@ -21,13 +21,14 @@ const OPEN = ["common", "element form", "element input", "element button", "elem
 write("attacks", attacks.flatMap(([name, markup]) => [row(["common"], markup, { name }), row(OPEN, markup, { name })]));
 
 // each element that may be kept, alone, where it stands, and what it is left with when it isn't allowed
-const KEEPABLE = "a abbr acronym address area article aside audio b bdi bdo big blockquote br button canvas caption center cite code col colgroup data datalist dd del details dfn dialog dir div dl dt em fieldset figcaption figure font footer form h1 h2 h3 h4 h5 h6 header hgroup hr i img input ins kbd label legend li main map mark menu meter nav ol output p picture pre progress q s samp search section slot small source span strike strong sub summary sup table tbody td tfoot th thead time tr track tt u ul var video wbr".split(" ");
-const AROUND = { li: "<ul>|</ul>", dd: "<dl>|</dl>", dt: "<dl>|</dl>", caption: "<table>|</table>", colgroup: "<table>|</table>", col: "<table><colgroup>|</colgroup></table>", tbody: "<table>|</table>", thead: "<table>|</table>", tfoot: "<table>|</table>", tr: "<table><tbody>|</tbody></table>", td: "<table><tbody><tr>|</tr></tbody></table>", th: "<table><tbody><tr>|</tr></tbody></table>" };
+const KEEPABLE = "a abbr acronym address area article aside audio b bdi bdo big blockquote br button canvas caption center cite code col colgroup data datalist dd del details dfn dialog dir div dl dt em fieldset figcaption figure font footer form h1 h2 h3 h4 h5 h6 header hgroup hr i img input ins kbd label legend li main map mark menu meter nav ol output p picture pre progress q rp rt ruby s samp search section slot small source span strike strong sub summary sup table tbody td tfoot th thead time tr track tt u ul var video wbr".split(" ");
+const AROUND = { li: "<ul>|</ul>", dd: "<dl>|</dl>", dt: "<dl>|</dl>", rp: "<ruby>|</ruby>", rt: "<ruby>|</ruby>", caption: "<table>|</table>", colgroup: "<table>|</table>", col: "<table><colgroup>|</colgroup></table>", tbody: "<table>|</table>", thead: "<table>|</table>", tfoot: "<table>|</table>", tr: "<table><tbody>|</tbody></table>", td: "<table><tbody><tr>|</tr></tbody></table>", th: "<table><tbody><tr>|</tr></tbody></table>" };
+const NEEDS = { rp: ["element ruby"], rt: ["element ruby"] };
 const TABLE = ["element table", "element tbody", "element tr", "element td", "element colgroup"];
 write("elements", KEEPABLE.flatMap((name) => {
   const [before, after] = (AROUND[name] || "|").split("|");
   const markup = `${before}<${name}>x</${name}>${after}`;
-  const around = AROUND[name] ? [...TABLE, "element ul", "element dl"] : [];
+  const around = NEEDS[name] || (AROUND[name] ? [...TABLE, "element ul", "element dl"] : []);
   const args = [...new Set([...around, "element " + name, ...(name === "table" ? TABLE : [])])];
   return [row(args, markup), row(around.filter((line) => line !== "element " + name && (name !== "td" && name !== "tr" && name !== "tbody")), markup)];
 }));
@@ -38,7 +39,7 @@ write("common", [
   ...common.own.map(([element, name]) => { const [before, after] = (AROUND[element] || "|").split("|"); return row(["common", "element tfoot"], `${before}<${element} ${name}="v">x</${element}>${after}<b ${name}="v">y</b>`); }),
   ...[...common.schemes].map((scheme) => row(["common"], `<a href="${scheme}:x">x</a><a href="${scheme.toUpperCase()}://x/">x</a><a href="x${scheme}:x">y</a>`)),
   ...["script", "style"].map((name) => row(["common"], `a<${name}>b</${name}>c`)),
-  ...["title", "base", "link", "meta", "head", "template", "svg", "math", "iframe", "noscript", "textarea", "select", "object", "embed", "xmp", "noembed", "noframes", "plaintext", "ruby", "x-y"].map((name) => row(["common"], `a<${name}>b<i>c</i></${name}>d`)),
+  ...["title", "base", "link", "meta", "head", "template", "svg", "math", "iframe", "noscript", "textarea", "select", "object", "embed", "xmp", "noembed", "noframes", "plaintext", "ruby", "rb", "rtc", "x-y"].map((name) => row(["common"], `a<${name}>b<i>c</i></${name}>d`)),
 ]);
 const ADDRESSES = "action background cite classid codebase data dynsrc formaction href icon longdesc lowsrc manifest poster profile src usemap".split(" ");
 const VALUES = ["http://h/", "HTTPS:/h", "javascript:alert(1)", " \t\njava\tscript:x", "data:text/html,x", "/y?a=1&b", "?q", "#f", "//h/x", "\\\\h\\x", "mailto:x", "http:y", "x y:z", "1a:b", "a+b-c.d:e", ":x", "", "http://[x", "é:x", "h\nttp://h/"];
@@ -69,6 +70,17 @@ write("rules", [
   row(["common"], "<ul><li>a<ul><li>b</ul><li>c</ul>d"),
   row(["common"], "<dl><dt>a<dd>b<div><dt>c</div></dl>"),
   row(["common"], "<h1>a<div><h2>b</h2></div></h1>"),
+  row(["common"], "<ruby>漢<rp>(</rp><rt>kan</rt><rp>)</rp>字<rp>(</rp><rt>ji</rt><rp>)</rp></ruby>", {}),
+  row(["common"], "<ruby>漢<rp>(<rt>kan<rp>)</ruby>字"),
+  row(["common"], "<rt>a</rt>b<p>c<rp>d</rp></p>"),
+  row(["common"], "<ruby>a<b>b<rt>c</rt></b></ruby>"),
+  row(["common"], "<ruby>a<rt>b<ruby>c<rt>d</rt></ruby></rt></ruby>", {}),
+  row(["common"], "<ruby><rb>a</rb><rt>b</rt><rtc><rt>c</rt></rtc></ruby>"),
+  row(["common"], "<ruby><rt><p>a<p>b</rt><div>c<rt>d</rt></div></ruby>"),
+  row(["common"], "<p><ruby>a<rt><div>b</div></rt></ruby>c</p>"),
+  row(["common"], "<ruby>a<rt><span>b<rt>c</ruby>d"),
+  row(["element rt", "element rp"], "<ruby>a<rt>b</rt></ruby>"),
+  row(["element ruby", "drop rt"], "<ruby>a<rp>(</rp><rt>b</rt></ruby>"),
   row(["common"], "a\0b\rc\r\nd"),
   row(["common"], "<pre>\n\n\na</pre><pre><b>\nc</b>\nd</pre><pre><i></i>\ne</pre><pre>\n</pre><pre><x>\n</x>\nf</pre>"),
   row(["element pre"], "<pre><x>\n</x>\n\ng\nh</pre>"),

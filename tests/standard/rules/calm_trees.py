@@ -1,4 +1,4 @@
-"""Random trees that satisfy the conditions of the definition IsCalmDocument, with ruby beside them, and texts that write them."""
+"""Random trees that satisfy the conditions of the definition IsCalmDocument, and texts that write them."""
 KINDS = {
     'Html': 'html', 'Head': 'head', 'Body': 'body', 'Metadata': 'base link meta', 'Verbatim': 'script style title',
     'Phrase': 'abbr acronym area audio b bdi bdo big br canvas cite code data datalist del dfn em embed font i img input ins kbd label legend map mark meter '
