@@ -82,9 +82,12 @@ function written(nodes) {
   }
   return text;
 }
+// the one element in the head of a cleaned page
+const META = '<meta charset="utf-8">';
 function active(root, schemes) {
   const found = [];
   for (const node of root.querySelectorAll("*")) {
+    if (node.parentNode.localName === "head" && node.outerHTML === META) continue;
     if (/^(script|style|iframe|object|embed|svg|math|template|noscript|base|meta|link)$/i.test(node.localName)) found.push("element " + node.localName);
     for (const attr of node.attributes) {
       if (/^on/i.test(attr.name) || attr.name === "style" || attr.name === "srcdoc") found.push("attribute " + attr.name);
@@ -115,7 +118,7 @@ async function several(n, cases) {
   now = "batch " + n;
   let frame = await frameOf("/batch/" + n);
   let page = frame.contentDocument;
-  const whole = page.doctype && page.documentElement.childNodes.length === 2 && page.documentElement.attributes.length === 0 && page.body && page.body.attributes.length === 0 && page.head.childNodes.length === 0 && page.childNodes.length === 2;
+  const whole = page.doctype && page.documentElement.childNodes.length === 2 && page.documentElement.attributes.length === 0 && page.body && page.body.attributes.length === 0 && page.head.innerHTML === META && page.childNodes.length === 2;
   const shown = whole ? written(page.body.childNodes).split('<wbr data-next="">') : [];
   cases.forEach((it, i) => seen(results[i], "page", shown.length === cases.length ? shown[i] : "another page", it.text, i ? null : page, it.schemes));
   frame.remove();
@@ -174,7 +177,7 @@ const post = (address, value) => fetch(address, { method: "POST", body: JSON.str
 
 // ---- the server, which is also the proxy
 const batch = (cases, number) => cases.slice(Number(number), Number(number) + BATCH);
-const SHELL = "<!DOCTYPE html><html><head></head><body>";
+const SHELL = '<!DOCTYPE html><html><head><meta charset="utf-8"></head><body>';
 function serve(cases, report) {
   const own = {};
   const seen = { results: [], hits: [], requests: [], others: {}, control: null };
