@@ -356,7 +356,7 @@ void dq_policy_free(dq_policy *policy);
  * page with the text in its body is read as exactly the tree that is left. */
 int64_t dq_clean(dq_policy *policy, const uint8_t *html, size_t html_length, uint8_t *text, size_t room);
 
-/* A page with what the policy leaves of the body of a page: <!DOCTYPE html>, an empty head, and that body. */
+/* A page with what the policy leaves of the body of a page: <!DOCTYPE html>, a head that declares UTF-8, and that body. */
 int64_t dq_clean_page(dq_policy *policy, const uint8_t *html, size_t html_length, uint8_t *text, size_t room);
 
 /* What the policy leaves of the children of a document's root. The document stays as it is. */

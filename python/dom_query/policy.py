@@ -355,5 +355,5 @@ def clean(html: str | Document, policy: Policy | None = None) -> str:
 
 
 def clean_page(html: str, policy: Policy | None = None) -> str:
-    """A whole page with what the policy leaves of the body of a page: `<!DOCTYPE html>`, an empty `head`, and that `body`."""
+    """A whole page with what the policy leaves of the body of a page: `<!DOCTYPE html>`, a `head` that declares UTF-8, and that `body`."""
     return _chosen(policy).clean_page(html)

@@ -33,7 +33,7 @@ class Cleaning(unittest.TestCase):
         self.assertEqual(Policy().clean(COMMENT), again)
 
     def test_clean_page(self):
-        page = "<!DOCTYPE html><html><head></head><body><p>a</p></body></html>"
+        page = '<!DOCTYPE html><html><head><meta charset="utf-8"></head><body><p>a</p></body></html>'
         self.assertEqual(dom_query.clean_page("<title>t</title><p onclick=x()>a"), page)
         self.assertEqual(Policy().clean_page("<p>a"), page)
         self.assertEqual(dom_query.clean_page("<p>a", Policy.empty()), page.replace("<p>", "").replace("</p>", ""))

@@ -150,7 +150,8 @@ static void cleaning(dq_policy *p, dq_document *d) {
     SAYS(dq_clean(p, T("<a href=javascript:x()>1</a>"), ROOM), "<a rel=\"nofollow\">1</a>");
     if (IS(dq_clean(p, T("<i>1</i>"), text, 0), 8)) SAYS(dq_policy_taken(p, ROOM), "<i>1</i>");
     if (!refusing) IS(dq_policy_fault(p), 0);
-    SAYS(dq_clean_page(p, T("<title>t</title><i>1"), ROOM), "<!DOCTYPE html><html><head></head><body><i>1</i></body></html>");
+    SAYS(dq_clean_page(p, T("<title>t</title><i>1"), ROOM), 
+         "<!DOCTYPE html><html><head><meta charset=\"utf-8\"></head><body><i>1</i></body></html>");
     if (IS(dq_parse(d, T("<i>1<b>2</b></i>")), 0)) {
         SAYS(dq_clean_document(p, d, ROOM), "<i>12</i>");
         SAYS(dq_html(d, 0, ROOM), "<i>1<b>2</b></i>");

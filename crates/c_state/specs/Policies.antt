@@ -53,7 +53,7 @@ pub record Finishes (result : Result ℕ Fault) (old new : PolicyState) : Type 0
 -- The text of what the policy leaves of a fragment
 pub record IsCleanFragment (policy : Policy) (source text : List ℕ) : Type 0 where
   pub cleaned : IsCleanedText policy text
-  pub calm : (body : ValueTrees) → IsCalmPage (page_around source) (page_of body) → text ≡ text_of (cleaned_below policy (document_of (page_of body)) 4)
+  pub calm : (body : ValueTrees) → IsCalmPage (page_around source) (page_of body) → text ≡ text_of (cleaned_below policy (document_of (page_of body)) 5)
 
 -- The page with what the policy leaves of the body of a page
 pub record IsCleanPage (policy : Policy) (source page : List ℕ) : Type 0 where

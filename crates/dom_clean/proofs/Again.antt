@@ -157,22 +157,22 @@ module _ (policy : Policy) (sound : is_sound policy ≡ true) (forest : Forest) 
 
 -- ---- the page
 
--- what stands in the body of such a page, whose number is 4
+-- what stands in the body of such a page, whose number is 5
 record IsBody (forest : Forest) (body : ValueTrees) : Type 0 where
-  is : body_of forest ≡ 4
-  below : Represents forest (children_of forest 4) body
+  is : body_of forest ≡ 5
+  below : Represents forest (children_of forest 5) body
 
 -- the number of the second node of a list
 abbrev second : List ℕ → ℕ
 second (n ∷ m ∷ ns) = m
 second _ = 0
 
-page_body : (forest : Forest) (body : ValueTrees) → Represents forest (children_of forest 0) (page_of body) → second (children_of forest 0) ≡ 2 → second (children_of forest 2) ≡ 4 → IsBody forest body
-page_body forest body (n, _, tops, doctype_is, (m, _, below, tops2, html_is, (h, _, under_head, parts, head_is, _, (d, _, under_body, parts2, body_is, inner, parts3)), tops3)) two four =
+page_body : (forest : Forest) (body : ValueTrees) → Represents forest (children_of forest 0) (page_of body) → second (children_of forest 0) ≡ 2 → second (children_of forest 2) ≡ 5 → IsBody forest body
+page_body forest body (n, _, tops, doctype_is, (m, _, below, tops2, html_is, (h, _, under_head, parts, head_is, _, (d, _, under_body, parts2, body_is, inner, parts3)), tops3)) two five =
     let all : children_of forest 0 ≡ n ∷ m ∷ [] = tops ∙ ap (λ (ns : List ℕ). n ∷ ns) (tops2 ∙ ap (λ (ns : List ℕ). m ∷ ns) tops3) in
     let held : children_of forest m ≡ h ∷ d ∷ [] = sym html_is.holds.1 ∙ parts ∙ ap (λ (ns : List ℕ). h ∷ ns) (parts2 ∙ ap (λ (ns : List ℕ). d ∷ ns) parts3) in
     let html_at : m ≡ 2 = sym (ap second all) ∙ two in
-    let body_at : d ≡ 4 = sym (ap second held) ∙ ap (λ k. second (children_of forest k)) html_at ∙ four in
+    let body_at : d ≡ 5 = sym (ap second held) ∙ ap (λ k. second (children_of forest k)) html_at ∙ five in
     let html : child_named forest 0 (codes "html") ≡ Some m = ap (find (λ child. has_local_name forest child (codes "html"))) all ∙ rw (doctype_is, html_is.read) refl in
     let found : child_named forest m (codes "body") ≡ Some d = ap (find (λ child. has_local_name forest child (codes "body"))) held ∙ rw (head_is.read, body_is.read) refl in
     record {
@@ -194,18 +194,18 @@ content_count ts = length-map (rows_of ts) (λ row. row.content) ∙ ap suc (row
 body_few : (body : ValueTrees) → size body ≤ length (document_of (page_of body)).content
 body_few body =
     let count = content_count (page_of body) in
-    let long : size (page_of body) ≡ 1 + (1 + (1 + 0 + (1 + size body + 0)) + 0) = refl in
+    let long : size (page_of body) ≡ 1 + (1 + (1 + (1 + 0 + 0) + (1 + size body + 0)) + 0) = refl in
     omega (arith, count, long)
 
 -- ---- the law
 
 -- trees that are calm and settled
 body-again : (policy : Policy) (body : ValueTrees) → is_sound policy ≡ true → AreTidy body → are_calm (in_body policy).scope body ≡ true → AreSettledTrees policy policy.depth body →
-    cleaned_below policy (document_of (page_of body)) 4 ≡ body
+    cleaned_below policy (document_of (page_of body)) 5 ≡ body
 unfolding trees
 body-again policy body sound tidy calm settled =
     let forest = document_of (page_of body) in
-    trees-again policy sound forest (in_body policy) body (children_of forest 4) (length forest.content) refl tidy calm settled (body_is body).below (body_few body)
+    trees-again policy sound forest (in_body policy) body (children_of forest 5) (length forest.content) refl tidy calm settled (body_is body).below (body_few body)
 
 pub cleans_once : (policy : Policy) → is_sound policy ≡ true → CleansOnce policy
 cleans_once policy sound forest n =
@@ -219,7 +219,7 @@ cleans_once policy sound forest n =
 
 -- the text that is written when the text of what was left is cleaned again
 abbrev pub text_again : Policy → Forest → ℕ → List ℕ
-text_again policy forest n = text_of (cleaned_below policy (document_of (page_of (left_below policy forest n))) 4)
+text_again policy forest n = text_of (cleaned_below policy (document_of (page_of (left_below policy forest n))) 5)
 
 pub text_stays : (policy : Policy) → is_sound policy ≡ true → (text : List ℕ) → (left : IsLeftBy policy text) → text_again policy left.0 left.1 ≡ text
 text_stays policy sound text (forest, n, is) =
@@ -230,5 +230,5 @@ pub page_read : (policy : Policy) → is_sound policy ≡ true → (text : List 
 page_read policy sound text (forest, n, is) = (safe_text policy sound forest n text is).page
 
 -- and what was left is the contents of its body
-pub body_again : (policy : Policy) (body : ValueTrees) → cleaned_body policy (document_of (page_of body)) ≡ cleaned_below policy (document_of (page_of body)) 4
+pub body_again : (policy : Policy) (body : ValueTrees) → cleaned_body policy (document_of (page_of body)) ≡ cleaned_below policy (document_of (page_of body)) 5
 body_again policy body = ap (cleaned_below policy (document_of (page_of body))) (body_is body).is

@@ -13,7 +13,7 @@ use Rattle.html_rules.specs.TreeTokens.{is_among}
 use Rattle.html_rules.proofs.TreeLists.{of_each}
 use Rattle.html_calm.specs.CalmTrees.{scope_in}
 use Rattle.html_calm.proofs.CalmDocuments.{body_kind, calm_parts, head_kind, html_kind}
-use Rattle.dom_clean.specs.Laws.{page_of}
+use Rattle.dom_clean.specs.Laws.{page_of, utf8_meta}
 
 -- the scope of the outermost nodes below such a parent
 abbrev below : ElementCategory → Scope
@@ -81,9 +81,9 @@ same_calm parent flow trees = by_trees trees
 body_calm : (trees : ValueTrees) → are_calm top (page_of trees) ≡ true → are_calm (below Body) trees ≡ true
 body_calm trees c =
     let body : ValueTrees = element_node (codes "body") [] trees no_trees in
-    let inner : ValueTrees = element_node (codes "head") [] no_trees body in
+    let inner : ValueTrees = element_node (codes "head") [] utf8_meta body in
     let outer : (are_calm (inside top Html) inner ≡ true) × (are_calm top no_trees ≡ true) = calm_parts top (codes "html") Html [] inner no_trees html_kind c in
-    let parts : (are_calm (inside (inside top Html) Head) no_trees ≡ true) × (are_calm (inside top Html) body ≡ true) = calm_parts (inside top Html) (codes "head") Head [] no_trees body head_kind outer.0 in
+    let parts : (are_calm (inside (inside top Html) Head) utf8_meta ≡ true) × (are_calm (inside top Html) body ≡ true) = calm_parts (inside top Html) (codes "head") Head [] utf8_meta body head_kind outer.0 in
     (calm_parts (inside top Html) (codes "body") Body [] trees no_trees body_kind parts.1).0
 
 pub fragment_calm : (trees : ValueTrees) → are_calm top (page_of trees) ≡ true → (context : List ℕ) → is_among context flow_contexts ≡ true → are_calm (scope_in context) trees ≡ true

@@ -24,9 +24,10 @@ use Rattle.dom_clean.specs.Cleaned.{cleaned_below}
 use Rattle.dom_clean.specs.Laws.{IsSafe, left_below, page_around, page_of}
 use Rattle.dom_clean.specs.Policy.{Policy, is_sound}
 use Rattle.dom_clean.specs.Written.{text_of}
-use Rattle.dom_clean.specs.Parsed.{CleanedPagesAreParsed, CleanedTextsAreParsed, IsCleanedAs, IsCleanedPage, IsCleanedText}
+use Rattle.dom_clean.specs.Parsed.{CleanedPagesAreParsed, CleanedTextsAreParsed, DeclaresUtf8, IsCleanedAs, IsCleanedPage, IsCleanedText}
 use Rattle.dom_clean.proofs.CalmPlaces.{fragment_calm}
 use Rattle.dom_clean.proofs.CleanedText.{page_utf8, same_page, same_text}
+use Rattle.dom_clean.proofs.DeclaresUtf8.{page_declares}
 use Rattle.dom_clean.proofs.Pages.{safe_text}
 
 -- the page as html_laws writes it
@@ -83,4 +84,11 @@ cleaned_text parsed policy sound forest n text utf8 is =
 -- a page with such a text in its body
 pub cleaned_page : (policy : Policy) (page text : List ℕ) → page ≡ page_around text → IsCleanedText policy text → IsCleanedPage policy page
 cleaned_page policy page text is cleaned =
-    record { text = text; trees = cleaned.0; is = is; cleaned = cleaned.1; parsed = subst (λ t. IsPageOnlyOf (chars t) (nodes_of (page_of cleaned.0))) (sym is) cleaned.1.parsed.page }
+    record {
+      text = text;
+      trees = cleaned.0;
+      is = is;
+      cleaned = cleaned.1;
+      parsed = subst (λ t. IsPageOnlyOf (chars t) (nodes_of (page_of cleaned.0))) (sym is) cleaned.1.parsed.page;
+      encoding = subst DeclaresUtf8 (sym is) (page_declares text);
+    }

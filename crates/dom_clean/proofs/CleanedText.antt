@@ -1,7 +1,7 @@
 -- The text of what was left is the text of its trees as html_laws defines it.
 use Rattle.std.proofs.Common.{◌≡◌, ℕ, true, false, cond, List, [], ◌++◌, refl, ap, ◌∙◌, append-nil, append_assoc}
 use Rattle.std.specs.Prelude.{codes}
-use Rattle.std.specs.Str.{IsUtf8}
+use Rattle.std.specs.Str.{IsUtf8, chars}
 use Rattle.std.proofs.Math.Utf8.{encode}
 use Rattle.std.proofs.lemmas.Str.{IsUtf8-append}
 use Rattle.dom_nodes.specs.Words.{is_among}
@@ -30,13 +30,13 @@ same_text policy sound (element_node name attributes children later) p =
     ∙ ap (λ t. start_of name attributes ++ ((cond (is_among name void_names) [] (text_of children ++ end)) ++ t)) (same_text policy sound later p.3)
 
 abbrev front_of_page : List ℕ
-front_of_page = codes "<!DOCTYPE html><html><head></head><body>"
+front_of_page = codes "<!DOCTYPE html><html><head><meta charset=\"utf-8\"></head><body>"
 
 abbrev end_of_page : List ℕ
 end_of_page = codes "</body></html>"
 
 page_text : (body : ValueTrees) → text_by safe_char false (page_of body) ≡ page_around (text_by safe_char false body)
-unfolding void_names raw_names
+unfolding void_names raw_names chars encode
 page_text body =
     let text : List ℕ = text_by safe_char false body in
     ap (λ t. front_of_page ++ t) (append-nil (((text ++ codes "</body>") ++ []) ++ codes "</html>") ∙ ap (λ t. t ++ codes "</html>") (append-nil (text ++ codes "</body>"))

@@ -11,6 +11,7 @@ pub mod CalmPlaces
 pub mod CalmText
 pub mod CleanedParsed
 pub mod CleanedText
+pub mod DeclaresUtf8
 pub mod EntryTexts
 pub mod Left
 pub mod Lines

@@ -2,6 +2,8 @@
 use Rattle.std.proofs.Common.{◌≡◌, ◌+◌, ◌-◌, ◌&&◌, ℕ, Bool, true, false, List, [], ◌++◌, length, map, drop, refl, sym, ap, ◌∙◌, subst, arith, append-nil, append_assoc, length-append}
 use Rattle.std.specs.Prelude.{codes}
 use Rattle.std.specs.Char.{to_ascii_lowercase}
+use Rattle.std.specs.Str.{IsUtf8, chars}
+use Rattle.std.proofs.Math.Utf8.{encode}
 use Rattle.std.proofs.Math.Seq.{drop-append_seam}
 use Rattle.dom_links.specs.Forest.{Forest, children_of}
 use Rattle.dom_links.specs.Trees.{trees}
@@ -15,7 +17,7 @@ use Rattle.html5_trees.specs.Framed.{IsFramed}
 use Rattle.calm_pages.specs.Calm.{IsCalmDocument, are_calm, is_calm_text}
 use Rattle.dom_clean.specs.Cleaned.{cleaned_below, in_body}
 use Rattle.dom_clean.specs.Joined.{AreTidy, joined, with_text}
-use Rattle.dom_clean.specs.Laws.{AreAllowed, CleansSafely, IsSafe, left_below, page_around, page_of}
+use Rattle.dom_clean.specs.Laws.{AreAllowed, CleansSafely, IsSafe, left_below, page_around, page_of, utf8_meta}
 use Rattle.dom_clean.specs.Policy.{Policy, is_sound}
 use Rattle.dom_clean.specs.SafeText.{text_by}
 use Rattle.dom_clean.specs.Spelled.{Front, IsSpellable}
@@ -30,12 +32,12 @@ abbrev end_of_page : List ℕ
 end_of_page = codes "</body></html>"
 
 abbrev front_of_page : List ℕ
-front_of_page = codes "<!DOCTYPE html><html><head></head><body>"
+front_of_page = codes "<!DOCTYPE html><html><head><meta charset=\"utf-8\"></head><body>"
 
 -- ---- its text
 
 page_text : (body : ValueTrees) → text_by false (page_of body) ≡ page_around (text_by false body)
-unfolding void_names raw_names
+unfolding void_names raw_names chars encode
 page_text body =
     let text = text_by false body in
     ap (λ t. front_of_page ++ t) (append-nil (((text ++ codes "</body>") ++ []) ++ codes "</html>") ∙ ap (λ t. t ++ codes "</html>") (append-nil (text ++ codes "</body>"))
@@ -46,7 +48,7 @@ page_framed text =
     let front = front_of_page ++ text in
     let all : page_around text ≡ front ++ end_of_page = sym (append_assoc front_of_page text end_of_page) in
     let count : length (page_around text) ≡ length front + 14 = ap length all ∙ length-append front end_of_page in
-    let count_front : length front ≡ 40 + length text = length-append front_of_page text in
+    let count_front : length front ≡ 62 + length text = length-append front_of_page text in
     let place : length (page_around text) - 14 ≡ length front = omega (arith, count) in
     record {
       long = omega (arith, count, count_front);
@@ -61,6 +63,14 @@ page_calm : (body : ValueTrees) → IsSpellable body → is_calm_text (page_arou
 page_calm body is = page_front.front (text_of body ++ end_of_page) ((text-front body is).front end_of_page refl)
 
 -- ---- its document
+
+label_utf8 : IsUtf8 (codes "utf-8")
+unfolding encode
+label_utf8 = (codes "utf-8", (refl, refl))
+
+meta_plain : IsPlainTrees false utf8_meta
+unfolding void_names raw_names text_names
+meta_plain = ((refl, refl), refl, (((λ e. cc), refl, refl), label_utf8, refl, tt), (λ v. refl), tt, tt, tt)
 
 page_plain : (body : ValueTrees) → IsPlainTrees false body → IsPlainTrees true (page_of body)
 unfolding void_names raw_names text_names
@@ -79,9 +89,9 @@ page_plain body plain = (
       (refl, refl),
       refl,
       tt,
-      (λ v. refl),
+      (λ v. cc),
       tt,
-      tt,
+      meta_plain,
       ((refl, refl), refl, tt, (λ v. cc), tt, plain, tt),
     ),
     tt,
@@ -94,7 +104,7 @@ page_document policy body calm = record {
   html_attributes = [];
   head_attributes = [];
   body_attributes = [];
-  head = no_trees;
+  head = utf8_meta;
   space = [];
   body = body;
   is = refl;

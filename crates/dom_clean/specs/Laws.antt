@@ -57,14 +57,18 @@ CleansWell policy = (forest : Forest) (place : Place) (ts : Trees) → behind pl
 
 -- ---- what is read
 
--- a page with that text in its body
+-- a page in UTF-8, which it declares, with that text in its body
 abbrev pub page_around : List ℕ → List ℕ
-page_around text = codes "<!DOCTYPE html><html><head></head><body>" ++ (text ++ codes "</body></html>")
+page_around text = codes "<!DOCTYPE html><html><head><meta charset=\"utf-8\"></head><body>" ++ (text ++ codes "</body></html>")
+
+-- the element that declares the encoding of such a page
+abbrev pub utf8_meta : ValueTrees
+utf8_meta = element_node (codes "meta") (record { name = codes "charset"; value = codes "utf-8" } ∷ []) no_trees no_trees
 
 -- the document of such a page
 abbrev pub page_of : ValueTrees → ValueTrees
 page_of body =
-    doctype_node (codes "html") [] [] (element_node (codes "html") [] (element_node (codes "head") [] no_trees (element_node (codes "body") [] body no_trees)) no_trees)
+    doctype_node (codes "html") [] [] (element_node (codes "html") [] (element_node (codes "head") [] utf8_meta (element_node (codes "body") [] body no_trees)) no_trees)
 
 -- the text is that of trees that are allowed, and the page around it is read as exactly these
 pub record IsSafe (policy : Policy) (text : List ℕ) (trees : ValueTrees) : Type 0 where

@@ -1,7 +1,11 @@
 -- What the HTML Standard makes of the text of what is left.
-use Rattle.std.specs.Prelude.{◌≡◌, ℕ, true, List}
+use Rattle.std.specs.Prelude.{◌≡◌, ℕ, true, List, None}
 use Rattle.std.specs.Str.{IsUtf8, chars}
 use Rattle.dom_markup.specs.ValueTrees.{ValueTrees}
+use Rattle.encodings.specs.declared.encoding.Encoding.TheVariants.{Utf8}
+use Rattle.text_decoding.specs.Pages.{IsPageEncoding}
+use Rattle.text_decoding.specs.declared.page.Charset.{Charset}
+use Rattle.text_decoding.specs.declared.page.Confidence.TheVariants.{Declared}
 use Rattle.html_rules.specs.PlainTrees.{flow_contexts}
 use Rattle.html_rules.specs.TreeTokens.{is_among}
 use Rattle.html_calm.specs.CalmTrees.{nodes_of}
@@ -33,6 +37,10 @@ pub record IsCleanedAs (policy : Policy) (text : List ℕ) (trees : ValueTrees) 
 abbrev pub IsCleanedText : Policy → List ℕ → Type 0
 IsCleanedText policy text = (trees : ValueTrees) × IsCleanedAs policy text trees
 
+-- where nothing that came with the page says another encoding, it is in UTF-8, which it declares
+abbrev pub DeclaresUtf8 : List ℕ → Type 0
+DeclaresUtf8 page = (charset : Charset) → charset.transport ≡ None → IsPageEncoding charset page Utf8 Declared
+
 -- a page with such a text in its body, and it is parsed as their document
 pub record IsCleanedPage (policy : Policy) (page : List ℕ) : Type 0 where
   pub text : List ℕ
@@ -40,3 +48,4 @@ pub record IsCleanedPage (policy : Policy) (page : List ℕ) : Type 0 where
   pub is : page ≡ page_around text
   pub cleaned : IsCleanedAs policy text trees
   pub parsed : IsPageOnlyOf (chars page) (nodes_of (page_of trees))
+  pub encoding : DeclaresUtf8 page

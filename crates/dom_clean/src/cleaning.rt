@@ -24,9 +24,9 @@ use dom_nodes::node_id::NodeId;
 use dom_trees::tree::Tree;
 use std::alloc::Global;
 
-/// The id of the body of a calm page whose head is empty: the root, the doctype, `html` and `head`
-/// come before it.
-const BODY: usize = 4;
+/// The id of the body of a page that `page_around` returns, if that is a calm page: the root, the
+/// doctype, `html`, `head` and `meta` come before it.
+const BODY: usize = 5;
 
 /// Returns the text of what the policy leaves of a fragment, which is read as the contents of a
 /// `div`. Fails only if memory is refused or the node ids run out.
@@ -39,7 +39,7 @@ pub fn clean(alloc: Global, source: &str, policy: &Policy) -> Result<String, Pag
     ensures cleaned { IfOk result (λ text. IsCleanedText policy.now (string_bytes text)) }
     ensures calm { (body : ValueTrees) → IsCalmPage (page_around source.now) (page_of body)
         → IfOk result (λ text. string_bytes text
-        ≡ text_of (cleaned_below policy.now (document_of (page_of body)) 4)) }
+        ≡ text_of (cleaned_below policy.now (document_of (page_of body)) 5)) }
     ensures left { IfOk result (λ text. IsLeftBy policy.now (string_bytes text)) }
     ensures again { IsLeftBy policy.now source.now
         → IfOk result (λ text. string_bytes text ≡ source.now) }
@@ -54,8 +54,9 @@ pub fn clean(alloc: Global, source: &str, policy: &Policy) -> Result<String, Pag
 }
 
 /// Returns a page with what the policy leaves of the body of a page, or of the whole document if it
-/// has no body: `<!DOCTYPE html>`, then `html` with an empty `head` and a `body`, all without
-/// attributes. Fails only if memory is refused or the node ids run out.
+/// has no body: `<!DOCTYPE html>`, then `html` with a `head` and a `body`, all without attributes.
+/// The head has `<meta charset="utf-8">` and nothing else. Fails only if memory is refused or the
+/// node ids run out.
 ///
 /// Whatever the source is, the HTML Standard parses the page as exactly the document with the trees
 /// that were left in its body.
@@ -92,11 +93,12 @@ pub(crate) fn body_of(tree: &Tree) -> NodeId
     }
 }
 
-/// Returns the page with the text in its body.
+/// Returns the page with the text in its body, in UTF-8, which its head declares.
 pub(crate) fn page_around(alloc: Global, text: &str) -> Result<String, OutOfMemory>
     ensures { IfOk result (λ page. string_bytes page ≡ page_around text.now) }
 {
-    let mut page = String::from_str(alloc, "<!DOCTYPE html><html><head></head><body>")?;
+    let front = "<!DOCTYPE html><html><head><meta charset=\"utf-8\"></head><body>";
+    let mut page = String::from_str(alloc, front)?;
     page.push_str(text)?;
     page.push_str("</body></html>")?;
     Ok(page)

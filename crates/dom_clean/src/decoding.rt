@@ -48,7 +48,7 @@ pub fn clean_bytes(
     ensures calm { (body : ValueTrees) → IfOk result (λ cleaned.
         IsCalmPage (page_around (page_text cleaned.encoding bytes.now)) (page_of body)
         → string_bytes cleaned.text
-        ≡ text_of (cleaned_below policy.now (document_of (page_of body)) 4)) }
+        ≡ text_of (cleaned_below policy.now (document_of (page_of body)) 5)) }
 {
     let page = decode_page(alloc, bytes, charset)?;
     let text = clean(alloc, page.text.as_str(), policy)?;

@@ -15,8 +15,8 @@ use dom_trees::tree::Tree;
 
 /// Returns the document of a page with what the policy leaves of the body of a tree, or of the
 /// whole tree if it has no body. It is the document that the text of the page is parsed to, and it
-/// has texts, allowed elements and allowed attributes in its body, and nothing in its head. Fails
-/// only if memory is refused or the node ids run out.
+/// has texts, allowed elements and allowed attributes in its body, and in its head
+/// `<meta charset="utf-8">` alone. Fails only if memory is refused or the node ids run out.
 pub fn clean_document(tree: &Tree, policy: &Policy) -> Result<Document, PageFault>
     ensures tree { IfOk result (λ document. document.tree
         ≡ document_of (page_of (left_below policy.now tree.now (body_of tree.now)))) }

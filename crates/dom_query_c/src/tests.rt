@@ -166,7 +166,7 @@ fn html_is_cleaned(rt: HostRuntime) {
     let cleaned = b"1<a href=\"https://t.example/x\" dir=\"rtl\">2</a>";
     assert!(&rt; room.starts_with(cleaned));
     assert_eq!(&rt; dq_policy_taken(alloc, &mut policy, &mut room), 46);
-    assert_eq!(&rt; dq_clean_page(alloc, &mut policy, b"<b>1", &mut room), 55);
+    assert_eq!(&rt; dq_clean_page(alloc, &mut policy, b"<b>1", &mut room), 77);
     let mut document = small(alloc);
     assert_eq!(&rt;
         dq_clean_document(alloc, &mut policy, &mut document, &mut room),

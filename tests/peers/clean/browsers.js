@@ -87,9 +87,12 @@ function written(nodes) {
   }
   return text;
 }
+// the one element in the head of a cleaned page
+const META = '<meta charset="utf-8">';
 function active(root, schemes) {
   const found = [];
   for (const node of (root.nodeType === 9 ? Document : root.nodeType === 11 ? DocumentFragment : Element).prototype.querySelectorAll.call(root, "*")) {
+    if (node.parentNode && nameOf(node) === "meta" && node.parentNode.localName === "head" && node.outerHTML === META) continue;
     if (/^(script|style|iframe|object|embed|svg|math|template|noscript|base|meta|link)$/i.test(nameOf(node))) found.push("element " + nameOf(node));
     for (const attr of attrsOf(node)) {
       if (/^on/i.test(attr.name) || attr.name === "style" || attr.name === "srcdoc") found.push("attribute " + attr.name);
@@ -129,7 +132,7 @@ async function several(n, cases) {
   now = "batch " + n;
   let frame = await wholeFrame("/batch/" + n);
   let page = frame.contentDocument;
-  const whole = doctypeOf(page) && rootOf(page).childNodes.length === 2 && rootOf(page).attributes.length === 0 && bodyOf(page) && bodyOf(page).attributes.length === 0 && headOf(page).childNodes.length === 0 && childrenOf(page).length === 2;
+  const whole = doctypeOf(page) && rootOf(page).childNodes.length === 2 && rootOf(page).attributes.length === 0 && bodyOf(page) && bodyOf(page).attributes.length === 0 && headOf(page).innerHTML === META && childrenOf(page).length === 2;
   const shown = whole ? written(childrenOf(bodyOf(page))).split('<wbr data-next="">') : [];
   cases.forEach((it, i) => seen(results[i], "page", shown.length === cases.length ? shown[i] : "another page", it.text, i ? null : page, it.schemes));
   frame.remove();
@@ -191,7 +194,7 @@ const post = (address, value) => fetch(address, { method: "POST", body: JSON.str
 
 // ---- the server, which is also the proxy
 const batch = (cases, number) => cases.slice(Number(number), Number(number) + BATCH);
-const SHELL = "<!DOCTYPE html><html><head></head><body>";
+const SHELL = '<!DOCTYPE html><html><head><meta charset="utf-8"></head><body>';
 function serve(cases, report) {
   const own = {};
   const seen = { results: [], hits: [], requests: [], others: {}, control: null };

@@ -172,7 +172,7 @@ const context = (name) => ({ ...DIV, nodeName: name, tagName: name });
 // the text read in some place, as explicit markup again
 function readIn(place, text, scriptingEnabled) {
   if (place !== "page") return written(parse5.parseFragment(context(place), text, { scriptingEnabled }).childNodes);
-  const page = parse5.parse(`<!DOCTYPE html><html><head></head><body>${text}</body></html>`, { scriptingEnabled });
+  const page = parse5.parse(`<!DOCTYPE html><html><head><meta charset="utf-8"></head><body>${text}</body></html>`, { scriptingEnabled });
   const html = page.childNodes[1];
   if (page.childNodes.length !== 2 || html.childNodes.length !== 2) return "another page";
   return written(html.childNodes[1].childNodes);

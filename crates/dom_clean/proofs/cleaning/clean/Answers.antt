@@ -20,7 +20,7 @@ found_none : (found : Option Document) (forest : Forest) → found ≡ None → 
 found_none None forest is holds = holds
 found_none (Some d) forest is holds = none-some d (sym is)
 
-id_is : (found : Option ℕ) (other : ℕ) → MatchOption found (4294967295 ≤ 4) (λ id. id ≡ 4) → unwrap_or found other ≡ 4
+id_is : (found : Option ℕ) (other : ℕ) → MatchOption found (4294967295 ≤ 5) (λ id. id ≡ 5) → unwrap_or found other ≡ 5
 id_is None other holds = absurd (omega (arith, holds))
 id_is (Some id) other holds = holds
 
@@ -28,9 +28,9 @@ pub returns-in-Some-clause-calm : goal.returns-in-Some-clause-calm
 returns-in-Some-clause-calm c = λ body calm.
     let policy = c.args.policy.now in
     let read = found_is c.in_ok-document.field-0 c.in-Some.document (document_of (page_of body)) c.in-Some.is (c.in_ok-document.ensures body calm) in
-    let four : c.unwrap_or-body.result ≡ 4 = c.unwrap_or-body.ensures ∙ id_is c.new.result c.root.result c.new.ensures in
+    let five : c.unwrap_or-body.result ≡ 5 = c.unwrap_or-body.ensures ∙ id_is c.new.result c.root.result c.new.ensures in
     IfOk-weaker c.clean_node.result _ _
-    (λ text is. is ∙ ap (λ n. text_of (cleaned_below policy c.in-Some.document.tree n)) four ∙ ap (λ (forest : Forest). text_of (cleaned_below policy forest 4)) read)
+    (λ text is. is ∙ ap (λ n. text_of (cleaned_below policy c.in-Some.document.tree n)) five ∙ ap (λ (forest : Forest). text_of (cleaned_below policy forest 5)) read)
     c.clean_node.ensures.text
 
 pub returns-in-Some-clause-left : goal.returns-in-Some-clause-left
@@ -42,9 +42,9 @@ returns-in-Some-clause-again c = λ left.
     let sound = c.lists.ensures.sound in
     let page = document_of (page_of (left_below policy left.0 left.1)) in
     let read = found_is c.in_ok-document.field-0 c.in-Some.document page c.in-Some.is (c.in_ok-document.ensures (left_below policy left.0 left.1) (page_read policy sound c.args.source.now left)) in
-    let four : c.unwrap_or-body.result ≡ 4 = c.unwrap_or-body.ensures ∙ id_is c.new.result c.root.result c.new.ensures in
+    let five : c.unwrap_or-body.result ≡ 5 = c.unwrap_or-body.ensures ∙ id_is c.new.result c.root.result c.new.ensures in
     IfOk-weaker c.clean_node.result _ _
-    (λ text is. is ∙ ap (λ n. text_of (cleaned_below policy c.in-Some.document.tree n)) four ∙ ap (λ (forest : Forest). text_of (cleaned_below policy forest 4)) read ∙ text_stays policy sound c.args.source.now left)
+    (λ text is. is ∙ ap (λ n. text_of (cleaned_below policy c.in-Some.document.tree n)) five ∙ ap (λ (forest : Forest). text_of (cleaned_below policy forest 5)) read ∙ text_stays policy sound c.args.source.now left)
     c.clean_node.ensures.text
 
 pub returns-in-None-clause-calm : goal.returns-in-None-clause-calm
