@@ -8,3 +8,5 @@ mod Ways
 mod PoppingLemmas
 mod PlacingLemmas
 mod Carrying
+mod FormattingLemmas
+mod NameLemmas

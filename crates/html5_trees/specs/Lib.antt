@@ -5,3 +5,9 @@ pub mod Elements
 pub mod Placing
 pub mod Popping
 pub mod Sets
+pub mod Groups
+pub mod Foreign
+pub mod Quirks
+pub mod Modes
+pub mod Formatting
+pub mod Names

@@ -1,5 +1,5 @@
 -- The appropriate place for inserting a node (13.2.6.1). The lists of open elements go from the current node outwards.
-use Rattle.std.specs.Prelude.{ℕ, Bool, true, false, ◌&&◌, List, [], ◌∷◌, Some, None, if◌then◌else◌}
+use Rattle.std.specs.Prelude.{ℕ, Bool, true, false, ◌==◌, ◌&&◌, List, [], ◌∷◌, Some, None, length, nat_le, reverse, if◌then◌else◌}
 use Rattle.std.specs.Option.{unwrap_or}
 use Rattle.dom_links.specs.Forest.{Forest, parent}
 use Rattle.dom_links.specs.Sound.{contents_at}
@@ -8,8 +8,10 @@ use Rattle.dom_links.specs.declared.gap.InsertionPoint.TheVariants.{Before, EndO
 use Rattle.html5_trees.specs.Sets.{is_in_html}
 use Rattle.html5_trees.specs.declared.growing.placing.Place.{Place}
 use Rattle.html5_trees.specs.declared.growing.placing.Place.TheVariants.{EndOf, Table}
+use Rattle.html5_trees.specs.declared.growing.placing.Placing.{Placing}
 use Rattle.html5_trees.specs.declared.name.Name.{Name}
 use Rattle.html5_trees.specs.declared.name.Name.TheVariants.{Table as ATable, Tbody, Template, Tfoot, Thead, Tr}
+use Rattle.html5_trees.specs.declared.stack.ElementNamespace.{ElementNamespace}
 use Rattle.html5_trees.specs.declared.stack.Open.{Open}
 
 abbrev pub names_template : Name → Bool
@@ -34,6 +36,9 @@ is_a_template o = is_in_html o.ns && names_template o.name
 
 abbrev pub is_a_table : Open → Bool
 is_a_table o = is_in_html o.ns && names_table o.name
+
+abbrev pub is_template_named : ElementNamespace → Name → Bool
+is_template_named ns name = is_in_html ns && names_template name
 
 -- whether foster parenting applies to what is inserted into the element
 abbrev pub fosters : Open → Bool
@@ -63,3 +68,24 @@ place_of forest foster (o ∷ others) = if foster && fosters o then foster_place
 abbrev pub point_of : Forest → Place → InsertionPoint
 point_of forest (EndOf n) = TheEndOf n
 point_of forest (Table table other) = elim (parent forest table) [ Some _ ↦ Before table | None ↦ TheEndOf (inner forest other) ]
+
+-- ---- a limit on depth
+
+-- the end of the node's parent; of the node itself, if it has none
+abbrev pub place_above : Forest → ℕ → Place
+place_above forest n = EndOf (unwrap_or (parent forest n) n)
+
+abbrev pub place_outside : Forest → Place → Place
+place_outside forest (EndOf n) = place_above forest n
+place_outside forest place = place
+
+-- The place of a node in the current node. If as many elements are open as may be nested, it is in the parent instead.
+abbrev pub place_within : Forest → Placing → List Open → Place
+place_within forest placing elements =
+    if nat_le placing.max_depth (length elements) then place_outside forest (place_of forest placing.foster (reverse elements))
+    else place_of forest placing.foster (reverse elements)
+
+-- the end of the root's children
+abbrev pub is_at_top : InsertionPoint → Bool
+is_at_top (TheEndOf n) = n == 0
+is_at_top _ = false

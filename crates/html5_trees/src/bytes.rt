@@ -1,7 +1,7 @@
 //! Pages that come as bytes, in pieces.
 
-ghost use Rattle.std.specs.Prelude.{◌≡◌, ◌≤◌, drop, length, take};
-ghost use Rattle.html5_trees.specs.Framed.{IsFramed, byte_order_mark};
+ghost use Rattle.std.specs.Prelude.{◌≡◌, ◌≤◌, ◌++◌, [], OnOk, drop, false, length, take, true};
+ghost use Rattle.html5_trees.specs.Framed.{IsFramed, byte_order_mark, utf8_length};
 
 use crate::fault::PageFault;
 use crate::reading::PageReader;
@@ -18,7 +18,10 @@ pub(crate) struct PendingBytes {
 
 impl PendingBytes {
     /// Returns the state before the first piece.
-    pub(crate) fn new(alloc: Global) -> PendingBytes {
+    pub(crate) fn new(alloc: Global) -> PendingBytes
+        ensures bytes { result.bytes.items ≡ [] }
+        ensures begun { result.is_begun ≡ false }
+    {
         PendingBytes {
             bytes: Vec::new(alloc),
             is_begun: false,
@@ -26,18 +29,34 @@ impl PendingBytes {
     }
 
     /// Appends bytes to the pending ones.
-    fn wait(&mut self, bytes: &[u8]) -> Result<(), PageFault> {
+    fn wait(&mut self, bytes: &[u8]) -> Result<(), PageFault>
+        ensures bytes { let old = self.old.bytes.items in
+            OnOk result (self.new.bytes.items ≡ old ++ bytes.now) }
+        ensures begun { self.new.is_begun ≡ self.old.is_begun }
+    {
         self.bytes.extend_from_slice(bytes)?;
         Ok(())
     }
 
     /// Takes the pending bytes.
-    fn take(&mut self, alloc: Global) -> Vec<u8> {
+    fn take(&mut self, alloc: Global) -> Vec<u8>
+        ensures bytes { result.items ≡ self.old.bytes.items }
+        ensures emptied { self.new.bytes.items ≡ [] }
+        ensures begun { self.new.is_begun ≡ self.old.is_begun }
+    {
         mem::replace(&mut self.bytes, Vec::new(alloc))
     }
 
     /// Removes a byte order mark, if these are the first bytes.
-    fn without_mark<'b>(&mut self, bytes: &'b [u8]) -> &'b [u8] {
+    fn without_mark<'b>(&mut self, bytes: &'b [u8]) -> &'b [u8]
+        ensures marked { let marked = take 3 bytes.now ≡ byte_order_mark in
+            self.old.is_begun ≡ false → marked → result.now ≡ drop 3 bytes.now }
+        ensures other { let marked = take 3 bytes.now ≡ byte_order_mark in
+            (marked → ⊥) → result.now ≡ bytes.now }
+        ensures later { self.old.is_begun ≡ true → result.now ≡ bytes.now }
+        ensures begun { self.old.is_begun ≡ true → self.new.is_begun ≡ true }
+        ensures bytes { self.new.bytes ≡ self.old.bytes }
+    {
         if self.is_begun || bytes.is_empty() {
             return bytes;
         }
@@ -60,7 +79,9 @@ pub fn without_mark(bytes: &[u8]) -> &[u8]
 }
 
 /// Returns how many bytes a UTF-8 character has that starts with this byte.
-fn char_len(first: u8) -> usize {
+fn char_len(first: u8) -> usize
+    ensures { result ≡ utf8_length first }
+{
     match first {
         0xc2..=0xdf => 2,
         0xe0..=0xef => 3,

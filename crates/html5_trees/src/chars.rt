@@ -1,10 +1,12 @@
 //! Character tokens, which come as runs.
 
+ghost use Rattle.std.specs.Prelude.{◌≡◌};
+ghost use Rattle.html5_trees.specs.Modes.{drops_letters, holds_table_text, joins_spaces};
+
 use crate::builder::{Mode, Next, TreeBuilder};
 use crate::fault::PageFault;
-use crate::growing::is_foster_target;
+use crate::growing::{is_foster_target, is_template};
 use crate::modes::Token;
-use crate::name::Name;
 use crate::stack::Open;
 use std::mem;
 use std::simd::prelude::*;
@@ -53,7 +55,9 @@ pub enum Run {
 }
 
 /// Returns whether in this mode whitespace is inserted like the letters after it.
-fn joins_spaces(mode: Mode) -> bool {
+fn joins_spaces(mode: Mode) -> bool
+    ensures { result ≡ joins_spaces mode }
+{
     matches!(
         mode,
         Mode::InBody | Mode::InCaption | Mode::InCell | Mode::InTemplate
@@ -61,7 +65,9 @@ fn joins_spaces(mode: Mode) -> bool {
 }
 
 /// Returns whether this mode may ignore letters but keep the whitespace between them.
-fn drops_letters(mode: Mode) -> bool {
+fn drops_letters(mode: Mode) -> bool
+    ensures { result ≡ drops_letters mode }
+{
     matches!(
         mode,
         Mode::InColumnGroup | Mode::InFrameset | Mode::AfterFrameset | Mode::AfterAfterFrameset
@@ -69,8 +75,10 @@ fn drops_letters(mode: Mode) -> bool {
 }
 
 /// Returns whether characters in that element are pending table character tokens.
-fn holds_table_text(open: &Open) -> bool {
-    open.is_html(Name::Template) || is_foster_target(open)
+fn holds_table_text(element: &Open) -> bool
+    ensures { result ≡ holds_table_text element.now }
+{
+    is_template(element) || is_foster_target(element)
 }
 
 impl TreeBuilder {

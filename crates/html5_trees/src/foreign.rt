@@ -1,6 +1,8 @@
 //! Foreign content: SVG and MathML (13.2.6.5).
 
-ghost use Rattle.std.specs.Prelude.{◌≡◌};
+ghost use Rattle.std.specs.Prelude.{◌≡◌, ◌&&◌};
+ghost use Rattle.html5_trees.specs.Foreign.{ends_foreign, is_foreign_to, is_glyph_name};
+ghost use Rattle.html5_trees.specs.Foreign.{names_annotation, names_svg, takes_start};
 ghost use Rattle.html5_trees.specs.Sets.{has_foreign_content, is_a_text_point, is_an_html_point};
 
 use crate::attributes::value_of;
@@ -48,28 +50,79 @@ impl Open {
     }
 }
 
+/// Returns whether a tag is processed by the rules for foreign content, where that element is the
+/// adjusted current node (13.2.6).
+fn is_foreign_to(element: &Open, kind: TagKind, name: Name) -> bool
+    ensures { result ≡ is_foreign_to element.now kind name }
+{
+    if element.ns == ElementNamespace::Html {
+        return false;
+    }
+    match kind {
+        TagKind::End => true,
+        TagKind::Start => !takes_start(element, name),
+    }
+}
+
+/// Returns whether a start tag is processed by the rules for HTML content, where that element of
+/// SVG or MathML is the adjusted current node.
+fn takes_start(element: &Open, name: Name) -> bool
+    ensures { result ≡ takes_start element.now name }
+{
+    if element.is_text_point() && !is_glyph(name) {
+        return true;
+    }
+    if element.ns == ElementNamespace::MathMl && takes_svg(element.name, name) {
+        return true;
+    }
+    element.is_html_point()
+}
+
+/// Returns whether the name is of one of the start tags that stay MathML in a text integration
+/// point.
+fn is_glyph(name: Name) -> bool
+    ensures { result ≡ is_glyph_name name }
+{
+    matches!(name, Name::Mglyph | Name::Malignmark)
+}
+
+/// Returns whether these are the names of an `annotation-xml` and of an `svg` in it.
+fn takes_svg(outer: Name, name: Name) -> bool
+    ensures { result ≡ (names_annotation outer && names_svg name) }
+{
+    if !matches!(outer, Name::AnnotationXml) {
+        return false;
+    }
+    matches!(name, Name::Svg)
+}
+
+/// Returns whether a start tag ends foreign content: it has one of certain names, or it is a `font`
+/// with an attribute `color`, `face` or `size`.
+fn ends_foreign(name: Name, tag: &Tag) -> bool
+    ensures { result ≡ ends_foreign name tag.now.attrs.items }
+{
+    if breaks_out(name) {
+        return true;
+    }
+    if !matches!(name, Name::Font) {
+        return false;
+    }
+    if value_of(tag, "color").is_some() {
+        return true;
+    }
+    if value_of(tag, "face").is_some() {
+        return true;
+    }
+    value_of(tag, "size").is_some()
+}
+
 impl TreeBuilder {
     /// Returns whether a tag is processed by the rules for foreign content.
     pub fn is_tag_foreign(&self, kind: TagKind, name: Name) -> bool {
-        let Some(open) = self.tree.adjusted_current() else {
-            return false;
-        };
-        if open.ns == ElementNamespace::Html {
-            return false;
+        match self.tree.adjusted_current() {
+            Some(open) => is_foreign_to(&open, kind, name),
+            None => false,
         }
-        if kind == TagKind::End {
-            return true;
-        }
-        if open.is_text_point() && !matches!(name, Name::Mglyph | Name::Malignmark) {
-            return false;
-        }
-        if open.ns == ElementNamespace::MathMl
-            && open.name == Name::AnnotationXml
-            && name == Name::Svg
-        {
-            return false;
-        }
-        !open.is_html_point()
     }
 
     /// Returns whether the adjusted current node is an SVG or MathML element. A comment is then
@@ -89,12 +142,7 @@ impl TreeBuilder {
     }
 
     fn foreign_start(&mut self, name: Name, tag: &Tag) -> Next {
-        let breaks = breaks_out(name)
-            || (name == Name::Font
-                && (value_of(tag, "color").is_some()
-                    || value_of(tag, "face").is_some()
-                    || value_of(tag, "size").is_some()));
-        if breaks {
+        if ends_foreign(name, tag) {
             self.tree.pop_foreign();
             return self.html_tag(name, tag);
         }

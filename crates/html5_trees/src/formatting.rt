@@ -1,8 +1,16 @@
 //! The list of active formatting elements (13.2.4.3).
 
 ghost use Rattle.std.specs.Prelude.{◌≡◌, [], ◌∷◌, ◌++◌, Contains, IfNone, IfSome, OnErr, OnOk};
+ghost use Rattle.std.specs.Prelude.{MatchOption, length, true, false};
 ghost use Rattle.std.specs.Prelude.{insert, remove, slice_get, slice_set};
+ghost use Rattle.std.specs.List.{list_all};
+ghost use Rattle.std.specs.Option.{option_and_then, option_copied, option_map, option_map_or};
 ghost use Rattle.std.specs.Option.{option_to_list};
+ghost use Rattle.dom_trees.specs.Views.{node_element};
+ghost use Rattle.html5_trees.specs.Formatting.{IsFirst, IsNamed, IsWithout, NoneHas, after_marker};
+ghost use Rattle.html5_trees.specs.Formatting.{are_alike, element_in, has_attr, is_of};
+ghost use Rattle.html5_trees.specs.Formatting.{last_place, same_attr, same_element, third_alike};
+ghost use Rattle.html5_trees.specs.Formatting.{with_room};
 ghost use Rattle.html5_trees.specs.Popping.{before_last, is_a_marker};
 ghost use Rattle.html5_trees.specs.declared.formatting.Entry.TheVariants.{Element as AnEntry};
 
@@ -14,6 +22,7 @@ use crate::stack::Open;
 use dom_nodes::name::Attr;
 use dom_nodes::node_data::Element;
 use dom_nodes::node_id::NodeId;
+use dom_trees::node_ref::NodeRef;
 use dom_trees::tree::Tree;
 use index::FormattingIndex;
 use std::alloc::Global;
@@ -38,6 +47,26 @@ impl Entry {
             Entry::Element(_) => false,
         }
     }
+
+    /// Returns whether the entry is of the element with that id.
+    fn is_of(&self, id: NodeId) -> bool
+        ensures { result ≡ is_of id self.now }
+    {
+        match self {
+            Entry::Marker => false,
+            Entry::Element(open) => open.id == id,
+        }
+    }
+
+    /// Returns the element of an entry that is no marker.
+    fn element(&self) -> Option<Open>
+        ensures { result ≡ element_in self.now }
+    {
+        match self {
+            Entry::Marker => None,
+            Entry::Element(open) => Some(*open),
+        }
+    }
 }
 
 /// The list of active formatting elements, the oldest first.
@@ -48,39 +77,126 @@ pub struct ActiveFormatting {
     index: Option<FormattingIndex>,
 }
 
-fn has_attr(element: &Element, attr: &Attr) -> bool {
-    for also in element.attrs().as_slice() {
-        if attr.name.is_same(&also.name) && attr.value.as_str() == also.value.as_str() {
+/// Returns whether the element has an attribute with that name and value.
+fn has_attr(element: &Element, attr: &Attr) -> bool
+    ensures { result ≡ has_attr element.now.attrs attr.now }
+{
+    let mut rest = element.attrs().as_slice();
+    while let Some((also, others)) = rest.split_first() {
+        if is_same_attr(attr, also) {
             return true;
         }
+        rest = others;
     }
     false
 }
 
-/// Returns whether two elements have the same name and the same attributes, in any order.
-fn is_same_element(one: &Element, other: &Element) -> bool {
+fn is_same_attr(one: &Attr, other: &Attr) -> bool
+    ensures { result ≡ same_attr one.now other.now }
+{
+    if !one.name.is_same(&other.name) {
+        return false;
+    }
+    one.value.as_str() == other.value.as_str()
+}
+
+/// Returns whether each attribute of an element is one of the other, too.
+fn has_attrs(one: &Element, other: &Element) -> bool
+    ensures { result ≡ list_all (has_attr other.now.attrs) one.now.attrs }
+{
+    let mut rest = one.attrs().as_slice();
+    while let Some((attr, others)) = rest.split_first() {
+        if !has_attr(other, attr) {
+            return false;
+        }
+        rest = others;
+    }
+    true
+}
+
+/// Returns whether two elements have the same name and the same attributes, in any order. No two
+/// attributes of an element have the same name.
+fn is_same_element(one: &Element, other: &Element) -> bool
+    ensures { result ≡ same_element one.now other.now }
+{
     if !one.name().is_same(&other.name()) {
         return false;
     }
     if one.attrs().as_slice().len() != other.attrs().as_slice().len() {
         return false;
     }
-    for attr in one.attrs().as_slice() {
-        if !has_attr(other, attr) {
-            return false;
-        }
-    }
-    true
+    has_attrs(one, other)
 }
 
-fn are_same(tree: &Tree, one: NodeId, other: NodeId) -> bool {
-    let (Some(one), Some(other)) = (tree.tree_node(&one), tree.tree_node(&other)) else {
-        return false;
-    };
-    match (one.content.as_element(), other.content.as_element()) {
+/// Returns the element with that id.
+fn element_of(tree: &Tree, id: NodeId) -> Option<&Element>
+    ensures { option_copied result ≡ node_element tree.now id }
+{
+    NodeRef::new(id, tree).element_ref()
+}
+
+/// Returns whether two ids are of elements with the same name and the same attributes.
+fn are_same(tree: &Tree, one: NodeId, other: NodeId) -> bool
+    ensures { result ≡ are_alike tree.now one other }
+{
+    match (element_of(tree, one), element_of(tree, other)) {
         (Some(one), Some(other)) => is_same_element(one, other),
         _ => false,
     }
+}
+
+/// Returns the last element with that name after the last marker, by a walk over the entries.
+fn last_named(entries: &[Entry], name: Name) -> Option<Open>
+    ensures { let elements = after_marker entries.now in
+        MatchOption result (NoneHas (IsNamed name) elements) (IsFirst (IsNamed name) elements) }
+{
+    let mut rest = entries;
+    while let Some((entry, before)) = rest.split_last() {
+        let Entry::Element(open) = entry else {
+            return None;
+        };
+        if open.name == name {
+            return Some(*open);
+        }
+        rest = before;
+    }
+    None
+}
+
+/// Returns the index of an element's last entry, by a walk over the entries.
+fn last_entry_of(entries: &[Entry], id: NodeId) -> Option<usize>
+    ensures { result ≡ last_place (is_of id) entries.now }
+{
+    let mut rest = entries;
+    while let Some((entry, before)) = rest.split_last() {
+        if entry.is_of(id) {
+            return Some(before.len());
+        }
+        rest = before;
+    }
+    None
+}
+
+/// Returns the index of the third entry, from the end and after the last marker, whose element is
+/// like that one, by a walk over the entries.
+fn third_like(entries: &[Entry], tree: &Tree, id: NodeId) -> Option<usize>
+    ensures { result ≡ third_alike tree.now id entries.now }
+{
+    let mut more: usize = 2;
+    let mut rest = entries;
+    while let Some((entry, before)) = rest.split_last() {
+        let Entry::Element(other) = entry else {
+            return None;
+        };
+        if are_same(tree, other.id, id) {
+            let Some(fewer) = more.checked_sub(1) else {
+                return Some(before.len());
+            };
+            more = fewer;
+        }
+        rest = before;
+    }
+    None
 }
 
 impl ActiveFormatting {
@@ -93,7 +209,9 @@ impl ActiveFormatting {
         }
     }
 
-    pub fn len(&self) -> usize {
+    pub fn len(&self) -> usize
+        ensures { result ≡ length self.now.entries.items }
+    {
         self.entries.len()
     }
 
@@ -176,24 +294,30 @@ impl ActiveFormatting {
     }
 
     /// Returns the index of the third entry, from the end and after the last marker, with the same
-    /// name and attributes (the Noah's Ark clause).
-    pub fn third_same(&self, tree: &Tree, open: &Open, likeness: u32) -> Option<usize> {
-        if let Some(index) = &self.index {
-            return index.third_alike(likeness);
+    /// name and attributes (the Noah's Ark clause). `likeness` is that of the element. The index of
+    /// a long list answers by the likeness alone; the contract says nothing of that answer.
+    pub fn third_same(&self, tree: &Tree, id: NodeId, likeness: u32) -> Option<usize>
+        ensures { let entries = self.now.entries.items in
+            self.now.index ≡ None → result ≡ third_alike tree.now id entries }
+    {
+        match &self.index {
+            Some(index) => index.third_alike(likeness),
+            None => third_like(self.entries.as_slice(), tree, id),
         }
-        let mut same: usize = 0;
-        for index in (0..self.entries.len()).rev() {
-            let Some(Entry::Element(other)) = self.get(index) else {
-                return None;
-            };
-            if open.name == other.name && are_same(tree, other.id, open.id) {
-                same = same.saturating_add(1);
-                if same == 3 {
-                    return Some(index);
-                }
-            }
+    }
+
+    /// Makes room for an element that is to be added: if three elements after the last marker have
+    /// its name and attributes, the earliest is removed (the Noah's Ark clause). At most one entry
+    /// is removed; the contract says which one for a list without an index.
+    pub fn make_room(&mut self, tree: &Tree, id: NodeId, likeness: u32)
+        ensures ark { let old = self.old.entries.items in
+            self.old.index ≡ None → self.new.entries.items ≡ with_room tree.now id old }
+        ensures one { let old = self.old.entries.items in
+            IsWithout old self.new.entries.items }
+    {
+        if let Some(place) = self.third_same(tree, id, likeness) {
+            self.remove_at(place);
         }
-        None
     }
 
     /// Removes the last entry and returns it.
@@ -267,41 +391,58 @@ impl ActiveFormatting {
         }
     }
 
-    /// Returns the index of an element's entry.
-    pub fn index_of(&self, id: NodeId) -> Option<usize> {
-        if let Some(index) = &self.index {
-            return index.position_of(id);
+    /// Returns the index of an element's entry: the last one, if it had several. The index of a
+    /// long list proposes an entry, which is looked at; that it finds one isn't stated.
+    pub fn index_of(&self, id: NodeId) -> Option<usize>
+        ensures found { let entries = self.now.entries.items in
+            IfSome result (λ place. option_map (is_of id) (slice_get entries place) ≡ Some true) }
+        ensures value { let entries = self.now.entries.items in
+            self.now.index ≡ None → result ≡ last_place (is_of id) entries }
+    {
+        let Some(index) = &self.index else {
+            return last_entry_of(self.entries.as_slice(), id);
+        };
+        let place = index.position_of(id)?;
+        if self.is_entry_of(place, id) {
+            Some(place)
+        } else {
+            None
         }
-        for index in (0..self.entries.len()).rev() {
-            if let Some(Entry::Element(open)) = self.get(index)
-                && open.id == id
-            {
-                return Some(index);
-            }
-        }
-        None
     }
 
-    /// Returns the last element with that name after the last marker.
-    pub fn named(&self, name: Name) -> Option<Open> {
-        if let Some(index) = &self.index {
-            return self.element_at(index.last_named(name)?);
+    /// Returns whether the entry at an index is of the element with that id.
+    fn is_entry_of(&self, place: usize, id: NodeId) -> bool
+        ensures { let entries = self.now.entries.items in
+            result ≡ option_map_or (is_of id) (slice_get entries place) false }
+    {
+        match self.entries.get(place) {
+            Some(entry) => entry.is_of(id),
+            None => false,
         }
-        for index in (0..self.entries.len()).rev() {
-            let Some(Entry::Element(open)) = self.get(index) else {
-                return None;
-            };
-            if open.name == name {
-                return Some(open);
-            }
-        }
-        None
     }
 
-    fn element_at(&self, index: usize) -> Option<Open> {
-        match self.get(index)? {
-            Entry::Element(open) => Some(open),
-            Entry::Marker => None,
-        }
+    /// Returns the last element with that name after the last marker. The index of a long list
+    /// proposes an entry, whose name is compared; for such a list the contract says only that the
+    /// element is in the list and has the name.
+    pub fn named(&self, name: Name) -> Option<Open>
+        ensures found { IfSome result (IsNamed name) }
+        ensures held { let entries = self.now.entries.items in
+            IfSome result (λ o. Contains entries (AnEntry o)) }
+        ensures value { let elements = after_marker self.now.entries.items in
+            self.now.index ≡ None →
+            MatchOption result (NoneHas (IsNamed name) elements) (IsFirst (IsNamed name) elements) }
+    {
+        let Some(index) = &self.index else {
+            return last_named(self.entries.as_slice(), name);
+        };
+        let open = self.element_at(index.last_named(name)?)?;
+        if open.name == name { Some(open) } else { None }
+    }
+
+    /// Returns the element of the entry at an index, if it is no marker.
+    fn element_at(&self, index: usize) -> Option<Open>
+        ensures { result ≡ option_and_then element_in (slice_get self.now.entries.items index) }
+    {
+        self.get(index)?.element()
     }
 }

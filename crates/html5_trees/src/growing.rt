@@ -5,7 +5,10 @@
 ghost use Rattle.std.specs.Prelude.{◌≡◌, IfOk};
 ghost use Rattle.dom_links.specs.Growth.{lone};
 ghost use Rattle.dom_links.specs.Sound.{IsOpenGap};
+ghost use Rattle.dom_nodes.specs.declared.node_data.NodeData.TheVariants.{Document as TheDocument};
+ghost use Rattle.dom_nodes.specs.declared.node_data.NodeData.TheVariants.{Fragment as TheFragment};
 ghost use Rattle.html5_trees.specs.Elements.{IsRooted};
+ghost use Rattle.html5_trees.specs.Placing.{is_at_top};
 
 mod adopting;
 mod edits;
@@ -27,7 +30,7 @@ use edits::{cut_out, put_comment, put_copy, put_doctype, put_element, put_text};
 use html5_tokens::token::Tag;
 use late::LateTags;
 use placing::gap;
-pub use placing::{Placing, is_foster_target};
+pub use placing::{Placing, is_foster_target, is_template};
 pub use popping::ForeignEnd;
 use std::alloc::Global;
 use std::marker::Model;
@@ -71,12 +74,16 @@ impl Model for GrowingTree {
 
 impl GrowingTree {
     /// Returns an empty page. Fails only when memory runs out.
-    pub fn page(alloc: Global) -> Result<GrowingTree, PageFault> {
+    pub fn page(alloc: Global) -> Result<GrowingTree, PageFault>
+        ensures { IfOk result (λ made. made ≡ lone TheDocument) }
+    {
         Ok(GrowingTree::over(alloc, lone(alloc, NodeData::Document)?))
     }
 
     /// Returns an empty fragment. Fails only when memory runs out.
-    pub fn fragment(alloc: Global) -> Result<GrowingTree, PageFault> {
+    pub fn fragment(alloc: Global) -> Result<GrowingTree, PageFault>
+        ensures { IfOk result (λ made. made ≡ lone TheFragment) }
+    {
         Ok(GrowingTree::over(alloc, lone(alloc, NodeData::Fragment)?))
     }
 
@@ -336,7 +343,9 @@ fn lone(alloc: Global, content: NodeData) -> Result<Tree, PageFault>
 }
 
 /// Returns whether an insertion point is at the end of the root's children.
-fn is_at_top(gap: &InsertionPoint) -> bool {
+fn is_at_top(gap: &InsertionPoint) -> bool
+    ensures { result ≡ is_at_top gap.now }
+{
     match gap {
         InsertionPoint::EndOf(parent) => *parent == NodeId::root(),
         _ => false,

@@ -1,5 +1,9 @@
 //! The insertion modes: which rules process a token (13.2.6.4).
 
+ghost use Rattle.std.specs.Prelude.{◌≡◌, [], string_bytes};
+ghost use Rattle.std.specs.Option.{option_map_or};
+ghost use Rattle.html5_trees.specs.Modes.{is_start_kind, next_of};
+
 mod after;
 mod body;
 mod body_ends;
@@ -177,7 +181,10 @@ impl TreeBuilder {
     }
 }
 
-fn text_of(text: &Option<String>) -> &str {
+/// Returns the text, which is empty if there is none.
+fn text_of(text: &Option<String>) -> &str
+    ensures { result.now ≡ option_map_or string_bytes text.now [] }
+{
     match text {
         Some(text) => text.as_str(),
         None => "",
@@ -185,10 +192,15 @@ fn text_of(text: &Option<String>) -> &str {
 }
 
 /// Returns that the token is to be reprocessed, or is done.
-fn next_if(again: bool) -> Next {
+fn next_if(again: bool) -> Next
+    ensures { result ≡ next_of again }
+{
     if again { Next::Again } else { Next::Done }
 }
 
-pub fn is_start(tag: &Tag) -> bool {
+/// Returns whether the tag is a start tag.
+pub fn is_start(tag: &Tag) -> bool
+    ensures { result ≡ is_start_kind tag.now.kind }
+{
     tag.kind == TagKind::Start
 }

@@ -1,5 +1,9 @@
 //! The element names that the rules of tree construction mention.
 
+ghost use Rattle.std.specs.Prelude.{◌≡◌};
+ghost use Rattle.html5_trees.specs.Names.{name_of, rare_rows, row_for, rows_of};
+ghost use Rattle.html5_trees.specs.declared.name.Name.TheVariants.{Other as NoName};
+
 use crate::element_kinds::ElementCategory;
 use dom_nodes::name::LocalRef;
 
@@ -225,7 +229,9 @@ static RARE: [(&str, Name); 15] = [
 
 impl Name {
     /// Returns the name for a local name in lower case.
-    pub fn of(local: &LocalRef<'_>) -> Name {
+    pub fn of(local: &LocalRef<'_>) -> Name
+        ensures { result ≡ name_of local.now }
+    {
         match local.number() {
             Some(number) => KNOWN[number as usize].0,
             None => Name::rare(local.as_str()),
@@ -233,8 +239,18 @@ impl Name {
     }
 
     /// Returns the name for a local name that isn't in the table of known names.
-    fn rare(written: &str) -> Name {
-        for (known, name) in &RARE {
+    #[tactic(auto, unfolding(crate::specs::Names::rare_rows))]
+    fn rare(written: &str) -> Name
+        ensures { result ≡ row_for rare_rows NoName written.now }
+    {
+        Name::in_rows(&RARE, written)
+    }
+
+    /// Returns the name in the first row with that text.
+    fn in_rows(rows: &[(&str, Name)], written: &str) -> Name
+        ensures { result ≡ row_for (rows_of rows.now) NoName written.now }
+    {
+        for (known, name) in rows {
             if *known == written {
                 return *name;
             }

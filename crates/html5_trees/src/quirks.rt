@@ -1,5 +1,12 @@
 //! The quirks mode of a doctype (13.2.6.4.1).
 
+ghost use Rattle.std.specs.Prelude.{◌≡◌, map};
+ghost use Rattle.html5_trees.specs.Quirks.{begins, begins_any, is_any, is_html_4, is_html_name};
+ghost use Rattle.html5_trees.specs.Quirks.{is_limited, is_quirky, is_quirky_public};
+ghost use Rattle.html5_trees.specs.Quirks.{is_quirky_system, is_xhtml, passes, quirks_mode_of};
+ghost use Rattle.html5_trees.specs.Quirks.{quirky_fronts, quirky_names};
+
+use crate::adjusting::is_same_folded;
 use dom_trees::quirks::QuirksMode;
 use html5_tokens::token::Doctype;
 
@@ -86,14 +93,18 @@ static QUIRKY: [&str; 55] = [
 ];
 
 /// Returns whether the text starts with the other one, in upper or lower case.
-fn begins(text: &str, front: &str) -> bool {
+fn begins(text: &str, front: &str) -> bool
+    ensures { result ≡ begins text.now front.now }
+{
     match text.as_bytes().get(..front.len()) {
         Some(bytes) => bytes.eq_ignore_ascii_case(front.as_bytes()),
         None => false,
     }
 }
 
-fn begins_any(text: &str, fronts: &[&str]) -> bool {
+fn begins_any(text: &str, fronts: &[&str]) -> bool
+    ensures { result ≡ begins_any text.now (map (λ front. front.now) fronts.now) }
+{
     for front in fronts {
         if begins(text, front) {
             return true;
@@ -102,53 +113,123 @@ fn begins_any(text: &str, fronts: &[&str]) -> bool {
     false
 }
 
-fn is_any(text: &str, others: &[&str]) -> bool {
+fn is_any(text: &str, others: &[&str]) -> bool
+    ensures { result ≡ is_any text.now (map (λ other. other.now) others.now) }
+{
     for other in others {
-        if text.eq_ignore_ascii_case(other) {
+        if is_same_folded(text, other) {
             return true;
         }
     }
     false
 }
 
+#[tactic(auto, unfolding(crate::specs::Quirks::quirky_names))]
+fn is_quirky_name(id: &str) -> bool
+    ensures { result ≡ is_any id.now quirky_names }
+{
+    is_any(id, &QUIRKY_NAMES)
+}
+
+#[tactic(auto, unfolding(crate::specs::Quirks::quirky_fronts))]
+fn has_quirky_front(id: &str) -> bool
+    ensures { result ≡ begins_any id.now quirky_fronts }
+{
+    begins_any(id, &QUIRKY)
+}
+
+/// Returns whether this public identifier is one of quirks mode, with or without a system
+/// identifier.
+fn is_quirky_public(public: &Option<String>) -> bool
+    ensures { result ≡ passes is_quirky_public public.now }
+{
+    match public {
+        Some(id) => is_quirky_name(id.as_str()) || has_quirky_front(id.as_str()),
+        None => false,
+    }
+}
+
+/// Returns whether this public identifier is one of HTML 4: limited quirks mode with a system
+/// identifier, quirks mode without.
+#[tactic(auto, unfolding(crate::specs::Quirks::html_4_fronts))]
+fn is_html_4(public: &Option<String>) -> bool
+    ensures { result ≡ passes is_html_4 public.now }
+{
+    match public {
+        Some(id) => begins_any(id.as_str(), &HTML_4),
+        None => false,
+    }
+}
+
+/// Returns whether this public identifier is one of limited quirks mode.
+#[tactic(auto, unfolding(crate::specs::Quirks::xhtml_fronts))]
+fn is_xhtml(public: &Option<String>) -> bool
+    ensures { result ≡ passes is_xhtml public.now }
+{
+    match public {
+        Some(id) => begins_any(id.as_str(), &XHTML),
+        None => false,
+    }
+}
+
+/// Returns whether this system identifier is the one of quirks mode.
+fn is_quirky_system(system: &Option<String>) -> bool
+    ensures { result ≡ passes is_quirky_system system.now }
+{
+    match system {
+        Some(id) => id.as_str().eq_ignore_ascii_case(QUIRKY_SYSTEM),
+        None => false,
+    }
+}
+
+fn is_html(name: &Option<String>) -> bool
+    ensures { result ≡ passes is_html_name name.now }
+{
+    match name {
+        Some(name) => name.as_str() == "html",
+        None => false,
+    }
+}
+
+/// Returns whether a document with this doctype is in quirks mode.
+fn is_quirky(doctype: &Doctype) -> bool
+    ensures { result ≡ is_quirky doctype.now }
+{
+    if doctype.force_quirks {
+        return true;
+    }
+    if !is_html(&doctype.name) {
+        return true;
+    }
+    if is_quirky_system(&doctype.system_id) {
+        return true;
+    }
+    if is_quirky_public(&doctype.public_id) {
+        return true;
+    }
+    doctype.system_id.is_none() && is_html_4(&doctype.public_id)
+}
+
+/// Returns whether a document with this doctype is in limited quirks mode, if it isn't in quirks
+/// mode.
+fn is_limited(doctype: &Doctype) -> bool
+    ensures { result ≡ is_limited doctype.now }
+{
+    if is_xhtml(&doctype.public_id) {
+        return true;
+    }
+    doctype.system_id.is_some() && is_html_4(&doctype.public_id)
+}
+
 /// Returns the quirks mode of a document with this doctype.
-pub fn mode_of(doctype: &Doctype) -> QuirksMode {
-    let Some(name) = &doctype.name else {
-        return QuirksMode::Quirks;
-    };
-    if doctype.force_quirks || name.as_str() != "html" {
-        return QuirksMode::Quirks;
-    }
-    if let Some(system) = &doctype.system_id
-        && system.as_str().eq_ignore_ascii_case(QUIRKY_SYSTEM)
-    {
-        return QuirksMode::Quirks;
-    }
-    match &doctype.public_id {
-        Some(public) => mode_of_public(public.as_str(), doctype.system_id.is_some()),
-        None => QuirksMode::NoQuirks,
-    }
-}
-
-/// Returns the mode for a public identifier.
-fn mode_of_public(public: &str, has_system: bool) -> QuirksMode {
-    if is_any(public, &QUIRKY_NAMES) || begins_any(public, &QUIRKY) {
-        return QuirksMode::Quirks;
-    }
-    if begins_any(public, &HTML_4) {
-        return mode_of_html_4(has_system);
-    }
-    if begins_any(public, &XHTML) {
-        return QuirksMode::LimitedQuirks;
-    }
-    QuirksMode::NoQuirks
-}
-
-/// Returns the mode for a public identifier of HTML 4.
-fn mode_of_html_4(has_system: bool) -> QuirksMode {
-    if has_system {
+pub fn mode_of(doctype: &Doctype) -> QuirksMode
+    ensures { result ≡ quirks_mode_of doctype.now }
+{
+    if is_quirky(doctype) {
+        QuirksMode::Quirks
+    } else if is_limited(doctype) {
         QuirksMode::LimitedQuirks
     } else {
-        QuirksMode::Quirks
+        QuirksMode::NoQuirks
     }
 }

@@ -1,6 +1,9 @@
 //! Parsing a page or a fragment, whole or in pieces: tokens go to tree construction. Start at
 //! `PageReader`.
 
+ghost use Rattle.std.specs.Prelude.{◌≡◌};
+ghost use Rattle.html5_trees.specs.Modes.{state_in, state_in_noscript};
+
 use crate::builder::{Mode, TreeBuilder};
 use crate::bytes::PendingBytes;
 use crate::fault::PageFault;
@@ -190,22 +193,40 @@ impl PageReader {
     }
 }
 
+/// Returns the tokenizer's state for the content of an HTML element with that name (13.4).
+fn state_in(name: Name, scripting: bool) -> State
+    ensures { result ≡ state_in name scripting }
+{
+    match name {
+        Name::Title | Name::Textarea => State::Rcdata,
+        Name::Style | Name::Xmp | Name::Iframe | Name::Noembed | Name::Noframes => State::Rawtext,
+        Name::Script => State::Script,
+        Name::Noscript => state_in_noscript(scripting),
+        Name::Plaintext => State::Plaintext,
+        _ => State::Data,
+    }
+}
+
+/// Returns the tokenizer's state for the content of a `noscript`, which is text if scripting is
+/// enabled.
+fn state_in_noscript(scripting: bool) -> State
+    ensures { result ≡ state_in_noscript scripting }
+{
+    if scripting {
+        State::Rawtext
+    } else {
+        State::Data
+    }
+}
+
 impl TreeBuilder {
     /// Returns the tokenizer's state for the content of the context element.
     fn first_state(&self) -> State {
         let Some(context) = self.tree.context() else {
             return State::Data;
         };
-        if context.ns != ElementNamespace::Html {
-            return State::Data;
-        }
-        match context.name {
-            Name::Title | Name::Textarea => State::Rcdata,
-            Name::Style | Name::Xmp | Name::Iframe | Name::Noembed | Name::Noframes =>
-                State::Rawtext,
-            Name::Noscript if self.scripting => State::Rawtext,
-            Name::Script => State::Script,
-            Name::Plaintext => State::Plaintext,
+        match context.ns {
+            ElementNamespace::Html => state_in(context.name, self.scripting),
             _ => State::Data,
         }
     }

@@ -1,6 +1,7 @@
 //! Sets of elements that the standard names: scopes, special elements and so on.
 
 ghost use Rattle.std.specs.Prelude.{◌≡◌};
+ghost use Rattle.html5_trees.specs.Foreign.{ends_foreign_name};
 ghost use Rattle.html5_trees.specs.Sets.{ends_context, ends_scope};
 ghost use Rattle.html5_trees.specs.Sets.{ends_select, is_a_heading, is_crossed};
 ghost use Rattle.html5_trees.specs.Sets.{is_implied, is_special_element, is_special_name_of_html};
@@ -148,17 +149,19 @@ pub fn has_implied_end(element: &Open) -> bool
         )
 }
 
-/// Returns whether a start tag with that name ends foreign content.
+/// Returns whether a start tag with that name ends foreign content, whatever its attributes are.
 #[rattlefmt::skip]
-pub fn breaks_out(name: Name) -> bool {
-    matches!(
-        name,
+pub fn breaks_out(name: Name) -> bool
+    ensures { result ≡ ends_foreign_name name }
+{
+    match name {
         Name::B | Name::Big | Name::Blockquote | Name::Body | Name::Br | Name::Center | Name::Code
         | Name::Dd | Name::Div | Name::Dl | Name::Dt | Name::Em | Name::Embed | Name::H1
-        | Name::H2 | Name::H3 | Name::H4 | Name::H5 | Name::H6 | Name::Head | Name::Hr | Name::I
-        | Name::Img | Name::Li | Name::Listing | Name::Menu | Name::Meta | Name::Nobr | Name::Ol
-        | Name::P | Name::Pre | Name::Ruby | Name::S | Name::Small | Name::Span | Name::Strong
-        | Name::Strike | Name::Sub | Name::Sup | Name::Table | Name::Tt | Name::U | Name::Ul
-        | Name::Var
-    )
+        | Name::H2 | Name::H3 | Name::H4 | Name::H5 | Name::H6 | Name::Head => true,
+        Name::Hr | Name::I | Name::Img | Name::Li | Name::Listing | Name::Menu | Name::Meta
+        | Name::Nobr | Name::Ol | Name::P | Name::Pre | Name::Ruby | Name::S | Name::Small
+        | Name::Span | Name::Strong | Name::Strike | Name::Sub | Name::Sup | Name::Table
+        | Name::Tt | Name::U | Name::Ul | Name::Var => true,
+        _ => false,
+    }
 }

@@ -10,6 +10,9 @@ ghost use Rattle.dom_links.specs.declared.gap.MovedNodes.TheVariants.{Node};
 ghost use Rattle.dom_trees.specs.Edits.{MayMove, MayReparentOf};
 ghost use Rattle.html5_trees.specs.Elements.{Grows, IsAround, IsCopy, IsElement, IsFresh, IsInside};
 ghost use Rattle.html5_trees.specs.Elements.{IsMade, IsNew, IsRooted};
+ghost use Rattle.html5_trees.specs.Foreign.{is_html_annotation};
+ghost use Rattle.html5_trees.specs.Placing.{is_template_named};
+ghost use Rattle.dom_trees.specs.Views.{node_attrs, node_qual_name};
 
 use crate::attributes::{attrs_of, element_name, holds_html};
 use crate::fault::{PageFault, made, settled};
@@ -113,11 +116,24 @@ fn create(
     made(tree.create_element(name, attrs, flags))
 }
 
+fn is_template_named(ns: ElementNamespace, name: Name) -> bool
+    ensures { result ≡ is_template_named ns name }
+{
+    match ns {
+        ElementNamespace::Html => matches!(name, Name::Template),
+        _ => false,
+    }
+}
+
 /// Returns the flags of a tag's element: whether it is a template, or an `annotation-xml` whose
 /// encoding is HTML.
-fn flags_of(ns: ElementNamespace, name: Name, tag: &Tag) -> ElementFlags {
+fn flags_of(ns: ElementNamespace, name: Name, tag: &Tag) -> ElementFlags
+    ensures template { result.template ≡ is_template_named ns name }
+    ensures annotation { let attrs = tag.now.attrs.items in
+        result.mathml_annotation_xml_integration_point ≡ is_html_annotation ns name attrs }
+{
     ElementFlags {
-        template: ns == ElementNamespace::Html && name == Name::Template,
+        template: is_template_named(ns, name),
         mathml_annotation_xml_integration_point: holds_html(ns, name, tag),
     }
 }
@@ -203,6 +219,8 @@ fn append(tree: &mut Tree, parent: NodeId, element: Element) -> Result<NodeId, P
 /// Returns copies of an element's name and attributes.
 fn copied(tree: &Tree, id: NodeId) -> Result<(QualName, Attrs), PageFault>
     requires { IsElement tree.now id }
+    ensures name { IfOk result (λ made. Some made.0 ≡ node_qual_name tree.now id) }
+    ensures attrs { IfOk result (λ made. made.1 ≡ node_attrs tree.now id) }
 {
     let Some(node) = tree.tree_node(&id) else {
         unreachable!();

@@ -1,11 +1,15 @@
 //! Attributes that later tags add to `html` and to `body`.
 
+ghost use Rattle.std.specs.Prelude.{◌≡◌, ◌==◌, [], IfOk, position};
+ghost use Rattle.dom_trees.specs.Views.{node_attrs};
+
 use crate::attributes::attr_of;
 use crate::fault::PageFault;
 use crate::stack::ElementNamespace;
 use dom_nodes::name::Attr;
 use dom_nodes::node_data::{Attrs, Change};
 use dom_nodes::node_id::NodeId;
+use dom_trees::node_ref::NodeRef;
 use dom_trees::tree::Tree;
 use html5_tokens::token::Tag;
 use std::alloc::Global;
@@ -24,7 +28,10 @@ pub struct LateAttrs {
 impl LateAttrs {
     /// Returns the state for an element to which nothing is to be added yet. Fails only when memory
     /// runs out.
-    pub fn new(tree: &Tree, id: NodeId) -> Result<LateAttrs, PageFault> {
+    pub fn new(tree: &Tree, id: NodeId) -> Result<LateAttrs, PageFault>
+        ensures id { IfOk result (λ late. late.id ≡ id) }
+        ensures added { IfOk result (λ late. late.added.items ≡ []) }
+    {
         let alloc = tree.allocator();
         Ok(LateAttrs {
             id,
@@ -34,7 +41,9 @@ impl LateAttrs {
     }
 
     /// Returns whether they are the attributes of the element with that id.
-    pub fn is_of(&self, id: NodeId) -> bool {
+    pub fn is_of(&self, id: NodeId) -> bool
+        ensures { result ≡ (self.now.id == id) }
+    {
         self.id == id
     }
 
@@ -73,7 +82,9 @@ pub struct LateTags {
 
 impl LateTags {
     /// Returns the state in which no element has later tags yet.
-    pub fn new(alloc: Global) -> LateTags {
+    pub fn new(alloc: Global) -> LateTags
+        ensures { result.elements.items ≡ [] }
+    {
         LateTags {
             elements: Vec::new(alloc),
         }
@@ -99,13 +110,13 @@ impl LateTags {
     }
 
     /// Returns where an element is in the list.
-    fn find(&self, id: NodeId) -> Option<usize> {
-        for (place, late) in self.elements.as_slice().iter().enumerate() {
-            if late.is_of(id) {
-                return Some(place);
-            }
-        }
-        None
+    fn find(&self, id: NodeId) -> Option<usize>
+        ensures { result ≡ position (λ late. late.id == id) self.now.elements.items }
+    {
+        self.elements
+            .as_slice()
+            .iter()
+            .position(|late| late.is_of(id))
     }
 
     /// Adds the collected attributes to their elements, after those that the elements have. Fails
@@ -127,13 +138,13 @@ fn replace_attrs(tree: &mut Tree, id: NodeId, attrs: Attrs) -> bool {
 }
 
 /// Returns a copy of the attributes of an element.
-fn attrs_at(tree: &Tree, id: NodeId) -> Result<Attrs, PageFault> {
-    if let Some(node) = tree.tree_node(&id)
-        && let Some(element) = node.content.as_element()
-    {
-        return Ok(element.attrs().try_clone()?);
+fn attrs_at(tree: &Tree, id: NodeId) -> Result<Attrs, PageFault>
+    ensures { IfOk result (λ attrs. attrs ≡ node_attrs tree.now id) }
+{
+    match NodeRef::new(id, tree).element_ref() {
+        Some(element) => Ok(element.attrs().try_clone()?),
+        None => Ok(Attrs::new(tree.allocator())),
     }
-    Ok(Attrs::new(tree.allocator()))
 }
 
 /// Returns the names of the attributes of an element.

@@ -6,7 +6,8 @@ ghost use Rattle.dom_links.specs.Sound.{AtOrBelow, target};
 ghost use Rattle.html5_trees.specs.Elements.{AreOpen, IsElement, IsPlace, IsRooted};
 ghost use Rattle.html5_trees.specs.Elements.{LiesAt, LiesIn};
 ghost use Rattle.html5_trees.specs.Placing.{fosters, foster_place_of, inner, is_a_table};
-ghost use Rattle.html5_trees.specs.Placing.{is_a_template, place_of, point_of};
+ghost use Rattle.html5_trees.specs.Placing.{is_a_template, place_above, place_of};
+ghost use Rattle.html5_trees.specs.Placing.{place_outside, place_within, point_of};
 ghost use Rattle.html5_trees.specs.declared.growing.placing.Place.TheVariants.{EndOf as AtEnd};
 ghost use Rattle.html5_trees.specs.declared.stack.Open.{Open as AnOpen};
 
@@ -30,7 +31,9 @@ pub struct Placing {
 
 impl Placing {
     /// Returns the same without a limit on depth: for texts and comments, which hold nothing.
-    pub fn at_any_depth(self) -> Placing {
+    pub fn at_any_depth(self) -> Placing
+        ensures { result ≡ record self { max_depth = usize.MAX } }
+    {
         Placing {
             max_depth: usize::MAX,
             ..self
@@ -59,7 +62,7 @@ pub fn is_foster_target(target: &Open) -> bool
     }
 }
 
-fn is_template(element: &Open) -> bool
+pub fn is_template(element: &Open) -> bool
     ensures { result ≡ is_a_template element.now }
 {
     match element.ns {
@@ -148,7 +151,8 @@ fn foster_place(tree: &Tree, elements: &[Open]) -> Place
 /// Returns the place at the end of a node's parent, or of the node if it has none.
 fn place_above(tree: &Tree, id: NodeId) -> Place
     requires { children_allowed_at tree.now id ≡ true }
-    ensures { IsPlace tree.now result }
+    ensures place { IsPlace tree.now result }
+    ensures value { result ≡ place_above tree.now id }
 {
     is_forest(tree);
     match tree.parent_of(&id) {
@@ -192,11 +196,27 @@ pub fn gap_in(tree: &Tree, elements: &[Open], foster: bool) -> InsertionPoint
 pub fn gap(tree: &Tree, stack: &OpenElements, placing: Placing) -> InsertionPoint
     requires root { IsRooted tree.now }
     requires stack { AreOpen tree.now stack.now.elements.items }
-    ensures { IsOpenGap result tree.now }
+    ensures open { IsOpenGap result tree.now }
+    ensures value { let elements = stack.now.elements.items in
+        result ≡ point_of tree.now (place_within tree.now placing elements) }
 {
-    let place = match place_in(tree, stack.as_slice(), placing.foster) {
-        Place::EndOf(parent) if stack.len() >= placing.max_depth => place_above(tree, parent),
-        place => place,
-    };
+    let elements = stack.as_slice();
+    let place = place_in(tree, elements, placing.foster);
+    if elements.len() >= placing.max_depth {
+        return gap_of(tree, place_outside(tree, place));
+    }
     gap_of(tree, place)
+}
+
+/// Returns the place that replaces one in an element that is nested too deep: in the parent of that
+/// element. A place beside a table stays.
+fn place_outside(tree: &Tree, place: Place) -> Place
+    requires { IsPlace tree.now place }
+    ensures place { IsPlace tree.now result }
+    ensures value { result ≡ place_outside tree.now place }
+{
+    match place {
+        Place::EndOf(id) => place_above(tree, id),
+        Place::Table(..) => place,
+    }
 }

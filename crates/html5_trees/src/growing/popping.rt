@@ -157,10 +157,15 @@ impl GrowingTree {
             return Ok(());
         };
         let likeness = self.likeness_of(open.id);
-        if let Some(index) = self.formatting.third_same(&self.tree, &open, likeness) {
-            self.remove_entry(index);
-        }
+        self.make_room(open.id, likeness);
         self.push_current(likeness)
+    }
+
+    /// Makes room in the list for an element of that likeness (the Noah's Ark clause).
+    fn make_room(&mut self, id: NodeId, likeness: u32)
+        ensures { self.new ≡ self.old }
+    {
+        self.formatting.make_room(&self.tree, id, likeness);
     }
 
     /// Returns the likeness of an element that is to be added to the list.

@@ -1,5 +1,10 @@
 //! Groups of elements that the rules for "in body" treat alike.
 
+ghost use Rattle.std.specs.Prelude.{◌≡◌};
+ghost use Rattle.html5_trees.specs.Groups.{closes_p, common_group, group_named, rare_group};
+ghost use Rattle.html5_trees.specs.Groups.{is_block_name, reconstructs, spoils_frameset};
+ghost use Rattle.html5_trees.specs.Groups.{is_metadata_name};
+
 use crate::name::Name;
 
 /// A group of elements that the rules for "in body" treat alike.
@@ -50,7 +55,9 @@ pub enum Group {
 
 impl Group {
     /// Returns whether the start tag closes an open `p`.
-    pub fn ends_paragraph(self) -> bool {
+    pub fn ends_paragraph(self) -> bool
+        ensures { result ≡ closes_p self }
+    {
         matches!(
             self,
             Group::Block
@@ -64,7 +71,9 @@ impl Group {
     }
 
     /// Returns whether the start tag sets the frameset-ok flag to "not ok".
-    pub fn fills_body(self) -> bool {
+    pub fn fills_body(self) -> bool
+        ensures { result ≡ spoils_frameset self }
+    {
         matches!(
             self,
             Group::Pre
@@ -85,7 +94,9 @@ impl Group {
 
     /// Returns whether the active formatting elements are reconstructed before the element is
     /// inserted.
-    pub fn continues_formatting(self) -> bool {
+    pub fn continues_formatting(self) -> bool
+        ensures { result ≡ reconstructs self }
+    {
         matches!(
             self,
             Group::Object
@@ -101,37 +112,62 @@ impl Group {
 }
 
 /// Returns the group of a name.
-#[rattlefmt::skip]
-pub fn group_of(name: Name) -> Group {
-    match name {
-        Name::Html => Group::Html,
-        Name::Base | Name::Basefont | Name::Bgsound | Name::Link | Name::Meta | Name::Noframes
-        | Name::Script | Name::Style | Name::Title => Group::Metadata,
-        Name::Template => Group::Template,
-        Name::Body => Group::Body,
-        Name::Frameset => Group::Frameset,
-        Name::Address | Name::Article | Name::Aside | Name::Blockquote | Name::Center
-        | Name::Details | Name::Dialog | Name::Dir | Name::Div | Name::Dl | Name::Fieldset
-        | Name::Figcaption | Name::Figure | Name::Footer | Name::Header | Name::Hgroup
-        | Name::Main | Name::Menu | Name::Nav | Name::Ol | Name::Search | Name::Section
-        | Name::Summary | Name::Ul => Group::Block,
-        Name::P => Group::P,
-        Name::H1 | Name::H2 | Name::H3 | Name::H4 | Name::H5 | Name::H6 => Group::Heading,
-        Name::Pre | Name::Listing => Group::Pre,
-        Name::Form => Group::Form,
-        Name::Li => Group::Li,
-        Name::Dd | Name::Dt => Group::Description,
-        Name::Plaintext => Group::Plaintext,
-        Name::Button => Group::Button,
-        Name::A => Group::A,
-        Name::B | Name::Big | Name::Code | Name::Em | Name::Font | Name::I | Name::S | Name::Small
-        | Name::Strike | Name::Strong | Name::Tt | Name::U => Group::Formatting,
-        _ => rare_group_of(name),
+pub fn group_of(name: Name) -> Group
+    ensures { result ≡ group_named name }
+{
+    if is_block(name) {
+        return Group::Block;
+    }
+    match common_group_of(name) {
+        Some(group) => group,
+        None => rare_group_of(name),
     }
 }
 
 #[rattlefmt::skip]
-fn rare_group_of(name: Name) -> Group {
+fn is_block(name: Name) -> bool
+    ensures { result ≡ is_block_name name }
+{
+    matches!(
+        name,
+        Name::Address | Name::Article | Name::Aside | Name::Blockquote | Name::Center
+        | Name::Details | Name::Dialog | Name::Dir | Name::Div | Name::Dl | Name::Fieldset
+        | Name::Figcaption | Name::Figure | Name::Footer | Name::Header | Name::Hgroup
+        | Name::Main | Name::Menu | Name::Nav | Name::Ol | Name::Search | Name::Section
+        | Name::Summary | Name::Ul
+    )
+}
+
+#[rattlefmt::skip]
+fn common_group_of(name: Name) -> Option<Group>
+    ensures { result ≡ common_group name }
+{
+    match name {
+        Name::Html => Some(Group::Html),
+        Name::Base | Name::Basefont | Name::Bgsound | Name::Link | Name::Meta | Name::Noframes
+        | Name::Script | Name::Style | Name::Title => Some(Group::Metadata),
+        Name::Template => Some(Group::Template),
+        Name::Body => Some(Group::Body),
+        Name::Frameset => Some(Group::Frameset),
+        Name::P => Some(Group::P),
+        Name::H1 | Name::H2 | Name::H3 | Name::H4 | Name::H5 | Name::H6 => Some(Group::Heading),
+        Name::Pre | Name::Listing => Some(Group::Pre),
+        Name::Form => Some(Group::Form),
+        Name::Li => Some(Group::Li),
+        Name::Dd | Name::Dt => Some(Group::Description),
+        Name::Plaintext => Some(Group::Plaintext),
+        Name::Button => Some(Group::Button),
+        Name::A => Some(Group::A),
+        Name::B | Name::Big | Name::Code | Name::Em | Name::Font | Name::I | Name::S | Name::Small
+        | Name::Strike | Name::Strong | Name::Tt | Name::U => Some(Group::Formatting),
+        _ => None,
+    }
+}
+
+#[rattlefmt::skip]
+fn rare_group_of(name: Name) -> Group
+    ensures { result ≡ rare_group name }
+{
     match name {
         Name::Nobr => Group::Nobr,
         Name::Applet | Name::Marquee | Name::Object => Group::Object,
@@ -159,6 +195,8 @@ fn rare_group_of(name: Name) -> Group {
 }
 
 /// Returns whether the rules for "in head" process a start tag with this name, wherever it is.
-pub fn is_metadata(name: Name) -> bool {
+pub fn is_metadata(name: Name) -> bool
+    ensures { result ≡ is_metadata_name name }
+{
     matches!(group_of(name), Group::Metadata | Group::Template)
 }

@@ -1,5 +1,8 @@
 //! The insertion modes of `select`.
 
+ghost use Rattle.std.specs.Prelude.{◌≡◌};
+ghost use Rattle.html5_trees.specs.Groups.{leaves_select_name};
+
 use super::{is_start, next_if};
 use crate::builder::{Next, TreeBuilder};
 use crate::name::Name;
@@ -7,7 +10,9 @@ use crate::sets::Scope;
 use html5_tokens::token::Tag;
 
 /// Returns whether a tag with that name closes a `select` in a table.
-fn leaves_select(name: Name) -> bool {
+fn leaves_select(name: Name) -> bool
+    ensures { result ≡ leaves_select_name name }
+{
     matches!(
         name,
         Name::Caption

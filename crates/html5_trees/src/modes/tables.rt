@@ -1,5 +1,9 @@
 //! The insertion modes of tables.
 
+ghost use Rattle.std.specs.Prelude.{◌≡◌};
+ghost use Rattle.html5_trees.specs.Groups.{is_cell_name, is_dropped_end_name, is_part_name};
+ghost use Rattle.html5_trees.specs.Sets.{is_section_name};
+
 use super::{Token, is_start, next_if};
 use crate::attributes::is_hidden;
 use crate::builder::{Mode, Next, TreeBuilder};
@@ -9,7 +13,9 @@ use html5_tokens::token::Tag;
 
 /// Returns whether the name is of an element between a table and its cells, or of a cell.
 #[rattlefmt::skip]
-fn is_table_part(name: Name) -> bool {
+fn is_table_part(name: Name) -> bool
+    ensures { result ≡ is_part_name name }
+{
     matches!(
         name,
         Name::Caption | Name::Col | Name::Colgroup | Name::Tbody | Name::Td | Name::Tfoot
@@ -17,16 +23,22 @@ fn is_table_part(name: Name) -> bool {
     )
 }
 
-fn is_section(name: Name) -> bool {
+fn is_section(name: Name) -> bool
+    ensures { result ≡ is_section_name name }
+{
     matches!(name, Name::Tbody | Name::Tfoot | Name::Thead)
 }
 
-fn is_cell(name: Name) -> bool {
+fn is_cell(name: Name) -> bool
+    ensures { result ≡ is_cell_name name }
+{
     matches!(name, Name::Td | Name::Th)
 }
 
 /// Returns whether an end tag with that name is ignored in a table.
-fn is_dropped_end(name: Name) -> bool {
+fn is_dropped_end(name: Name) -> bool
+    ensures { result ≡ is_dropped_end_name name }
+{
     matches!(
         name,
         Name::Body | Name::Caption | Name::Col | Name::Colgroup | Name::Html
