@@ -12,6 +12,7 @@ pub mod CalmText
 pub mod CleanedParsed
 pub mod CleanedText
 pub mod EntryTexts
+pub mod FaultTests
 pub mod Left
 pub mod Lines
 pub mod Names
