@@ -11,7 +11,9 @@ ghost use Rattle.c_state.specs.declared.policies.Stage.TheVariants.{Draft, Ready
 
 use crate::bytes::{as_text, copy_bytes};
 use crate::fault::{Fault, fault_of_policy};
-use crate::rules::{disallow_attribute_of, with_attribute_of, with_base, with_rule, with_setting, with_value};
+use crate::rules::{
+    disallow_attribute_of, with_attribute_of, with_base, with_rule, with_setting, with_value,
+};
 use crate::state::State;
 use dom_query::{Policy, Rules, clean, clean_page, clean_tree};
 use std::alloc::Global;

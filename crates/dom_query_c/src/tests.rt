@@ -160,10 +160,7 @@ fn html_is_cleaned(rt: HostRuntime) {
     );
     assert_eq!(&rt; dq_policy_rule(alloc, &mut policy, 0, b"i"), 0);
     assert_eq!(&rt; dq_policy_rule(alloc, &mut policy, 7, b"i"), 0);
-    assert_eq!(&rt;
-        dq_policy_attribute_of(alloc, &mut policy, b"a", b"id"),
-        0
-    );
+    assert_eq!(&rt; dq_policy_attribute_of(alloc, &mut policy, b"a", b"id"), 0);
     assert_eq!(&rt;
         dq_policy_disallow_attribute_of(alloc, &mut policy, b"a", b"id"),
         0
