@@ -1,6 +1,7 @@
 pub mod Again
 pub mod AgainAttrs
 pub mod AgainCalm
+pub mod AgainDocuments
 pub mod AgainTrees
 pub mod AgainValues
 pub mod AgainWords

@@ -1,7 +1,8 @@
 //! Names, schemes and classes that rules list.
 
+ghost use Rattle.std.specs.Prelude.{◌≡◌, ◌&&◌, ◌++◌, ◌∷◌, [], OnOk, map, option_copied};
+ghost use Rattle.std.specs.Prelude.{string_bytes};
 ghost use Rattle.std.specs.Str.{bytes_eq};
-ghost use Rattle.std.specs.Prelude.{◌≡◌, ◌&&◌, ◌++◌, ◌∷◌, [], OnOk, map, option_copied, string_bytes};
 ghost use Rattle.dom_clean.specs.Policies.{own_of};
 ghost use Rattle.dom_clean.specs.Policy.{own_attribute, without, without_own};
 ghost use Rattle.dom_nodes.specs.Words.{is_among};

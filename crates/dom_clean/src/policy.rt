@@ -96,9 +96,9 @@ impl fmt::Display for PolicyFault {
 impl Error for PolicyFault {}
 
 impl Policy {
-    /// Returns the policy of these rules. It succeeds exactly if the rules are sound, that is, if the
-    /// result is safe. Otherwise it fails with the first fault in them, in the order of `PolicyFault`,
-    /// or with `Memory` if memory for the name in that fault is refused.
+    /// Returns the policy of these rules. It succeeds exactly if the rules are sound, that is, if
+    /// the result is safe. Fails with the first fault in the rules, in the order of `PolicyFault`, or
+    /// with `Memory` if memory for the name in that fault is refused.
     pub fn new(rules: Rules) -> Result<Policy, PolicyFault>
         ensures sound { MatchResult result (λ policy. (policy ≡ rules) × (is_sound rules ≡ true))
             (λ _. is_sound rules ≡ false) }
@@ -166,7 +166,8 @@ fn fault_of_elements(names: &[String]) -> Option<PolicyFault>
 }
 
 fn fault_of_tables(elements: &[String]) -> Option<PolicyFault>
-    ensures { IsReported (option_map no_part (missing_part (map string_bytes elements.now))) result }
+    ensures { IsReported
+        (option_map no_part (missing_part (map string_bytes elements.now))) result }
 {
     let part = missing_part(elements)?;
     Some(PolicyFault::Table(part))
@@ -513,8 +514,8 @@ fn joins_well(lists: &Lists) -> bool
 
 /// Returns the fault of the `rel` of links.
 fn fault_of_rel(lists: &Lists) -> Option<PolicyFault>
-    ensures { IsReported (option_and_then (fault_of_rel (policy_of lists.now)) (policy_of lists.now).rel)
-        result }
+    ensures { IsReported
+        (option_and_then (fault_of_rel (policy_of lists.now)) (policy_of lists.now).rel) result }
 {
     let rel = lists.rel.as_ref()?;
     if !is_worded(rel.as_str()) {
