@@ -132,7 +132,7 @@ enum dq_encoding_source_code {
     DQ_BY_GUESS = 3      /* nothing: it is UTF-8 where all bytes are UTF-8, and windows-1252 where not */
 };
 
-/* Rules of a policy that have a text: dq_policy_rule. */
+/* Rules of a policy that have a text: dq_policy_rule. From 7 on they take back what others have said. */
 enum dq_rule {
     DQ_ALLOW_ELEMENT = 0,   /* elements of that name stay; any other is replaced by its children */
     DQ_DROP_ELEMENT = 1,    /* elements of that name vanish with everything in them, even if they are allowed, too */
@@ -140,7 +140,12 @@ enum dq_rule {
     DQ_ALLOW_SCHEME = 3,    /* addresses may have that scheme, which is given in lower case */
     DQ_ALLOW_CLASS = 4,     /* that class stays where the attribute class does; as soon as one is allowed, others vanish */
     DQ_LINK_REL = 5,        /* each a and area gets that rel, as "noopener noreferrer" */
-    DQ_ID_PREFIX = 6        /* each id gets that in front, unless it begins with it */
+    DQ_ID_PREFIX = 6,       /* each id gets that in front, unless it begins with it */
+    DQ_DISALLOW_ELEMENT = 7,   /* takes back DQ_ALLOW_ELEMENT: elements of that name are replaced by their children */
+    DQ_UNDROP_ELEMENT = 8,     /* takes back DQ_DROP_ELEMENT */
+    DQ_DISALLOW_ATTRIBUTE = 9, /* takes back DQ_ALLOW_ATTRIBUTE; what single elements may have stays */
+    DQ_DISALLOW_SCHEME = 10,   /* takes back DQ_ALLOW_SCHEME */
+    DQ_DISALLOW_CLASS = 11     /* takes back DQ_ALLOW_CLASS; behind the last one no class stays */
 };
 
 /* Rules of a policy that have a number: dq_policy_set. */
@@ -330,6 +335,9 @@ int64_t dq_policy_rule(dq_policy *policy, uint32_t rule, const uint8_t *text, si
 
 /* Lets elements of that name have that attribute. */
 int64_t dq_policy_attribute_of(dq_policy *policy, const uint8_t *element, size_t element_length, const uint8_t *name, size_t name_length);
+
+/* Takes back what dq_policy_attribute_of and dq_policy_value have said of that attribute of elements of that name. */
+int64_t dq_policy_disallow_attribute_of(dq_policy *policy, const uint8_t *element, size_t element_length, const uint8_t *name, size_t name_length);
 
 /* Lets elements of that name have that attribute with that value. */
 int64_t dq_policy_value(dq_policy *policy, const uint8_t *element, size_t element_length, const uint8_t *name, size_t name_length, const uint8_t *value, size_t value_length);

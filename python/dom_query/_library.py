@@ -87,6 +87,7 @@ PARAMETERS: dict[str, tuple[Any, ...]] = {
     "dq_policy_common": (POLICY,),
     "dq_policy_rule": (POLICY, NUMBER, TEXT, SIZE),
     "dq_policy_attribute_of": (POLICY, TEXT, SIZE, TEXT, SIZE),
+    "dq_policy_disallow_attribute_of": (POLICY, TEXT, SIZE, TEXT, SIZE),
     "dq_policy_value": (POLICY, TEXT, SIZE, TEXT, SIZE, TEXT, SIZE),
     "dq_policy_base": (POLICY, TEXT, SIZE),
     "dq_policy_set": (POLICY, NUMBER, SIZE),

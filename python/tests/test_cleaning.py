@@ -71,6 +71,16 @@ class Cleaning(unittest.TestCase):
                 self.assertEqual(dom_query.clean(source, Policy(**rules)), wanted)
                 self.assertEqual(dom_query.clean(source, Policy().changed(**rules)), wanted)
 
+    def test_less_than_common(self):
+        common = Policy()
+        less = common.changed(
+            tags=common.tags - {"img"},
+            url_schemes=common.url_schemes - {"ftp"},
+            attributes={**common.attributes, "a": common.attributes["a"] - {"hreflang"}},
+        )
+        source = "<img src=/x><a href=ftp://h/ hreflang=h>1</a><a href=/y title=t>2</a>"
+        self.assertEqual(less.clean(source), '<a rel="noopener noreferrer">1</a><a href="/y" title="t" rel="noopener noreferrer">2</a>')
+
     def test_copies(self):
         policy = Policy(tags={"b"}, attributes={"b": ["id"]}, classes=["x"])
         self.assertEqual(policy.tags, frozenset({"b"}))
@@ -106,6 +116,7 @@ class Cleaning(unittest.TestCase):
             ({"relative": "gopher://a/"}, -54, "relative", None, "the scheme of the base isn't allowed"),
             ({"relative": "/shop/"}, -41, "relative", None, "the base is not an absolute URL"),
             ({"link_rel": '"'}, -55, "link_rel", None, "the `rel` of links can't be written"),
+            ({"attributes": {"a": {"rel"}}}, -55, "link_rel", None, "links get a `rel`, but attribute `rel` is allowed, too"),
             ({"classes": {"a b"}}, -56, "classes", "a b", "class `a b` can't be written"),
             ({"id_prefix": " "}, -57, "id_prefix", None, "the prefix of ids can't be written"),
             ({"max_depth": 257}, -58, "max_depth", None, "the depth is above 256"),

@@ -77,6 +77,7 @@ static void closed(dq_document *d) {
 static void no_policy(dq_policy *p, dq_document *d) {
     IS(dq_policy_rule(p, DQ_ALLOW_ELEMENT, T("p")), DQ_CLOSED);
     IS(dq_policy_attribute_of(p, T("p"), T("id")), DQ_CLOSED);
+    IS(dq_policy_disallow_attribute_of(p, T("p"), T("id")), DQ_CLOSED);
     IS(dq_policy_value(p, T("p"), T("id"), T("x")), DQ_CLOSED);
     IS(dq_policy_base(p, T("https://a.example/")), DQ_CLOSED);
     IS(dq_policy_set(p, DQ_DEPTH, 1), DQ_CLOSED);
@@ -171,6 +172,21 @@ static void cleaning(dq_policy *p, dq_document *d) {
         IS(dq_policy_finish(p), 0);
         SAYS(dq_clean(p, T("<h1>1</h1><script>2</script><img src=/x>"), ROOM), "<h1>1</h1><img>");
     }
+    if (IS(dq_policy_common(p), 0)) {
+        IS(dq_policy_rule(p, DQ_DISALLOW_ELEMENT, T("img")), 0);
+        IS(dq_policy_rule(p, DQ_DROP_ELEMENT, T("i")), 0);
+        IS(dq_policy_rule(p, DQ_UNDROP_ELEMENT, T("i")), 0);
+        IS(dq_policy_rule(p, DQ_DISALLOW_ATTRIBUTE, T("title")), 0);
+        IS(dq_policy_rule(p, DQ_DISALLOW_SCHEME, T("ftp")), 0);
+        IS(dq_policy_rule(p, DQ_ALLOW_ATTRIBUTE, T("class")), 0);
+        IS(dq_policy_rule(p, DQ_ALLOW_CLASS, T("x")), 0);
+        IS(dq_policy_rule(p, DQ_DISALLOW_CLASS, T("x")), 0);
+        IS(dq_policy_disallow_attribute_of(p, T("a"), T("hreflang")), 0);
+        IS(dq_policy_set(p, DQ_NO_LINK_REL, 0), 0);
+        IS(dq_policy_finish(p), 0);
+        SAYS(dq_clean(p, T("<img src=/x><i title=t lang=l class=x>1</i><a href=ftp://h/ hreflang=h>2</a><a href=/y>3</a>"), ROOM),
+             "<i lang=\"l\">1</i><a>2</a><a href=\"/y\">3</a>");
+    }
 }
 
 /* A policy that is refused, and each rule that can't be given. Afterwards nothing is cleaned. */
@@ -195,6 +211,8 @@ static void unsound(dq_policy *p) {
     REFUSED(dq_policy_rule(p, DQ_ALLOW_SCHEME, T("javascript")), DQ_REFUSED_SCHEME, "scheme `javascript` can't be kept safely");
     REFUSED(dq_policy_rule(p, DQ_ALLOW_CLASS, T("a b")), DQ_REFUSED_CLASS, "class `a b` can't be written");
     REFUSED(dq_policy_rule(p, DQ_LINK_REL, T("\"")), DQ_REFUSED_REL, "the `rel` of links can't be written");
+    REFUSED(dq_policy_attribute_of(p, T("a"), T("rel")), DQ_REFUSED_REL, "links get a `rel`, but attribute `rel` is allowed, too");
+    REFUSED(dq_policy_rule(p, DQ_DISALLOW_ELEMENT, T("td")), DQ_REFUSED_TABLE, "`table` is allowed without `td`");
     REFUSED(dq_policy_rule(p, DQ_ID_PREFIX, T(" ")), DQ_REFUSED_PREFIX, "the prefix of ids can't be written");
     REFUSED(dq_policy_base(p, T("gopher://a.example/")), DQ_REFUSED_BASE, "the scheme of the base isn't allowed");
     REFUSED(dq_policy_set(p, DQ_DEPTH, 257), DQ_REFUSED_DEPTH, "the depth is above 256");
@@ -207,7 +225,10 @@ static void unsound(dq_policy *p) {
     REFUSED(dq_policy_attribute_of(p, bad, 1, T("id")), DQ_NOT_UTF8, NULL);
     REFUSED(dq_policy_attribute_of(p, T("p"), bad, 1), DQ_NOT_UTF8, NULL);
     REFUSED(dq_policy_value(p, T("p"), T("id"), bad, 1), DQ_NOT_UTF8, NULL);
-    REFUSED(dq_policy_rule(p, 7, T("b")), DQ_ARGUMENT, NULL);
+    REFUSED(dq_policy_rule(p, 12, T("b")), DQ_ARGUMENT, NULL);
+    REFUSED(dq_policy_rule(p, DQ_DISALLOW_CLASS, bad, 1), DQ_NOT_UTF8, NULL);
+    REFUSED(dq_policy_disallow_attribute_of(p, bad, 1, T("id")), DQ_NOT_UTF8, NULL);
+    REFUSED(dq_policy_disallow_attribute_of(p, T("p"), bad, 1), DQ_NOT_UTF8, NULL);
     REFUSED(dq_policy_set(p, 4, 0), DQ_ARGUMENT, NULL);
     if (IS(dq_policy_common(p), 0) && IS(dq_policy_finish(p), 0)) {
         IS(dq_clean(p, bad, 1, ROOM), DQ_NOT_UTF8);

@@ -1,9 +1,9 @@
 -- The changes of a policy's rules that calls with numbers name.
 use Rattle.std.specs.Prelude.{◌≡◌, ◌==◌, ◌++◌, ℕ, Bool, true, false, not, List, [], ◌∷◌, Option, None, Some, Ok, Result, IfOk, MatchResult, slice_get}
-use Rattle.std.specs.Option.{option_map_or}
+use Rattle.std.specs.Option.{option_map, option_map_or}
 use Rattle.url.specs.Parser.{parse_url}
 use Rattle.url.specs.Parts.{Parts}
-use Rattle.dom_clean.specs.Policy.{OwnAttribute, Policy, Relative}
+use Rattle.dom_clean.specs.Policy.{OwnAttribute, Policy, Relative, without, without_own}
 use Rattle.dom_clean.specs.Policy.Relative.{dropped, kept, resolved}
 use Rattle.c_state.specs.declared.fault.Fault.{Fault}
 
@@ -17,6 +17,11 @@ with_rules text rules =
     ∷ record rules { classes = Some (option_map_or (λ classes. classes) rules.classes [] ++ text ∷ []) }
     ∷ record rules { rel = Some text }
     ∷ record rules { id_prefix = text }
+    ∷ record rules { elements = without text rules.elements }
+    ∷ record rules { dropped = without text rules.dropped }
+    ∷ record rules { attributes = without text rules.attributes }
+    ∷ record rules { schemes = without text rules.schemes }
+    ∷ record rules { classes = option_map (without text) rules.classes }
     ∷ []
 
 -- The rules with the one of that number
@@ -26,6 +31,10 @@ rule_numbered number text rules = slice_get (with_rules text rules) number
 -- The rules with one more attribute of an element
 abbrev pub with_own : OwnAttribute → Policy → Policy
 with_own own rules = record rules { own_attributes = rules.own_attributes ++ own ∷ [] }
+
+-- The rules without an attribute of an element
+abbrev pub without_attribute_of : List ℕ → List ℕ → Policy → Policy
+without_attribute_of element name rules = record rules { own_attributes = without_own element name rules.own_attributes }
 
 -- The text is an absolute URL, against which addresses without a scheme are resolved
 abbrev pub IsResolvedBy : List ℕ → Policy → Policy → Type 0

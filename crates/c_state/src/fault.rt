@@ -57,7 +57,7 @@ pub enum Refusal {
     Scheme,
     /// Addresses are resolved against a base whose scheme isn't allowed.
     Base,
-    /// The `rel` of links can't be written.
+    /// The `rel` of links can't be written, or `rel` is allowed as an attribute, too.
     Rel,
     /// A class can't be written.
     Class,
@@ -215,7 +215,7 @@ fn policy_text(code: i64) -> Option<&'static str> {
         -52 => Some("an attribute cannot be kept safely"),
         -53 => Some("a scheme cannot be kept safely"),
         -54 => Some("the scheme of the base is not allowed"),
-        -55 => Some("the rel of links cannot be written"),
+        -55 => Some("the rel of links cannot be written, or is allowed as an attribute, too"),
         -56 => Some("a class cannot be written"),
         -57 => Some("the prefix of ids cannot be written"),
         -58 => Some("the depth is above 256"),
@@ -282,7 +282,7 @@ pub fn fault_of_policy(fault: &PolicyFault) -> Fault {
         PolicyFault::Attribute(_) => Fault::Policy(Refusal::Attribute),
         PolicyFault::Scheme(_) => Fault::Policy(Refusal::Scheme),
         PolicyFault::Base => Fault::Policy(Refusal::Base),
-        PolicyFault::Rel => Fault::Policy(Refusal::Rel),
+        PolicyFault::Rel | PolicyFault::RelTwice => Fault::Policy(Refusal::Rel),
         PolicyFault::Class(_) => Fault::Policy(Refusal::Class),
         PolicyFault::Prefix => Fault::Policy(Refusal::Prefix),
         PolicyFault::Depth => Fault::Policy(Refusal::Depth),

@@ -6,11 +6,14 @@ ghost use Rattle.dom_clean.specs.Policy.{no_rules, own_attribute};
 ghost use Rattle.c_state.specs.Policies.{ChangesRules, Cleans, Finishes, IfReady, IsCleanFragment};
 ghost use Rattle.c_state.specs.Policies.{IsCleanPage, IsCleanTree, IsDraft, IsFinished, IsUnsound};
 ghost use Rattle.c_state.specs.Rules.{IsResolvedBy, rule_numbered, setting_numbered, with_own};
+ghost use Rattle.c_state.specs.Rules.{without_attribute_of};
 ghost use Rattle.c_state.specs.declared.policies.Stage.TheVariants.{Draft, Ready, Refused};
 
 use crate::bytes::{as_text, copy_bytes};
 use crate::fault::{Fault, fault_of_policy};
-use crate::rules::{with_attribute_of, with_base, with_rule, with_setting, with_value};
+use crate::rules::{
+    disallow_attribute_of, with_attribute_of, with_base, with_rule, with_setting, with_value,
+};
 use crate::state::State;
 use dom_query::{Policy, Rules, clean, clean_page, clean_tree};
 use std::alloc::Global;
@@ -75,6 +78,16 @@ impl PolicyState {
     {
         let rules = self.take_rules();
         self.put_rules(with_attribute_of(rules, element, name))
+    }
+
+    /// Takes back what the rules say of that attribute of elements of that name, whatever its values
+    /// are.
+    pub fn disallow_attribute_of(&mut self, element: &[u8], name: &[u8]) -> Result<usize, Fault>
+        ensures { ChangesRules result self.old self.new
+            (λ old new. new ≡ without_attribute_of element.now name.now old) }
+    {
+        let rules = self.take_rules();
+        self.put_rules(disallow_attribute_of(rules, element, name))
     }
 
     /// Lets elements of that name have that attribute with that value.

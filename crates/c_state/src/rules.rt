@@ -5,6 +5,7 @@ ghost use Rattle.std.specs.Prelude.{◌≡◌, None, OnOk, Some};
 ghost use Rattle.dom_clean.specs.Policy.{own_attribute};
 ghost use Rattle.c_state.specs.Rules.{IsChangedTo, IsResolvedBy, relative_by};
 ghost use Rattle.c_state.specs.Rules.{rule_numbered, setting_numbered, with_own};
+ghost use Rattle.c_state.specs.Rules.{without_attribute_of};
 
 use crate::bytes::as_text;
 use crate::fault::Fault;
@@ -12,10 +13,11 @@ use dom_query::Rules;
 use std::alloc::Global;
 use url::{ParseError, Url};
 
-/// The rules with one more, which has a text: elements of that name stay (0), elements of that name
+/// The rules with a change that has a text: elements of that name stay (0), elements of that name
 /// vanish with everything in them (1), every element may have that attribute (2), addresses may
 /// have that scheme (3), that class stays (4), links get that `rel` (5), each `id` gets that prefix
-/// (6). Refused as `Argument` for any other number.
+/// (6); and what takes back 0 (7), 1 (8), 2 (9), 3 (10) and 4 (11). Refused as `Argument` for any
+/// other number.
 pub fn with_rule(rules: Result<Rules, Fault>, rule: u32, text: &[u8]) -> Result<Rules, Fault>
     ensures { IsChangedTo rules result (λ old new. rule_numbered rule text.now old ≡ Some new) }
 {
@@ -28,6 +30,9 @@ pub fn with_rule(rules: Result<Rules, Fault>, rule: u32, text: &[u8]) -> Result<
 fn add_rule(rules: &mut Rules, rule: u32, text: &str) -> Result<(), Fault>
     ensures { OnOk result (rule_numbered rule text.now rules.old ≡ Some rules.new) }
 {
+    if rule > 6 {
+        return take_back(rules, rule, text);
+    }
     match rule {
         0 => Ok(rules.allow_element(text)?),
         1 => Ok(rules.drop_element(text)?),
@@ -36,6 +41,19 @@ fn add_rule(rules: &mut Rules, rule: u32, text: &str) -> Result<(), Fault>
         4 => Ok(rules.allow_class(text)?),
         5 => Ok(rules.set_rel(text)?),
         6 => Ok(rules.set_id_prefix(text)?),
+        _ => Err(Fault::Argument),
+    }
+}
+
+fn take_back(rules: &mut Rules, rule: u32, text: &str) -> Result<(), Fault>
+    ensures { OnOk result (rule_numbered rule text.now rules.old ≡ Some rules.new) }
+{
+    match rule {
+        7 => Ok(rules.disallow_element(text)),
+        8 => Ok(rules.undrop_element(text)),
+        9 => Ok(rules.disallow_attribute(text)),
+        10 => Ok(rules.disallow_scheme(text)),
+        11 => Ok(rules.disallow_class(text)),
         _ => Err(Fault::Argument),
     }
 }
@@ -51,6 +69,21 @@ pub fn with_attribute_of(
 {
     let mut rules = rules?;
     rules.allow_attribute_of(as_text(element)?, as_text(name)?)?;
+    Ok(rules)
+}
+
+/// The rules without what they say of that attribute of elements of that name, whatever its values
+/// are.
+pub fn disallow_attribute_of(
+    rules: Result<Rules, Fault>,
+    element: &[u8],
+    name: &[u8],
+) -> Result<Rules, Fault>
+    ensures { IsChangedTo rules result (λ old new.
+        new ≡ without_attribute_of element.now name.now old) }
+{
+    let mut rules = rules?;
+    rules.disallow_attribute_of(as_text(element)?, as_text(name)?);
     Ok(rules)
 }
 

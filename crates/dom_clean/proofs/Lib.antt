@@ -1,6 +1,7 @@
 pub mod Again
 pub mod AgainAttrs
 pub mod AgainCalm
+pub mod AgainDocuments
 pub mod AgainTrees
 pub mod AgainValues
 pub mod AgainWords
@@ -13,6 +14,7 @@ pub mod CleanedParsed
 pub mod CleanedText
 pub mod DeclaresUtf8
 pub mod EntryTexts
+pub mod FaultTests
 pub mod Left
 pub mod Lines
 pub mod Names

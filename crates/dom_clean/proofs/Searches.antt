@@ -1,7 +1,28 @@
 -- Loops that look for an element: what was found so far, and what that says of the whole list.
-use Rattle.std.proofs.Common.{◌≡◌, ℕ, ◌+◌, ◌<◌, ◌≤◌, ◌||◌, ◌&&◌, Bool, true, false, List, length, take, take_all, get_or, sym, ap, ◌∙◌}
-use Rattle.std.specs.List.{list_all, list_any}
+use Rattle.std.proofs.Common.{◌≡◌, ℕ, ◌+◌, ◌<◌, ◌≤◌, ◌||◌, ◌&&◌, Bool, true, false, List, [], ◌∷◌, None, Option, Some, cond, filter, length, map, take, take_all, get_or, refl, sym, ap, ◌∙◌}
+use Rattle.std.specs.List.{find, list_all, list_any}
+use Rattle.std.specs.Option.{option_map}
 use Rattle.std.proofs.lemmas.List.Folds.{list_all_at, list_all_more, list_any_at, list_any_more}
+
+-- ---- lists that are mapped
+
+pub find-map : {X Y : Type 0} (h : X → Y) (p : Y → Bool) (xs : List X) → option_map h (find (λ x. p (h x)) xs) ≡ find p (map h xs)
+find-map h p [] = refl
+find-map h p (x ∷ xs) = elim (p (h x)) as (λ b. option_map h (cond b (Some x) (find (λ x. p (h x)) xs)) ≡ cond b (Some (h x)) (find p (map h xs))) [
+  | true ↦ refl
+  | false ↦ find-map h p xs
+]
+
+pub map-twice : {X Y Z : Type 0} (g : Y → Z) (h : X → Y) (found : Option X) → option_map g (option_map h found) ≡ option_map (λ x. g (h x)) found
+map-twice g h None = refl
+map-twice g h (Some x) = refl
+
+pub filter-map : {X Y : Type 0} (h : X → Y) (p : Y → Bool) (xs : List X) → map h (filter (λ x. p (h x)) xs) ≡ filter p (map h xs)
+filter-map h p [] = refl
+filter-map h p (x ∷ xs) = elim (p (h x)) as (λ b. map h (cond b (x ∷ filter (λ x. p (h x)) xs) (filter (λ x. p (h x)) xs)) ≡ cond b (h x ∷ filter p (map h xs)) (filter p (map h xs))) [
+  | true ↦ ap (λ ys. h x ∷ ys) (filter-map h p xs)
+  | false ↦ filter-map h p xs
+]
 
 -- ---- one that passes
 

@@ -1,7 +1,8 @@
 -- What a policy allows, and which policies can be kept safely.
-use Rattle.std.specs.Prelude.{◌&&◌, ◌||◌, ◌==◌, ℕ, Bool, true, false, not, nat_eq, nat_le, nat_lt, List, [], ◌∷◌, ◌++◌, map, Option, None, codes}
+use Rattle.std.specs.Prelude.{◌&&◌, ◌||◌, ◌==◌, ℕ, Bool, true, false, not, nat_eq, nat_le, nat_lt, List, [], ◌∷◌, ◌++◌, map, Option, None, codes, filter}
 use Rattle.std.specs.List.{list_all, starts_with}
 use Rattle.std.specs.Option.{option_map_or}
+use Rattle.std.specs.Str.{bytes_eq}
 use Rattle.dom_nodes.specs.Words.{is_among}
 use Rattle.url.specs.Parts.{Parts}
 
@@ -42,6 +43,16 @@ pub record Policy : Type 0 where
   pub classes : Option (List (List ℕ))
   -- so many kept elements may lie in one another
   pub depth : ℕ
+
+-- ---- lists that get shorter
+
+-- the names without that one
+abbrev pub without : List ℕ → List (List ℕ) → List (List ℕ)
+without name names = filter (λ one. not (bytes_eq one name)) names
+
+-- the attributes of elements without that one of that element, with whatever values
+abbrev pub without_own : List ℕ → List ℕ → List OwnAttribute → List OwnAttribute
+without_own element name owns = filter (λ own. not (bytes_eq own.element element && bytes_eq own.attribute name)) owns
 
 -- the policy that keeps texts alone
 abbrev pub no_rules : Policy

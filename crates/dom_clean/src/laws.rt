@@ -1,9 +1,10 @@
 //! Theorems about what a policy leaves. The functions do nothing; their contracts state the
 //! theorems.
 
-ghost use Rattle.std.specs.Prelude.{◌≡◌, true, ℕ, List};
+ghost use Rattle.std.specs.Prelude.{◌≡◌, is_none, true, ℕ, List};
 ghost use Rattle.dom_clean.specs.Addresses.{LeadsByItsScheme};
 ghost use Rattle.dom_clean.specs.Again.{CleansOnce};
+ghost use Rattle.dom_clean.specs.Faults.{first_fault};
 ghost use Rattle.dom_clean.specs.Laws.{CleansSafely};
 ghost use Rattle.dom_clean.specs.Parsed.{CleanedPagesAreParsed, CleanedTextsAreParsed};
 ghost use Rattle.dom_clean.specs.Policy.{Policy, is_sound};
@@ -17,6 +18,11 @@ use html_reading::{one_parse, safe_html_is_parsed};
 /// front of it, or else the scheme of the base, if it accepts the address.
 pub fn addresses_lead_by_their_schemes()
     ensures { (address : List ℕ) → LeadsByItsScheme address }
+{}
+
+/// The rules in which no fault is found are exactly the sound ones.
+pub fn sound_rules_have_no_fault()
+    ensures { (rules : Policy) → is_none (first_fault rules) ≡ is_sound rules }
 {}
 
 /// What a sound policy leaves of any tree is allowed by the policy, and the page with its text in

@@ -1,8 +1,10 @@
 //! Names, schemes and classes that rules list.
 
-ghost use Rattle.std.specs.Prelude.{◌≡◌, ◌++◌, ◌∷◌, [], OnOk, map, option_copied, string_bytes};
+ghost use Rattle.std.specs.Prelude.{◌≡◌, ◌&&◌, ◌++◌, ◌∷◌, [], OnOk, map, option_copied};
+ghost use Rattle.std.specs.Prelude.{string_bytes};
+ghost use Rattle.std.specs.Str.{bytes_eq};
 ghost use Rattle.dom_clean.specs.Policies.{own_of};
-ghost use Rattle.dom_clean.specs.Policy.{own_attribute};
+ghost use Rattle.dom_clean.specs.Policy.{own_attribute, without, without_own};
 ghost use Rattle.dom_nodes.specs.Words.{is_among};
 
 use dom_nodes::fault::OutOfMemory;
@@ -98,4 +100,27 @@ pub(crate) fn push_own(
         Ok(()) => Ok(()),
         Err(_) => Err(OutOfMemory),
     }
+}
+
+/// Removes a name, wherever it is listed.
+pub(crate) fn remove_name(names: &mut Vec<String>, name: &str)
+    ensures { map string_bytes names.new.items
+        ≡ without name.now (map string_bytes names.old.items) }
+{
+    names.retain(|one| one.as_str() != name);
+}
+
+/// Removes an attribute of an element, with all values that it may have.
+pub(crate) fn remove_own(own: &mut Vec<OwnAttribute>, element: &str, name: &str)
+    ensures { map own_of own.new.items
+        ≡ without_own element.now name.now (map own_of own.old.items) }
+{
+    own.retain(|one| !is_own(one, element, name));
+}
+
+fn is_own(own: &OwnAttribute, element: &str, name: &str) -> bool
+    ensures { result ≡ (bytes_eq (own_of own.now).element element.now
+        && bytes_eq (own_of own.now).attribute name.now) }
+{
+    own.element.as_str() == element && own.attribute.as_str() == name
 }

@@ -1,19 +1,22 @@
 //! Policies, and which rules are accepted as one.
 
-ghost use Rattle.std.specs.Prelude.{◌≡◌, ◌&&◌, ◌||◌, ◌==◌, MatchResult, codes, is_none, map};
-ghost use Rattle.std.specs.Prelude.{nat_le, string_bytes, true, false};
+ghost use Rattle.std.specs.Prelude.{◌≡◌, ◌&&◌, ◌||◌, ◌==◌, IfSome, MatchResult, codes, find, map};
+ghost use Rattle.std.specs.Prelude.{not, option_copied, string_bytes, true, false};
 ghost use Rattle.std.specs.List.{list_all};
-ghost use Rattle.std.specs.Option.{option_map_or};
+ghost use Rattle.std.specs.Option.{option_and_then, option_map};
+ghost use Rattle.std.specs.Result.{result_err};
 ghost use Rattle.dom_nodes.specs.Words.{is_among};
+ghost use Rattle.dom_clean.specs.Faults.{IsReported, Tells, fault_of_limits, fault_of_names};
+ghost use Rattle.dom_clean.specs.Faults.{fault_of_rel, first_failing, first_fault, missing_part};
+ghost use Rattle.dom_clean.specs.Faults.Fault.{bad_attribute, bad_class, bad_element, bad_scheme};
+ghost use Rattle.dom_clean.specs.Faults.Fault.{no_part};
 ghost use Rattle.dom_clean.specs.Policies.{policy_of, relative_of};
-ghost use Rattle.dom_clean.specs.Policy.{are_names_sound, attribute_names, is_class, is_class_byte};
-ghost use Rattle.dom_clean.specs.Policy.{is_rel, is_simple};
+ghost use Rattle.dom_clean.specs.Policy.{attribute_names, is_class, is_class_byte, is_simple};
 ghost use Rattle.dom_clean.specs.Policy.{is_simple_byte, is_sound, is_word_byte, is_worded};
-ghost use Rattle.dom_clean.specs.Policy.{joins_well};
-ghost use Rattle.dom_clean.specs.Policy.{keeps_tables, may_have, may_keep, may_lead};
-ghost use Rattle.dom_clean.specs.Policy.{refused_attributes};
-ghost use Rattle.dom_clean.specs.Policy.{refused_schemes, table_parts};
+ghost use Rattle.dom_clean.specs.Policy.{joins_well, may_have, may_keep, may_lead};
+ghost use Rattle.dom_clean.specs.Policy.{refused_attributes, refused_schemes, table_parts};
 
+use crate::laws::sound_rules_have_no_fault;
 use crate::lists::{Lists, OwnAttribute, Relative, is_among};
 use crate::rules::Rules;
 use dom_nodes::words::is_one_of;
@@ -56,9 +59,10 @@ pub enum PolicyFault {
     Scheme(String),
     /// Addresses are resolved against a base whose scheme isn't allowed.
     Base,
-    /// The `rel` of links has other characters than `a` to `z`, digits, `-`, `_` and spaces, or the
-    /// attribute `rel` is allowed, too.
+    /// The `rel` of links has other characters than `a` to `z`, digits, `-`, `_` and spaces.
     Rel,
+    /// Links get a `rel`, and `rel` is allowed as an attribute, too.
+    RelTwice,
     /// A class that is empty, or has a control character, a space or a character that isn't ASCII.
     Class(String),
     /// The prefix of ids has other characters than `a` to `z`, digits, `-` and `_`.
@@ -78,6 +82,9 @@ impl fmt::Display for PolicyFault {
             PolicyFault::Scheme(name) => write!(f, "scheme `{name}` can't be kept safely"),
             PolicyFault::Base => f.write_str("the scheme of the base isn't allowed"),
             PolicyFault::Rel => f.write_str("the `rel` of links can't be written"),
+            PolicyFault::RelTwice => {
+                f.write_str("links get a `rel`, but attribute `rel` is allowed, too")
+            }
             PolicyFault::Class(name) => write!(f, "class `{name}` can't be written"),
             PolicyFault::Prefix => f.write_str("the prefix of ids can't be written"),
             PolicyFault::Depth => f.write_str("the depth is above 256"),
@@ -89,12 +96,16 @@ impl fmt::Display for PolicyFault {
 impl Error for PolicyFault {}
 
 impl Policy {
-    /// Returns the policy of these rules. Fails with the first fault that is found in them; it
-    /// succeeds exactly if the rules are sound, that is, if the result is safe.
+    /// Returns the policy of these rules. It succeeds exactly if the rules are sound, that is, if
+    /// the result is safe. Fails with the first fault in the rules, in the order of `PolicyFault`, or
+    /// with `Memory` if memory for the name in that fault is refused.
     pub fn new(rules: Rules) -> Result<Policy, PolicyFault>
-        ensures { MatchResult result (λ policy. (policy ≡ rules) × (is_sound rules ≡ true))
+        ensures sound { MatchResult result (λ policy. (policy ≡ rules) × (is_sound rules ≡ true))
             (λ _. is_sound rules ≡ false) }
+        ensures fault { IsReported (first_fault rules) (result_err result) }
     {
+        // A law, called for its contract alone.
+        sound_rules_have_no_fault();
         let lists = rules.into_lists();
         match fault_of(&lists) {
             Some(fault) => Err(fault),
@@ -113,44 +124,82 @@ impl Policy {
 
 /// Returns the first fault of rules.
 fn fault_of(lists: &Lists) -> Option<PolicyFault>
-    ensures { is_none result ≡ is_sound (policy_of lists.now) }
+    ensures { IsReported (first_fault (policy_of lists.now)) result }
 {
     if let Some(fault) = fault_of_names(lists) {
         return Some(fault);
     }
-    if let Some(scheme) = refused_scheme(&lists.schemes) {
-        return Some(scheme_fault(scheme));
+    if let Some(fault) = fault_of_schemes(&lists.schemes) {
+        return Some(fault);
     }
     if !joins_well(lists) {
         return Some(PolicyFault::Base);
     }
-    if !is_rel(lists) {
-        return Some(PolicyFault::Rel);
+    if let Some(fault) = fault_of_rel(lists) {
+        return Some(fault);
     }
-    if let Some(class) = refused_class(lists) {
-        return Some(class_fault(class));
+    if let Some(fault) = fault_of_classes(lists) {
+        return Some(fault);
     }
     fault_of_limits(lists)
 }
 
 /// Returns the first fault of the names of elements and attributes.
 fn fault_of_names(lists: &Lists) -> Option<PolicyFault>
-    ensures { is_none result ≡ are_names_sound (policy_of lists.now) }
+    ensures { IsReported (fault_of_names (policy_of lists.now)) result }
 {
-    if let Some(name) = refused_element(&lists.elements) {
-        return Some(element_fault(name));
+    if let Some(fault) = fault_of_elements(&lists.elements) {
+        return Some(fault);
     }
-    if let Some(part) = missing_part(&lists.elements) {
-        return Some(PolicyFault::Table(part));
+    if let Some(fault) = fault_of_tables(&lists.elements) {
+        return Some(fault);
     }
+    fault_of_attributes(lists)
+}
+
+fn fault_of_elements(names: &[String]) -> Option<PolicyFault>
+    ensures { IsReported
+        (option_map bad_element (first_failing may_keep (map string_bytes names.now))) result }
+{
+    let name = refused_element(names)?;
+    Some(element_fault(name))
+}
+
+fn fault_of_tables(elements: &[String]) -> Option<PolicyFault>
+    ensures { IsReported
+        (option_map no_part (missing_part (map string_bytes elements.now))) result }
+{
+    let part = missing_part(elements)?;
+    Some(PolicyFault::Table(part))
+}
+
+fn fault_of_attributes(lists: &Lists) -> Option<PolicyFault>
+    ensures { IsReported (option_map bad_attribute
+        (first_failing may_have (attribute_names (policy_of lists.now)))) result }
+{
     let name = refused_attribute(lists)?;
     Some(attribute_fault(name))
 }
 
+fn fault_of_schemes(schemes: &[String]) -> Option<PolicyFault>
+    ensures { IsReported
+        (option_map bad_scheme (first_failing may_lead (map string_bytes schemes.now))) result }
+{
+    let scheme = refused_scheme(schemes)?;
+    Some(scheme_fault(scheme))
+}
+
+fn fault_of_classes(lists: &Lists) -> Option<PolicyFault>
+    ensures { IsReported (option_map bad_class
+        (option_and_then (first_failing is_class) (policy_of lists.now).classes)) result }
+{
+    let class = refused_class(lists)?;
+    Some(class_fault(class))
+}
+
 /// Returns the fault of the prefix of ids, or of the depth.
 fn fault_of_limits(lists: &Lists) -> Option<PolicyFault>
-    ensures { is_none result ≡ (list_all is_simple_byte (string_bytes lists.now.id_prefix)
-        && nat_le lists.now.depth 256) }
+    ensures { IsReported (fault_of_limits (policy_of lists.now)) result }
 {
     if !are_simple_bytes(lists.id_prefix.as_str()) {
         return Some(PolicyFault::Prefix);
@@ -161,32 +210,42 @@ fn fault_of_limits(lists: &Lists) -> Option<PolicyFault>
     None
 }
 
-fn copied(name: &String) -> Option<String> {
+fn copied(name: &String) -> Option<String>
+    ensures { IfSome result (λ copy. string_bytes copy ≡ string_bytes name.now) }
+{
     String::from_str(*name.allocator(), name.as_str()).ok()
 }
 
-fn element_fault(name: &String) -> PolicyFault {
+fn element_fault(name: &String) -> PolicyFault
+    ensures { Tells result (bad_element (string_bytes name.now)) }
+{
     match copied(name) {
         Some(name) => PolicyFault::Element(name),
         None => PolicyFault::Memory,
     }
 }
 
-fn attribute_fault(name: &String) -> PolicyFault {
+fn attribute_fault(name: &String) -> PolicyFault
+    ensures { Tells result (bad_attribute (string_bytes name.now)) }
+{
     match copied(name) {
         Some(name) => PolicyFault::Attribute(name),
         None => PolicyFault::Memory,
     }
 }
 
-fn scheme_fault(name: &String) -> PolicyFault {
+fn scheme_fault(name: &String) -> PolicyFault
+    ensures { Tells result (bad_scheme (string_bytes name.now)) }
+{
     match copied(name) {
         Some(name) => PolicyFault::Scheme(name),
         None => PolicyFault::Memory,
     }
 }
 
-fn class_fault(name: &String) -> PolicyFault {
+fn class_fault(name: &String) -> PolicyFault
+    ensures { Tells result (bad_class (string_bytes name.now)) }
+{
     match copied(name) {
         Some(name) => PolicyFault::Class(name),
         None => PolicyFault::Memory,
@@ -195,14 +254,9 @@ fn class_fault(name: &String) -> PolicyFault {
 
 /// Returns the first element that can't be allowed.
 fn refused_element(names: &[String]) -> Option<&String>
-    ensures { is_none result ≡ list_all may_keep (map string_bytes names.now) }
+    ensures { option_copied result ≡ find (λ name. not (may_keep (string_bytes name))) names.now }
 {
-    for name in names {
-        if !may_keep(name.as_str()) {
-            return Some(name);
-        }
-    }
-    None
+    names.iter().find(|name| !may_keep(name.as_str()))
 }
 
 /// The elements that can be allowed.
@@ -321,7 +375,7 @@ fn may_keep(name: &str) -> bool
 
 /// Returns the first part of tables that isn't allowed although `table` is.
 fn missing_part(elements: &[String]) -> Option<&'static str>
-    ensures { is_none result ≡ keeps_tables (map string_bytes elements.now) }
+    ensures { option_copied result ≡ missing_part (map string_bytes elements.now) }
 {
     if !is_among("table", elements) {
         return None;
@@ -331,8 +385,8 @@ fn missing_part(elements: &[String]) -> Option<&'static str>
 
 #[tactic(auto, unfolding(crate::specs::Policy::table_parts))]
 fn missing_of_parts(elements: &[String]) -> Option<&'static str>
-    ensures { is_none result
-        ≡ list_all (λ part. is_among part (map string_bytes elements.now)) table_parts }
+    ensures { option_copied result ≡ first_failing
+        (λ part. is_among part (map string_bytes elements.now)) table_parts }
 {
     if !is_among("tbody", elements) {
         return Some("tbody");
@@ -348,7 +402,8 @@ fn missing_of_parts(elements: &[String]) -> Option<&'static str>
 
 /// Returns the first attribute that can't be allowed.
 fn refused_attribute(lists: &Lists) -> Option<&String>
-    ensures { is_none result ≡ list_all may_have (attribute_names (policy_of lists.now)) }
+    ensures { option_map string_bytes (option_copied result)
+        ≡ first_failing may_have (attribute_names (policy_of lists.now)) }
 {
     if let Some(name) = refused_among(&lists.attributes) {
         return Some(name);
@@ -357,26 +412,19 @@ fn refused_attribute(lists: &Lists) -> Option<&String>
 }
 
 fn refused_among(names: &[String]) -> Option<&String>
-    ensures { is_none result ≡ list_all may_have (map string_bytes names.now) }
+    ensures { option_copied result ≡ find (λ name. not (may_have (string_bytes name))) names.now }
 {
-    for name in names {
-        if !may_have(name.as_str()) {
-            return Some(name);
-        }
-    }
-    None
+    names.iter().find(|name| !may_have(name.as_str()))
 }
 
 fn refused_own(names: &[OwnAttribute]) -> Option<&String>
-    ensures { is_none result
-        ≡ list_all may_have (map (λ own. string_bytes own.attribute) names.now) }
+    ensures { option_copied result ≡ option_map (λ own. own.attribute)
+        (find (λ own. not (may_have (string_bytes own.attribute))) names.now) }
 {
-    for own in names {
-        if !may_have(own.attribute.as_str()) {
-            return Some(&own.attribute);
-        }
-    }
-    None
+    names
+        .iter()
+        .find(|own| !may_have(own.attribute.as_str()))
+        .map(|own| &own.attribute)
 }
 
 /// Returns whether an attribute of that name can be allowed.
@@ -444,14 +492,9 @@ fn is_simple_byte(byte: u8) -> bool
 
 /// Returns the first scheme that can't be allowed.
 fn refused_scheme(schemes: &[String]) -> Option<&String>
-    ensures { is_none result ≡ list_all may_lead (map string_bytes schemes.now) }
+    ensures { option_copied result ≡ find (λ name. not (may_lead (string_bytes name))) schemes.now }
 {
-    for scheme in schemes {
-        if !may_lead(scheme.as_str()) {
-            return Some(scheme);
-        }
-    }
-    None
+    schemes.iter().find(|scheme| !may_lead(scheme.as_str()))
 }
 
 #[tactic(auto, unfolding(crate::specs::Policy::refused_schemes))]
@@ -472,24 +515,19 @@ fn joins_well(lists: &Lists) -> bool
     }
 }
 
-/// Returns whether there is no `rel` of links, or one that can be allowed.
-fn is_rel(lists: &Lists) -> bool
-    ensures { result
-        ≡ option_map_or (is_rel (policy_of lists.now)) (policy_of lists.now).rel true }
+/// Returns the fault of the `rel` of links.
+fn fault_of_rel(lists: &Lists) -> Option<PolicyFault>
+    ensures { IsReported
+        (option_and_then (fault_of_rel (policy_of lists.now)) (policy_of lists.now).rel) result }
 {
-    match &lists.rel {
-        Some(rel) => is_sole_rel(lists, rel.as_str()),
-        None => true,
+    let rel = lists.rel.as_ref()?;
+    if !is_worded(rel.as_str()) {
+        return Some(PolicyFault::Rel);
     }
-}
-
-fn is_sole_rel(lists: &Lists, rel: &str) -> bool
-    ensures { result ≡ is_rel (policy_of lists.now) rel.now }
-{
-    if !is_worded(rel) {
-        return false;
+    if has_rel(lists) {
+        return Some(PolicyFault::RelTwice);
     }
-    !has_rel(lists)
+    None
 }
 
 /// Returns whether `rel` is an allowed attribute.
@@ -534,8 +572,8 @@ fn is_word_byte(byte: u8) -> bool
 
 /// Returns the first class that can't be allowed.
 fn refused_class(lists: &Lists) -> Option<&String>
-    ensures { is_none result
-        ≡ option_map_or (list_all is_class) (policy_of lists.now).classes true }
+    ensures { option_map string_bytes (option_copied result)
+        ≡ option_and_then (first_failing is_class) (policy_of lists.now).classes }
 {
     match &lists.classes {
         Some(classes) => refused_among_classes(classes),
@@ -544,14 +582,9 @@ fn refused_class(lists: &Lists) -> Option<&String>
 }
 
 fn refused_among_classes(classes: &[String]) -> Option<&String>
-    ensures { is_none result ≡ list_all is_class (map string_bytes classes.now) }
+    ensures { option_copied result ≡ find (λ name. not (is_class (string_bytes name))) classes.now }
 {
-    for class in classes {
-        if !is_class(class.as_str()) {
-            return Some(class);
-        }
-    }
-    None
+    classes.iter().find(|class| !is_class(class.as_str()))
 }
 
 /// Returns whether the class can be allowed.

@@ -2,11 +2,11 @@
 
 ghost use Rattle.std.specs.Prelude.{◌≡◌, ◌++◌, ◌∷◌, [], OnOk, Some, None, true};
 ghost use Rattle.dom_clean.specs.Policies.{policy_of};
-ghost use Rattle.std.specs.Option.{option_map_or};
-ghost use Rattle.dom_clean.specs.Policy.{no_rules, own_attribute};
+ghost use Rattle.std.specs.Option.{option_map, option_map_or};
+ghost use Rattle.dom_clean.specs.Policy.{no_rules, own_attribute, without, without_own};
 ghost use Rattle.dom_clean.specs.Policy.Relative.{kept, dropped, resolved};
 
-use crate::lists::{Lists, OwnAttribute, Relative, push_name, push_own};
+use crate::lists::{Lists, OwnAttribute, Relative, push_name, push_own, remove_name, remove_own};
 use dom_nodes::fault::OutOfMemory;
 use std::alloc::Global;
 use std::marker::Model;
@@ -71,6 +71,13 @@ impl Rules {
         push_name(self.alloc(), &mut self.lists.elements, name)
     }
 
+    /// Has elements of that name unwrapped again: it takes back what `allow_element` has allowed.
+    pub fn disallow_element(&mut self, name: &str)
+        ensures { self.new ≡ record self.old { elements = without name.now self.old.elements } }
+    {
+        remove_name(&mut self.lists.elements, name);
+    }
+
     /// Has elements of that name removed with everything in them, even if they are allowed, too.
     pub fn drop_element(&mut self, name: &str) -> Result<(), OutOfMemory>
         ensures { OnOk result (self.new
@@ -79,12 +86,27 @@ impl Rules {
         push_name(self.alloc(), &mut self.lists.dropped, name)
     }
 
+    /// Takes back what `drop_element` has said of elements of that name.
+    pub fn undrop_element(&mut self, name: &str)
+        ensures { self.new ≡ record self.old { dropped = without name.now self.old.dropped } }
+    {
+        remove_name(&mut self.lists.dropped, name);
+    }
+
     /// Lets every element have that attribute.
     pub fn allow_attribute(&mut self, name: &str) -> Result<(), OutOfMemory>
         ensures { OnOk result (self.new
             ≡ record self.old { attributes = self.old.attributes ++ name.now ∷ [] }) }
     {
         push_name(self.alloc(), &mut self.lists.attributes, name)
+    }
+
+    /// Takes back what `allow_attribute` has allowed. Elements that have the attribute by
+    /// `allow_attribute_of` or `allow_value` keep it.
+    pub fn disallow_attribute(&mut self, name: &str)
+        ensures { self.new ≡ record self.old { attributes = without name.now self.old.attributes } }
+    {
+        remove_name(&mut self.lists.attributes, name);
     }
 
     /// Lets elements of that name have that attribute.
@@ -116,12 +138,29 @@ impl Rules {
         )
     }
 
+    /// Takes back what `allow_attribute_of` and `allow_value` have allowed for that attribute of
+    /// elements of that name, whatever the values are.
+    pub fn disallow_attribute_of(&mut self, element: &str, name: &str)
+        ensures { self.new ≡ record self.old {
+          own_attributes = without_own element.now name.now self.old.own_attributes;
+        } }
+    {
+        remove_own(&mut self.lists.own_attributes, element, name);
+    }
+
     /// Lets addresses have that scheme, which is given in lower case.
     pub fn allow_scheme(&mut self, scheme: &str) -> Result<(), OutOfMemory>
         ensures { OnOk result (self.new
             ≡ record self.old { schemes = self.old.schemes ++ scheme.now ∷ [] }) }
     {
         push_name(self.alloc(), &mut self.lists.schemes, scheme)
+    }
+
+    /// Has addresses with that scheme removed again.
+    pub fn disallow_scheme(&mut self, scheme: &str)
+        ensures { self.new ≡ record self.old { schemes = without scheme.now self.old.schemes } }
+    {
+        remove_name(&mut self.lists.schemes, scheme);
     }
 
     /// Sets whether every element may have attributes whose names begin with `data-`.
@@ -188,6 +227,17 @@ impl Rules {
         match &mut self.lists.classes {
             Some(classes) => push_name(alloc, classes, class),
             None => Ok(()),
+        }
+    }
+
+    /// Has the class removed again that `allow_class` has allowed. Where it was the last one, no
+    /// class stays. Where no class has been allowed, all of them still stay.
+    pub fn disallow_class(&mut self, class: &str)
+        ensures { self.new
+            ≡ record self.old { classes = option_map (without class.now) self.old.classes } }
+    {
+        if let Some(classes) = &mut self.lists.classes {
+            remove_name(classes, class);
         }
     }
 

@@ -5,6 +5,7 @@ ghost use Rattle.dom_clean.specs.Policy.{no_rules, own_attribute};
 ghost use Rattle.c_state.specs.Policies.{ChangesRules, Cleans, Finishes, IsCleanFragment};
 ghost use Rattle.c_state.specs.Policies.{IsCleanPage, IsCleanTree, IsDraft};
 ghost use Rattle.c_state.specs.Rules.{IsResolvedBy, rule_numbered, setting_numbered, with_own};
+ghost use Rattle.c_state.specs.Rules.{without_attribute_of};
 ghost use Rattle.c_state.specs.declared.policies.Stage.TheVariants.{Draft};
 ghost use Rattle.dom_query_c.specs.Calls.{Asks, GivesKept, Lends, Reads};
 
@@ -60,6 +61,22 @@ pub extern "C" fn dq_policy_attribute_of(
         (λ old new. new ≡ with_own (own_attribute element.now name.now None) old)) }
 {
     ask!(alloc, handle, policy => policy.allow_attribute_of(element, name))
+}
+
+/// Takes back what the rules say of that attribute of elements of that name, whatever its values
+/// are.
+#[unsafe(no_mangle)]
+pub extern "C" fn dq_policy_disallow_attribute_of(
+    alloc: Global,
+    handle: &mut PolicyHandle,
+    element: &[u8],
+    name: &[u8],
+) -> i64
+    ensures { Asks handle.old.slot.policy handle.new.slot.policy result
+        (λ given s t. ChangesRules given s t
+        (λ old new. new ≡ without_attribute_of element.now name.now old)) }
+{
+    ask!(alloc, handle, policy => policy.disallow_attribute_of(element, name))
 }
 
 /// Lets elements of that name have that attribute with that value.

@@ -158,6 +158,13 @@ fn html_is_cleaned(rt: HostRuntime) {
         dq_policy_base(alloc, &mut policy, b"https://t.example/"),
         0
     );
+    assert_eq!(&rt; dq_policy_rule(alloc, &mut policy, 0, b"i"), 0);
+    assert_eq!(&rt; dq_policy_rule(alloc, &mut policy, 7, b"i"), 0);
+    assert_eq!(&rt; dq_policy_attribute_of(alloc, &mut policy, b"a", b"id"), 0);
+    assert_eq!(&rt;
+        dq_policy_disallow_attribute_of(alloc, &mut policy, b"a", b"id"),
+        0
+    );
     assert_eq!(&rt; dq_policy_set(alloc, &mut policy, 0, 9), 0);
     assert_eq!(&rt; dq_clean(alloc, &mut policy, b"<p>", &mut room), -42);
     assert_eq!(&rt; dq_policy_finish(alloc, &mut policy), 0);

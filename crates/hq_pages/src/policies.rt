@@ -3,7 +3,7 @@
 
 use crate::allowing::{allow, deny};
 use crate::faults::Fault;
-use crate::policy_files::rules_of;
+use crate::policy_files::{key_allowing, rules_of};
 use crate::rule_faults::{RuleFault, key_of};
 use clap::ArgMatches;
 use dom_query::{Policy, PolicyFault, Rules};
@@ -59,7 +59,13 @@ fn policy_in(alloc: Global, name: &str, text: &str) -> Result<Policy, Fault> {
         Ok(policy) => Ok(policy),
         Err(PolicyFault::Memory) => Err(Fault::Memory),
         Err(fault) => {
-            let key = Some(key_of(&fault));
+            let key = match &fault {
+                PolicyFault::Attribute(attribute) => {
+                    key_allowing(alloc, text, attribute.as_str())
+                }
+                _ => key_of(&fault),
+            };
+            let key = Some(key);
             Err(fault_in(alloc, name, RuleFault::Unsafe { key, fault }))
         }
     }

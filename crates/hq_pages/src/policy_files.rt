@@ -25,8 +25,18 @@ pub fn rules_of(alloc: Global, text: &str) -> Result<Rules, RuleFault> {
     Ok(rules)
 }
 
-/// Returns the rules to which those of the file are added.
+/// Returns the rules to which those of the file are added: those that it extends, without what the
+/// key `without` names.
 fn first_rules(alloc: Global, table: &Table) -> Result<Rules, RuleFault> {
+    let mut rules = extended_rules(alloc, table)?;
+    if let Some(value) = table.get("without") {
+        take_back(alloc, &mut rules, value)?;
+    }
+    Ok(rules)
+}
+
+/// Returns the rules that the file extends.
+fn extended_rules(alloc: Global, table: &Table) -> Result<Rules, RuleFault> {
     let Some(value) = table.get("extends") else {
         return Ok(Rules::new(alloc));
     };
@@ -40,7 +50,7 @@ fn first_rules(alloc: Global, table: &Table) -> Result<Rules, RuleFault> {
 /// Adds the rule of a key.
 fn add_rule(alloc: Global, rules: &mut Rules, key: &str, value: &Value) -> Result<(), RuleFault> {
     match key {
-        "extends" => Ok(()),
+        "extends" | "without" => Ok(()),
         "elements" | "drop" | "attributes" | "schemes" | "classes" => {
             add_names(alloc, rules, key, value)
         }
@@ -75,6 +85,56 @@ fn add_name(rules: &mut Rules, key: &str, name: &str) -> Result<(), RuleFault> {
         "attributes" => rules.allow_attribute(name)?,
         "schemes" => rules.allow_scheme(name)?,
         _ => rules.allow_class(name)?,
+    }
+    Ok(())
+}
+
+/// Takes from the rules what a table names.
+fn take_back(alloc: Global, rules: &mut Rules, value: &Value) -> Result<(), RuleFault> {
+    let Some(table) = value.as_table() else {
+        let wanted = "a list of names for a key: without.elements = [\"img\"]";
+        return Err(value_fault(alloc, "without", wanted));
+    };
+    for (key, value) in table {
+        let place = key_below(alloc, "without", key.as_str())?;
+        match key.as_str() {
+            "elements" | "drop" | "attributes" | "schemes" => {
+                for name in names_of(alloc, place.as_str(), value)?.as_slice() {
+                    take_name(rules, key.as_str(), name);
+                }
+            }
+            "attributes-of" => take_attributes_of(alloc, rules, place.as_str(), value)?,
+            _ => return Err(key_fault(alloc, place.as_str())),
+        }
+    }
+    Ok(())
+}
+
+fn take_name(rules: &mut Rules, key: &str, name: &str) {
+    match key {
+        "elements" => rules.disallow_element(name),
+        "drop" => rules.undrop_element(name),
+        "attributes" => rules.disallow_attribute(name),
+        _ => rules.disallow_scheme(name),
+    }
+}
+
+/// Takes from the rules the attributes of each element in a table.
+fn take_attributes_of(
+    alloc: Global,
+    rules: &mut Rules,
+    key: &str,
+    value: &Value,
+) -> Result<(), RuleFault> {
+    let Some(elements) = value.as_table() else {
+        let wanted = "a list of attributes for each element: attributes-of.a = [\"href\"]";
+        return Err(value_fault(alloc, key, wanted));
+    };
+    for (element, names) in elements {
+        let key = key_below(alloc, key, element.as_str())?;
+        for name in names_of(alloc, key.as_str(), names)?.as_slice() {
+            rules.disallow_attribute_of(element.as_str(), name);
+        }
     }
     Ok(())
 }
@@ -190,6 +250,45 @@ fn set_depth(alloc: Global, rules: &mut Rules, value: &Value) -> Result<(), Rule
         return Ok(());
     }
     Err(value_fault(alloc, "depth", "a number of elements"))
+}
+
+/// Returns the key of the file that allows an attribute: `attributes`, `attributes-of` or `values`.
+pub fn key_allowing(alloc: Global, text: &str, attribute: &str) -> &'static str {
+    let Ok(table) = table_from_str(alloc, text) else {
+        return "attributes";
+    };
+    if let Some(names) = table.get("attributes")
+        && has_name(names, attribute)
+    {
+        return "attributes";
+    }
+    let Some(value) = table.get("attributes-of") else {
+        return "values";
+    };
+    let Some(elements) = value.as_table() else {
+        return "values";
+    };
+    for (_, names) in elements {
+        if has_name(names, attribute) {
+            return "attributes-of";
+        }
+    }
+    "values"
+}
+
+/// Returns whether the value is a list with that name in it.
+fn has_name(value: &Value, name: &str) -> bool {
+    let Some(items) = value.as_array() else {
+        return false;
+    };
+    for item in items {
+        if let Some(text) = item.as_str()
+            && text == name
+        {
+            return true;
+        }
+    }
+    false
 }
 
 /// Returns a key of a table inside another.

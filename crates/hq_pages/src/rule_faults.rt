@@ -78,7 +78,7 @@ pub fn key_of(fault: &PolicyFault) -> &'static str {
         PolicyFault::Attribute(_) => "attributes",
         PolicyFault::Scheme(_) => "schemes",
         PolicyFault::Base => "relative",
-        PolicyFault::Rel => "rel",
+        PolicyFault::Rel | PolicyFault::RelTwice => "rel",
         PolicyFault::Class(_) => "classes",
         PolicyFault::Prefix => "id-prefix",
         PolicyFault::Depth | PolicyFault::Memory => "depth",

@@ -19,8 +19,20 @@ pub fn change(rt: &HostRuntime, rules: &mut Rules, line: &str) -> Option<()> {
         "resolve-relative" => rules.resolve_relative(Url::parse(rt.alloc(), rest).ok()?),
         "no-rel" => rules.clear_rel(),
         "depth" => rules.set_depth(rest.parse().ok()?),
+        "disallow-element" => rules.disallow_element(rest),
+        "undrop-element" => rules.undrop_element(rest),
+        "disallow-attribute" => rules.disallow_attribute(rest),
+        "disallow-attribute-of" => take_own(rules, rest)?,
+        "disallow-scheme" => rules.disallow_scheme(rest),
+        "disallow-class" => rules.disallow_class(rest),
         _ => return add(rules, call, rest),
     }
+    Some(())
+}
+
+fn take_own(rules: &mut Rules, rest: &str) -> Option<()> {
+    let (element, name) = rest.split_once(' ')?;
+    rules.disallow_attribute_of(element, name);
     Some(())
 }
 

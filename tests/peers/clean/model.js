@@ -149,6 +149,12 @@ function policyOf(lines) {
     else if (call === "id-prefix") policy.idPrefix = value;
     else if (call === "class") (policy.classes = policy.classes || new Set()).add(value);
     else if (call === "depth") policy.depth = Number(value);
+    else if (call === "disallow-element") policy.elements.delete(value);
+    else if (call === "undrop-element") policy.dropped.delete(value);
+    else if (call === "disallow-attribute") policy.attributes.delete(value);
+    else if (call === "disallow-attribute-of") policy.own = policy.own.filter(([element, name]) => element !== rest[0] || name !== rest[1]);
+    else if (call === "disallow-scheme") policy.schemes.delete(value);
+    else if (call === "disallow-class") policy.classes?.delete(value);
     else throw new Error("no such rule: " + line);
   }
   return policy;

@@ -12,6 +12,10 @@ function row(args, markup, more) {
   return { ...more, args, markup, output, ...(more || read !== output ? { read } : {}) };
 }
 const refused = (args, fault) => ({ args, markup: "x", output: fault + "\n" });
+const inTurn = (lines, steps) => steps.map(([more, fault]) => {
+  lines = [...lines, ...more];
+  return fault ? refused(lines, fault) : row(lines, "x");
+});
 function write(name, rows) {
   fs.writeFileSync(path.join(folder, name + ".jsonl"), rows.map((one) => JSON.stringify(one) + "\n").join(""));
   console.log(name, rows.length);
@@ -84,6 +88,22 @@ write("rules", [
   row(["common"], "a\0b\rc\r\nd"),
   row(["common"], "<pre>\n\n\na</pre><pre><b>\nc</b>\nd</pre><pre><i></i>\ne</pre><pre>\n</pre><pre><x>\n</x>\nf</pre>"),
   row(["element pre"], "<pre><x>\n</x>\n\ng\nh</pre>"),
+  row(["common", "disallow-element img"], "a<img src=x>b<b>c</b>"),
+  row(["element b", "element i", "element b", "disallow-element b", "disallow-element u"], "<b>1</b><i>2</i>"),
+  row(["element b", "disallow-element b", "element b"], "<b>1</b>"),
+  row(["element b", "drop i", "drop u", "undrop-element i"], "<b>a<i>b</i><u>c</u></b>"),
+  row(["common", "undrop-element style"], "a<style>b</style>c"),
+  row(["common", "disallow-attribute title"], "<b title=x lang=y>1</b>"),
+  row(["element b", "attribute title", "attribute-of b title", "disallow-attribute title"], "<b title=x>1</b>"),
+  row(["element b", "attribute title", "attribute-of b title", "disallow-attribute-of b title"], "<b title=x>1</b>"),
+  row(["common", "disallow-attribute-of a href"], "<a href=/x hreflang=y>1</a><q cite=/z>2</q>"),
+  row(["element b", "value b class x", "attribute-of b class", "disallow-attribute-of b class", "value b class y"], "<b class=x>1</b><b class=y>2</b>"),
+  row(["element b", "element i", "attribute-of b class", "attribute-of i class", "disallow-attribute-of b class"], "<b class=x>1</b><i class=x>2</i>"),
+  row(["common", "disallow-scheme ftp"], "<a href=ftp://h/>1</a><a href=https://h/>2</a>"),
+  row(["element b", "attribute class", "class x", "class y", "disallow-class x"], "<b class='x y z'>1</b>"),
+  row(["element b", "attribute class", "class x", "disallow-class x"], "<b class='x y'>1</b>"),
+  row(["element b", "attribute class", "disallow-class x"], "<b class='x y'>1</b>"),
+  row(["element svg", "element b", "disallow-element svg"], "<p><b>1</b></p>"),
 ]);
 write("refusals", [
   ...["script", "style", "title", "textarea", "template", "noscript", "svg", "math", "select", "option", "optgroup", "iframe", "object", "embed", "applet", "frame", "frameset", "base", "link", "meta", "head", "body", "html", "plaintext", "xmp", "noembed", "noframes", "listing", "marquee", "nobr", "image", "keygen", "param", "x-y", "DIV", "", "foreignobject", "bgsound"].map((name) => refused(["element " + name], `element \`${name}\` can't be kept safely`)),
@@ -95,8 +115,9 @@ write("refusals", [
   refused(["resolve-relative http://h/"], "the scheme of the base isn't allowed"),
   refused(["scheme https", "resolve-relative http://h/"], "the scheme of the base isn't allowed"),
   refused(["rel no<follow"], "the `rel` of links can't be written"),
-  refused(["rel nofollow", "attribute rel"], "the `rel` of links can't be written"),
-  refused(["rel nofollow", "attribute-of a rel"], "the `rel` of links can't be written"),
+  refused(["rel nofollow", "attribute rel"], "links get a `rel`, but attribute `rel` is allowed, too"),
+  refused(["rel nofollow", "attribute-of a rel"], "links get a `rel`, but attribute `rel` is allowed, too"),
+  refused(["rel no<follow", "attribute rel"], "the `rel` of links can't be written"),
   refused(["class a b"], "class `a b` can't be written"),
   refused(["class "], "class `` can't be written"),
   refused(["class é"], "class `é` can't be written"),
@@ -104,4 +125,24 @@ write("refusals", [
   refused(["id-prefix a b"], "the prefix of ids can't be written"),
   refused(["depth 257"], "the depth is above 256"),
   row(["depth 256"], "x"),
+  // the order of the faults: each row mends that of the row before it
+  ...inTurn(["element table", "element svg", "element math", "attribute-of b onx", "attribute ony", "attribute srcset", "attribute-of a rel", "scheme http", "scheme data", "scheme javascript", "resolve-relative gopher://h/", "rel <", "class a", "class é", "class b c", "id-prefix A", "depth 257"], [
+    [[], "element `svg` can't be kept safely"],
+    [["disallow-element svg"], "element `math` can't be kept safely"],
+    [["disallow-element math"], "`table` is allowed without `tbody`"],
+    [["element td", "element tbody"], "`table` is allowed without `tr`"],
+    [["disallow-element table"], "attribute `ony` can't be kept safely"],
+    [["disallow-attribute ony"], "attribute `srcset` can't be kept safely"],
+    [["disallow-attribute srcset"], "attribute `onx` can't be kept safely"],
+    [["disallow-attribute-of b onx"], "scheme `data` can't be kept safely"],
+    [["disallow-scheme data"], "scheme `javascript` can't be kept safely"],
+    [["disallow-scheme javascript"], "the scheme of the base isn't allowed"],
+    [["scheme gopher"], "the `rel` of links can't be written"],
+    [["rel nofollow"], "links get a `rel`, but attribute `rel` is allowed, too"],
+    [["disallow-attribute-of a rel"], "class `é` can't be written"],
+    [["disallow-class é"], "class `b c` can't be written"],
+    [["disallow-class b c"], "the prefix of ids can't be written"],
+    [["id-prefix a"], "the depth is above 256"],
+    [["depth 256"], null],
+  ]),
 ]);
