@@ -8,3 +8,10 @@ mod Ways
 mod PoppingLemmas
 mod PlacingLemmas
 mod Carrying
+mod LinkLemmas
+mod LinkLists
+mod ScopeLemmas
+mod IndexLemmas
+mod AlikeLemmas
+mod RefreshLemmas
+mod StackSearches

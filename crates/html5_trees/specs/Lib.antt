@@ -5,3 +5,6 @@ pub mod Elements
 pub mod Placing
 pub mod Popping
 pub mod Sets
+pub mod Scopes
+pub mod Links
+pub mod SearchIndex
