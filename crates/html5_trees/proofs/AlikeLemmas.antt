@@ -172,12 +172,13 @@ numbers b t u number lt lu nu =
     let fu : eqb u 126 ≡ false = ne_eqb u 126 nu in
     let right : (not (eqb u 126) && (b && eqb t u)) ≡ (b && eqb t u) = ap (λ c. not c && (b && eqb t u)) fu in
     let left : eqb ((if eqb t 126 then 127 + number else t) * 2 + (if b then 0 else 1)) ((if eqb u 126 then 127 + 0 else u) * 2 + 0) ≡ eqb ((if eqb t 126 then 127 + number else t) * 2 + (if b then 0 else 1)) (u * 2 + 0)
-        = ap (λ c. eqb ((if eqb t 126 then 127 + number else t) * 2 + (if b then 0 else 1)) ((if c then 127 + 0 else u) * 2 + 0)) fu in
+    = ap (λ c. eqb ((if eqb t 126 then 127 + number else t) * 2 + (if b then 0 else 1)) ((if c then 127 + 0 else u) * 2 + 0)) fu in
     left ∙ elim (cases_eq t 126) [
-        inl e ↦ (let x : (if eqb t 126 then 127 + number else t) ≡ 127 + number = ap (λ c. if c then 127 + number else t) (eq_eqb t 126 e) in
+      | inl e ↦ (let x : (if eqb t 126 then 127 + number else t) ≡ 127 + number = ap (λ c. if c then 127 + number else t) (eq_eqb t 126 e) in
           sides b (if eqb t 126 then 127 + number else t) t u (λ f. absurd (omega (arith, f, x, lu))) (λ f. absurd (nu (sym f ∙ e))))
       | inr ne ↦ (let x : (if eqb t 126 then 127 + number else t) ≡ t = ap (λ c. if c then 127 + number else t) (ne_eqb t 126 ne) in
-          sides b (if eqb t 126 then 127 + number else t) t u (λ f. sym x ∙ f) (λ f. x ∙ f)) ] ∙ sym right
+          sides b (if eqb t 126 then 127 + number else t) t u (λ f. sym x ∙ f) (λ f. x ∙ f))
+    ] ∙ sym right
 
 -- the key of a known name finds the HTML elements with that name
 pub key_named : (name : Name) → is_name name Name.Other ≡ false → (o : Open) → eqb (key_of o) (key_for true name 0) ≡ is_named name o

@@ -34,10 +34,10 @@ pub found_mark : (elements : List Open) (o : Open) (below : Mark) (top h s e i :
     mark_with h s e i ≡ mark_of (elements ++ o ∷ [])
 found_mark elements o below top h s e i bh bs be bi eb et ebh ebs ebe ebi eh es ee ei =
     same_mark h s e i (last_place (λ x. is_in_html x.ns) (elements ++ o ∷ [])) (last_place is_special_element (elements ++ o ∷ [])) (last_place ends_scope (elements ++ o ∷ [])) (last_place ends_items (elements ++ o ∷ []))
-      (answer (λ x. is_in_html x.ns) elements o bh top h below.html ebh (ap (λ m. m.html) eb) et eh)
-      (answer is_special_element elements o bs top s below.special ebs (ap (λ m. m.special) eb) et es)
-      (answer ends_scope elements o be top e below.ends ebe (ap (λ m. m.ends) eb) et ee)
-      (answer ends_items elements o bi top i below.item_ends ebi (ap (λ m. m.item_ends) eb) et ei)
+    (answer (λ x. is_in_html x.ns) elements o bh top h below.html ebh (ap (λ m. m.html) eb) et eh)
+    (answer is_special_element elements o bs top s below.special ebs (ap (λ m. m.special) eb) et es)
+    (answer ends_scope elements o be top e below.ends ebe (ap (λ m. m.ends) eb) et ee)
+    (answer ends_items elements o bi top i below.item_ends ebi (ap (λ m. m.item_ends) eb) et ei)
 
 -- ---- keys
 
@@ -47,22 +47,24 @@ keys_next elements n x e = ap (map key_of) (take_one_more elements n x e) ∙ ma
 last_key_step : (ys : List ℕ) (y key t : ℕ) → ((u : ℕ) → IsLast (λ j. get_or ys j 0 ≡ key) (length ys) u → u ≡ last_place (λ k. eqb k key) ys) →
     IsLast (λ j. get_or (ys ++ y ∷ []) j 0 ≡ key) (suc (length ys)) t → t ≡ (if eqb y key then length ys + 1 else last_place (λ k. eqb k key) ys)
 last_key_step ys y key t ih is = elim (cases_Bool (eqb y key)) [
-    inl tr ↦ (let e : y ≡ key = eqb-true y key tr in
+  | inl tr ↦ (let e : y ≡ key = eqb-true y key tr in
       let top : t ≡ length ys + 1 = elim (cases_lt t (suc (length ys))) [
-          inl lt ↦ absurd (is.none (length ys) (omega (arith, lt)) (omega arith) (get_or_push ys y 0 (length ys) refl ∙ e))
-        | inr le ↦ omega (arith, le, is.within) ] in
+        | inl lt ↦ absurd (is.none (length ys) (omega (arith, lt)) (omega arith) (get_or_push ys y 0 (length ys) refl ∙ e))
+        | inr le ↦ omega (arith, le, is.within)
+      ] in
       top ∙ sym (ap (λ b. if b then length ys + 1 else last_place (λ k. eqb k key) ys) tr))
   | inr fa ↦ ih t (of_same (λ j. get_or (ys ++ y ∷ []) j 0 ≡ key) (λ j. get_or ys j 0 ≡ key) (length ys) t
-        (λ j lt p. sym (get_or_append_left ys (y ∷ []) 0 j lt) ∙ p) (λ j lt p. get_or_append_left ys (y ∷ []) 0 j lt ∙ p)
-        (shorter (λ j. get_or (ys ++ y ∷ []) j 0 ≡ key) (length ys) t is (λ p. eqb-false y key fa (sym (get_or_push ys y 0 (length ys) refl) ∙ p))))
-      ∙ sym (ap (λ b. if b then length ys + 1 else last_place (λ k. eqb k key) ys) fa) ]
+      (λ j lt p. sym (get_or_append_left ys (y ∷ []) 0 j lt) ∙ p) (λ j lt p. get_or_append_left ys (y ∷ []) 0 j lt ∙ p)
+      (shorter (λ j. get_or (ys ++ y ∷ []) j 0 ≡ key) (length ys) t is (λ p. eqb-false y key fa (sym (get_or_push ys y 0 (length ys) refl) ∙ p))))
+      ∙ sym (ap (λ b. if b then length ys + 1 else last_place (λ k. eqb k key) ys) fa)
+]
 
 last_of_keys : (key : ℕ) (keys : List ℕ) (t : ℕ) → IsLast (λ j. get_or keys j 0 ≡ key) (length keys) t → t ≡ last_place (λ k. eqb k key) keys
 last_of_keys key = by_ends (λ keys. (t : ℕ) → IsLast (λ j. get_or keys j 0 ≡ key) (length keys) t → t ≡ last_place (λ k. eqb k key) keys)
     (λ t is. omega (arith, is.within))
     (λ ys y ih t is.
-      let long : length (ys ++ y ∷ []) ≡ suc (length ys) = omega (arith, length_push ys y) in
-      last_key_step ys y key t ih (subst (λ n. IsLast (λ j. get_or (ys ++ y ∷ []) j 0 ≡ key) n t) long is) ∙ sym (last_place_push (λ k. eqb k key) ys y))
+    let long : length (ys ++ y ∷ []) ≡ suc (length ys) = omega (arith, length_push ys y) in
+    last_key_step ys y key t ih (subst (λ n. IsLast (λ j. get_or (ys ++ y ∷ []) j 0 ≡ key) n t) long is) ∙ sym (last_place_push (λ k. eqb k key) ys y))
 
 last_mapped : (key : ℕ) (xs : List Open) → last_place (λ k. eqb k key) (map key_of xs) ≡ last_place (λ o. eqb (key_of o) key) xs
 last_mapped key = by_ends (λ xs. last_place (λ k. eqb k key) (map key_of xs) ≡ last_place (λ o. eqb (key_of o) key) xs) refl (λ ys y same.
@@ -111,9 +113,10 @@ added_index elements old new o m e at_end em step is =
     record {
       within = omega (arith, long, slice_get_within elements (length old.rows.items) o at_end);
       rows = λ k lt. elim (cases_eq k (length old.rows.items)) [
-          inl f ↦ ap (λ xs. slice_get xs k) e ∙ ap (λ i. slice_get (old.rows.items ++ m ∷ []) i) f ∙ slice_get_end old.rows.items m
-              ∙ ap (λ x. Some x) (em ∙ ap mark_of (sym (take_one_more elements (length old.rows.items) o at_end)) ∙ ap (λ i. mark_of (take (i + 1) elements)) (sym f))
-        | inr ne ↦ (let l : k < length old.rows.items = omega (arith, lt, long, ne) in ap (λ xs. slice_get xs k) e ∙ slice_get_left old.rows.items (m ∷ []) k l ∙ is.rows k l) ];
+        | inl f ↦ ap (λ xs. slice_get xs k) e ∙ ap (λ i. slice_get (old.rows.items ++ m ∷ []) i) f ∙ slice_get_end old.rows.items m
+            ∙ ap (λ x. Some x) (em ∙ ap mark_of (sym (take_one_more elements (length old.rows.items) o at_end)) ∙ ap (λ i. mark_of (take (i + 1) elements)) (sym f))
+        | inr ne ↦ (let l : k < length old.rows.items = omega (arith, lt, long, ne) in ap (λ xs. slice_get xs k) e ∙ slice_get_left old.rows.items (m ∷ []) k l ∙ is.rows k l)
+      ];
       links = subst (λ ks. AreLinks ks new.links.same.items new.links.next.items new.links.tops.items)
           (sym (ap (λ n. map key_of (take n elements)) long ∙ keys_next elements (length old.rows.items) o at_end))
           (step (map key_of (take (length old.rows.items) elements)) is.links);

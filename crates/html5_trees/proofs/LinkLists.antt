@@ -68,7 +68,7 @@ no_links = record {
     before = λ k lt. absurd (omega (arith, lt));
     after = λ j k lt e. absurd (omega (arith, lt));
     back = λ j k lt e. absurd (omega (arith, lt));
-    last = λ key. record { within = omega arith; here = λ k e. absurd (omega (arith, e)); none = λ j le lt e. omega (arith, lt); };
+    last = λ key. record { within = omega arith; here = λ k e. absurd (omega (arith, e)); none = λ j le lt e. omega (arith, lt) };
   };
 }
 
@@ -88,8 +88,9 @@ module _ (keys same next tops : List ℕ) (key b c : ℕ) (old : AreLinks (keys 
 
   old_top : key < length tops
   old_top = within_tops tops key (elim (cases_lt 0 (get_or tops key 0)) [
-      inl lt ↦ lt
-    | inr le ↦ absurd ((old_linked.last key).none (length keys) (omega (arith, le)) (omega arith) old_key) ])
+    | inl lt ↦ lt
+    | inr le ↦ absurd ((old_linked.last key).none (length keys) (omega (arith, le)) (omega arith) old_key)
+  ])
 
   is_cut : IsCut (λ k. get_or (keys ++ key ∷ []) k 0) (length keys) (λ k. get_or (same ++ b ∷ []) k 0) (λ k. get_or (next ++ c ∷ []) k 0) (λ k. get_or tops k 0)
       (λ k. get_or same k 0) (λ k. get_or (set_before next b 0) k 0) (λ k. get_or (set tops key b) k 0)
@@ -111,7 +112,7 @@ module _ (keys same next tops : List ℕ) (key b c : ℕ) (old : AreLinks (keys 
     linked = linked_same (λ k. get_or (keys ++ key ∷ []) k 0) (λ k. get_or keys k 0) (length keys) (λ k. get_or same k 0) (λ k. get_or (set_before next b 0) k 0) (λ k. get_or (set tops key b) k 0)
         (λ j lt. get_or_append_left keys (key ∷ []) 0 j lt)
         (cut_linked (λ k. get_or (keys ++ key ∷ []) k 0) (length keys) (λ k. get_or (same ++ b ∷ []) k 0) (λ k. get_or (next ++ c ∷ []) k 0) (λ k. get_or tops k 0)
-          (λ k. get_or same k 0) (λ k. get_or (set_before next b 0) k 0) (λ k. get_or (set tops key b) k 0) old_linked is_cut);
+        (λ k. get_or same k 0) (λ k. get_or (set_before next b 0) k 0) (λ k. get_or (set tops key b) k 0) old_linked is_cut);
   }
 
 -- ---- an element is added
@@ -149,7 +150,7 @@ module _ (keys same next tops : List ℕ) (key p : ℕ) (lt : key < length tops)
         next_long = length_before (next ++ 0 ∷ []) (get_or tops key 0) p ∙ longer_both next keys 0 key old.next_long;
         linked = subst (λ n. AreLinked (λ k. get_or (keys ++ key ∷ []) k 0) n (λ k. get_or (same ++ get_or tops key 0 ∷ []) k 0) (λ k. get_or (set_before (next ++ 0 ∷ []) (get_or tops key 0) p) k 0) (λ k. get_or (set tops key p) k 0)) eq
             (add_linked (λ k. get_or (keys ++ key ∷ []) k 0) (length keys) (λ k. get_or same k 0) (λ k. get_or next k 0) (λ k. get_or tops k 0)
-              (λ k. get_or (same ++ get_or tops key 0 ∷ []) k 0) (λ k. get_or (set_before (next ++ 0 ∷ []) (get_or tops key 0) p) k 0) (λ k. get_or (set tops key p) k 0) before_added is_added);
+            (λ k. get_or (same ++ get_or tops key 0 ∷ []) k 0) (λ k. get_or (set_before (next ++ 0 ∷ []) (get_or tops key 0) p) k 0) (λ k. get_or (set tops key p) k 0) before_added is_added);
       }
 
 -- ---- two neighbours change places
@@ -253,14 +254,14 @@ module _ (keys same next tops : List ℕ) (p lower upper : ℕ) (lp : suc p < le
         ∙ length_before (set_before (set_before next (suc (suc p)) (get_or next p 0)) (get_or same p 0) (suc (suc p))) (suc p) (get_or next (suc p) 0)
         ∙ length_before (set_before next (suc (suc p)) (get_or next p 0)) (get_or same p 0) (suc (suc p)) ∙ length_before next (suc (suc p)) (get_or next p 0) ∙ old.next_long ∙ keys_long;
     linked = subst (λ n. AreLinked (λ k. get_or (set (set keys p upper) (suc p) lower) k 0) n
-          (λ k. get_or (set_before (set_before (set_before (set_before same (suc (suc p)) (get_or same p 0)) (get_or next p 0) (suc (suc p))) (suc p) (get_or same (suc p) 0)) (get_or next (suc p) 0) (suc p)) k 0)
-          (λ k. get_or (set_before (set_before (set_before (set_before next (suc (suc p)) (get_or next p 0)) (get_or same p 0) (suc (suc p))) (suc p) (get_or next (suc p) 0)) (get_or same (suc p) 0) (suc p)) k 0)
-          (λ k. get_or (set_where_none (get_or next (suc p) 0) (set_where_none (get_or next p 0) tops lower (suc (suc p))) upper (suc p)) k 0)) keys_long
+        (λ k. get_or (set_before (set_before (set_before (set_before same (suc (suc p)) (get_or same p 0)) (get_or next p 0) (suc (suc p))) (suc p) (get_or same (suc p) 0)) (get_or next (suc p) 0) (suc p)) k 0)
+        (λ k. get_or (set_before (set_before (set_before (set_before next (suc (suc p)) (get_or next p 0)) (get_or same p 0) (suc (suc p))) (suc p) (get_or next (suc p) 0)) (get_or same (suc p) 0) (suc p)) k 0)
+        (λ k. get_or (set_where_none (get_or next (suc p) 0) (set_where_none (get_or next p 0) tops lower (suc (suc p))) upper (suc p)) k 0)) keys_long
         (turn_linked (λ k. get_or keys k 0) (λ k. get_or (set (set keys p upper) (suc p) lower) k 0) (length keys) (λ k. get_or same k 0) (λ k. get_or next k 0) (λ k. get_or tops k 0)
-          (λ k. get_or (set_before (set_before (set_before (set_before same (suc (suc p)) (get_or same p 0)) (get_or next p 0) (suc (suc p))) (suc p) (get_or same (suc p) 0)) (get_or next (suc p) 0) (suc p)) k 0)
-          (λ k. get_or (set_before (set_before (set_before (set_before next (suc (suc p)) (get_or next p 0)) (get_or same p 0) (suc (suc p))) (suc p) (get_or next (suc p) 0)) (get_or same (suc p) 0) (suc p)) k 0)
-          (λ k. get_or (set_where_none (get_or next (suc p) 0) (set_where_none (get_or next p 0) tops lower (suc (suc p))) upper (suc p)) k 0)
-          p lp keys_differ old.linked is_exchanged same_turned next_turned tops_turned);
+        (λ k. get_or (set_before (set_before (set_before (set_before same (suc (suc p)) (get_or same p 0)) (get_or next p 0) (suc (suc p))) (suc p) (get_or same (suc p) 0)) (get_or next (suc p) 0) (suc p)) k 0)
+        (λ k. get_or (set_before (set_before (set_before (set_before next (suc (suc p)) (get_or next p 0)) (get_or same p 0) (suc (suc p))) (suc p) (get_or next (suc p) 0)) (get_or same (suc p) 0) (suc p)) k 0)
+        (λ k. get_or (set_where_none (get_or next (suc p) 0) (set_where_none (get_or next p 0) tops lower (suc (suc p))) upper (suc p)) k 0)
+        p lp keys_differ old.linked is_exchanged same_turned next_turned tops_turned);
   }
 
 -- ---- as the code has it
@@ -288,10 +289,10 @@ exchange_links keys same next tops same1 next1 tops1 same2 next2 tops2 p lower u
     let dn : next2 ≡ set_before (set_before (set_before (set_before next (suc (suc p)) (get_or next p 0)) (get_or same p 0) (suc (suc p))) (suc p) (get_or next (suc p) 0)) (get_or same (suc p) 0) (suc p) = cc in
     let dt : tops2 ≡ set_where_none (get_or next (suc p) 0) (set_where_none (get_or next p 0) tops lower (suc (suc p))) upper (suc p) = cc in
     subst (λ xs. AreLinks xs same2 next2 tops2) (ap (λ i. set (set keys p upper) i lower) (sym one))
-      (subst (λ xs. AreLinks (set (set keys p upper) (suc p) lower) xs next2 tops2) (sym ds)
-        (subst (λ xs. AreLinks (set (set keys p upper) (suc p) lower) (set_before (set_before (set_before (set_before same (suc (suc p)) (get_or same p 0)) (get_or next p 0) (suc (suc p))) (suc p) (get_or same (suc p) 0)) (get_or next (suc p) 0) (suc p)) xs tops2) (sym dn)
-          (subst (λ xs. AreLinks (set (set keys p upper) (suc p) lower) (set_before (set_before (set_before (set_before same (suc (suc p)) (get_or same p 0)) (get_or next p 0) (suc (suc p))) (suc p) (get_or same (suc p) 0)) (get_or next (suc p) 0) (suc p))
-              (set_before (set_before (set_before (set_before next (suc (suc p)) (get_or next p 0)) (get_or same p 0) (suc (suc p))) (suc p) (get_or next (suc p) 0)) (get_or same (suc p) 0) (suc p)) xs) (sym dt) it)))
+    (subst (λ xs. AreLinks (set (set keys p upper) (suc p) lower) xs next2 tops2) (sym ds)
+    (subst (λ xs. AreLinks (set (set keys p upper) (suc p) lower) (set_before (set_before (set_before (set_before same (suc (suc p)) (get_or same p 0)) (get_or next p 0) (suc (suc p))) (suc p) (get_or same (suc p) 0)) (get_or next (suc p) 0) (suc p)) xs tops2) (sym dn)
+    (subst (λ xs. AreLinks (set (set keys p upper) (suc p) lower) (set_before (set_before (set_before (set_before same (suc (suc p)) (get_or same p 0)) (get_or next p 0) (suc (suc p))) (suc p) (get_or same (suc p) 0)) (get_or next (suc p) 0) (suc p))
+    (set_before (set_before (set_before (set_before next (suc (suc p)) (get_or next p 0)) (get_or same p 0) (suc (suc p))) (suc p) (get_or next (suc p) 0)) (get_or same (suc p) 0) (suc p)) xs) (sym dt) it)))
 
 -- more room for keys that no element has
 pub room_links : (keys same next tops tops' : List ℕ) → ((key : ℕ) → get_or tops' key 0 ≡ get_or tops key 0) → AreLinks keys same next tops → AreLinks keys same next tops'
@@ -308,10 +309,12 @@ room_links keys same next tops tops' e old = record {
 
 pub zero_more : (xs : List ℕ) (k : ℕ) → get_or (xs ++ 0 ∷ []) k 0 ≡ get_or xs k 0
 zero_more xs k = elim (cases_lt k (length xs)) [
-    inl lt ↦ get_or_append_left xs (0 ∷ []) 0 k lt
+  | inl lt ↦ get_or_append_left xs (0 ∷ []) 0 k lt
   | inr le ↦ elim (cases_eq k (length xs)) [
-      inl e ↦ get_or_push xs 0 0 k (sym e) ∙ sym (get_or_past xs k 0 le)
-    | inr ne ↦ get_or_past (xs ++ 0 ∷ []) k 0 (omega (arith, length_push xs 0, le, ne)) ∙ sym (get_or_past xs k 0 le) ] ]
+    | inl e ↦ get_or_push xs 0 0 k (sym e) ∙ sym (get_or_past xs k 0 le)
+    | inr ne ↦ get_or_past (xs ++ 0 ∷ []) k 0 (omega (arith, length_push xs 0, le, ne)) ∙ sym (get_or_past xs k 0 le)
+  ]
+]
 
 -- the last element is popped off three lists
 pub pop_links : (keys same0 same next0 next2 next tops0 tops : List ℕ) (key b : ℕ) (r : Option ℕ) → same0 ≡ same ++ b ∷ [] → next0 ≡ next ++ option_to_list r → IfNone r (next0 ≡ []) →
@@ -330,8 +333,8 @@ push_links keys same same' next next1 next' tops tops' key b p lt eb ep es en1 e
     let ds : same ++ get_or tops key 0 ∷ [] ≡ same' = cc in
     let dn : set_before (next ++ 0 ∷ []) (get_or tops key 0) p ≡ next' = cc in
     subst (λ xs. AreLinks (keys ++ key ∷ []) same' next' xs) (sym et)
-      (subst (λ xs. AreLinks (keys ++ key ∷ []) same' xs (set tops key p)) dn
-        (subst (λ xs. AreLinks (keys ++ key ∷ []) xs (set_before (next ++ 0 ∷ []) (get_or tops key 0) p) (set tops key p)) ds it))
+    (subst (λ xs. AreLinks (keys ++ key ∷ []) same' xs (set tops key p)) dn
+    (subst (λ xs. AreLinks (keys ++ key ∷ []) xs (set_before (next ++ 0 ∷ []) (get_or tops key 0) p) (set tops key p)) ds it))
 
 -- the same, of equal lists
 pub same_links : (keys same same' next next' tops tops' : List ℕ) → same' ≡ same → next' ≡ next → ((key : ℕ) → get_or tops' key 0 ≡ get_or tops key 0) → AreLinks keys same next tops → AreLinks keys same' next' tops'

@@ -54,7 +54,7 @@ mark_step zs ws o e long = same_mark
     (answer_step ends_scope zs ws o (ap (λ m. m.ends) e) long) (answer_step ends_items zs ws o (ap (λ m. m.item_ends) e) long)
 
 module _ (former elements : List Open) (place : ℕ) (w : AreExchanged former elements place) where
-  same_below : (m : ℕ) → m ≤ place → take m former ≡ take m elements
+  pub same_below : (m : ℕ) → m ≤ place → take m former ≡ take m elements
   same_below m le = take_same m former elements (λ j lt. sym (w.rest j (omega (arith, lt, le)) (omega (arith, lt, le))))
 
   -- entries that agree above the two go on agreeing
@@ -66,7 +66,7 @@ module _ (former elements : List Open) (place : ℕ) (w : AreExchanged former el
       let also : slice_get elements (i + d) ≡ Some it.0 = w.rest (i + d) (omega (arith, lt)) (omega (arith, lt)) ∙ it.1 in
       let long : length (take (i + d) former) ≡ length (take (i + d) elements) = length-take-le (i + d) former (omega (arith, le)) ∙ sym (length-take-le (i + d) elements (omega (arith, le, w.long))) in
       subst (λ m. mark_of (take m former) ≡ mark_of (take m elements)) n
-        (ap mark_of (take_one_more former (i + d) it.0 it.1) ∙ mark_step (take (i + d) former) (take (i + d) elements) it.0 (meet i d lt (omega (arith, le)) e) long ∙ sym (ap mark_of (take_one_more elements (i + d) it.0 also)))
+      (ap mark_of (take_one_more former (i + d) it.0 it.1) ∙ mark_step (take (i + d) former) (take (i + d) elements) it.0 (meet i d lt (omega (arith, le)) e) long ∙ sym (ap mark_of (take_one_more elements (i + d) it.0 also)))
 
 -- ---- the loop
 
@@ -92,8 +92,9 @@ refresh_step former elements rows rows' i below mark o is at lt e er =
     record {
       under = here;
       front = λ k l lk. elim (cases_eq k i) [
-          inl f ↦ ap (λ xs. slice_get xs k) er ∙ ap (λ j. slice_get (set rows i mark) j) f ∙ set_here rows i mark lt ∙ ap (λ m. Some m) here ∙ ap (λ j. Some (mark_of (take (j + 1) elements))) (sym f)
-        | inr ne ↦ ap (λ xs. slice_get xs k) er ∙ set_elsewhere rows i k mark ne ∙ is.front k (omega (arith, l, ne)) (omega (arith, lk, long)) ];
+        | inl f ↦ ap (λ xs. slice_get xs k) er ∙ ap (λ j. slice_get (set rows i mark) j) f ∙ set_here rows i mark lt ∙ ap (λ m. Some m) here ∙ ap (λ j. Some (mark_of (take (j + 1) elements))) (sym f)
+        | inr ne ↦ ap (λ xs. slice_get xs k) er ∙ set_elsewhere rows i k mark ne ∙ is.front k (omega (arith, l, ne)) (omega (arith, lk, long))
+      ];
       back = λ k l lk. ap (λ xs. slice_get xs k) er ∙ set_elsewhere rows i k mark (omega (arith, l)) ∙ is.back k (omega (arith, l)) (omega (arith, lk, long));
     }
 
@@ -103,15 +104,16 @@ refresh_end former elements rows i below is le k lt = is.front k (omega (arith, 
 pub refresh_stop : (former elements : List Open) (place : ℕ) (rows : List Mark) (i : ℕ) (below mark : Mark) (o : Open) → AreExchanged former elements place → AreRefreshed former elements rows i below →
     slice_get elements i ≡ Some o → place + 1 < i → length rows ≤ length former → mark ≡ mark_of (take i elements ++ o ∷ []) → slice_get rows i ≡ Some mark → AreRows elements rows
 refresh_stop former elements place rows i below mark o w is at above le e row k lt = elim (cases_lt k i) [
-    inl l ↦ is.front k l lt
+  | inl l ↦ is.front k l lt
   | inr l ↦ (let inside : i < length rows = slice_get_within rows i mark row in
       let old : mark ≡ mark_of (take (i + 1) former) = same_Some mark (mark_of (take (i + 1) former)) (sym row ∙ is.back i (omega arith) inside) in
       let now : mark ≡ mark_of (take (i + 1) elements) = e ∙ sym (ap mark_of (take_one_more elements i o at)) in
       let d : ℕ = k - i in
       let n : (i + 1) + d ≡ k + 1 = omega (arith, l) in
       let m : mark_of (take (k + 1) former) ≡ mark_of (take (k + 1) elements) =
-          subst (λ j. mark_of (take j former) ≡ mark_of (take j elements)) n (meet former elements place w (i + 1) d (omega (arith, above)) (omega (arith, n, lt, le)) (sym old ∙ now)) in
-      is.back k l lt ∙ ap (λ x. Some x) m) ]
+      subst (λ j. mark_of (take j former) ≡ mark_of (take j elements)) n (meet former elements place w (i + 1) d (omega (arith, above)) (omega (arith, n, lt, le)) (sym old ∙ now)) in
+      is.back k l lt ∙ ap (λ x. Some x) m)
+]
 
 -- ---- the keys
 
@@ -141,33 +143,35 @@ exchanged_keys former elements place n lower upper w le lt eu el =
     let long1 : length (set (map key_of (take n former)) place (key_of upper)) ≡ n = length-set (map key_of (take n former)) place (key_of upper) ∙ long in
     let long2 : length (set (set (map key_of (take n former)) place (key_of upper)) (place + 1) (key_of lower)) ≡ n = length-set (set (map key_of (take n former)) place (key_of upper)) (place + 1) (key_of lower) ∙ long1 in
     ext_get_or 0 (set (set (map key_of (take n former)) place (key_of upper)) (place + 1) (key_of lower)) (map key_of (take n elements))
-      (long2 ∙ sym (front_long n elements (omega (arith, le, w.long))))
-      (λ k l. elim (cases_eq k (place + 1)) [
-          inl e ↦ ap (λ j. get_or (set (set (map key_of (take n former)) place (key_of upper)) (place + 1) (key_of lower)) j 0) e
-              ∙ get_or-set_same (set (map key_of (take n former)) place (key_of upper)) (place + 1) (key_of lower) 0 (omega (arith, lt, long1))
-              ∙ sym (key_there n elements k lower (omega (arith, l, long2)) (ap (slice_get elements) e ∙ el))
-        | inr n1 ↦ get_or-set_other (set (map key_of (take n former)) place (key_of upper)) (place + 1) k (key_of lower) 0 n1 ∙ elim (cases_eq k place) [
-            inl e ↦ ap (λ j. get_or (set (map key_of (take n former)) place (key_of upper)) j 0) e
-                ∙ get_or-set_same (map key_of (take n former)) place (key_of upper) 0 (omega (arith, lt, long))
-                ∙ sym (key_there n elements k upper (omega (arith, l, long2)) (ap (slice_get elements) e ∙ eu))
-          | inr n0 ↦ get_or-set_other (map key_of (take n former)) place k (key_of upper) 0 n0
-              ∙ front_key n former k (omega (arith, l, long2)) ∙ ap key_or (sym (w.rest k n0 n1)) ∙ sym (front_key n elements k (omega (arith, l, long2))) ] ])
+    (long2 ∙ sym (front_long n elements (omega (arith, le, w.long))))
+    (λ k l. elim (cases_eq k (place + 1)) [
+      | inl e ↦ ap (λ j. get_or (set (set (map key_of (take n former)) place (key_of upper)) (place + 1) (key_of lower)) j 0) e
+          ∙ get_or-set_same (set (map key_of (take n former)) place (key_of upper)) (place + 1) (key_of lower) 0 (omega (arith, lt, long1))
+          ∙ sym (key_there n elements k lower (omega (arith, l, long2)) (ap (slice_get elements) e ∙ el))
+      | inr n1 ↦ get_or-set_other (set (map key_of (take n former)) place (key_of upper)) (place + 1) k (key_of lower) 0 n1 ∙ elim (cases_eq k place) [
+        | inl e ↦ ap (λ j. get_or (set (map key_of (take n former)) place (key_of upper)) j 0) e
+            ∙ get_or-set_same (map key_of (take n former)) place (key_of upper) 0 (omega (arith, lt, long))
+            ∙ sym (key_there n elements k upper (omega (arith, l, long2)) (ap (slice_get elements) e ∙ eu))
+        | inr n0 ↦ get_or-set_other (map key_of (take n former)) place k (key_of upper) 0 n0
+            ∙ front_key n former k (omega (arith, l, long2)) ∙ ap key_or (sym (w.rest k n0 n1)) ∙ sym (front_key n elements k (omega (arith, l, long2)))
+      ]
+    ])
 
 -- the whole index
 pub exchanged_index : (former elements : List Open) (place : ℕ) (old new : Marks) (lower upper : Open) → AreExchanged former elements place → place + 1 < length old.rows.items →
     slice_get elements place ≡ Some upper → slice_get elements (place + 1) ≡ Some lower → length new.rows.items ≡ length old.rows.items → AreRows elements new.rows.items →
     ((keys : List ℕ) → place + 1 < length keys → get_or keys place 0 ≡ key_of lower → get_or keys (place + 1) 0 ≡ key_of upper → AreLinks keys old.links.same.items old.links.next.items old.links.tops.items →
-      AreLinks (set (set keys place (key_of upper)) (place + 1) (key_of lower)) new.links.same.items new.links.next.items new.links.tops.items) →
+    AreLinks (set (set keys place (key_of upper)) (place + 1) (key_of lower)) new.links.same.items new.links.next.items new.links.tops.items) →
     IsIndex former old → IsIndex elements new
 exchanged_index former elements place old new lower upper w lt eu el long rows step is =
     let n : length (map key_of (take (length old.rows.items) former)) ≡ length old.rows.items = front_long (length old.rows.items) former is.within in
     let keys : set (set (map key_of (take (length old.rows.items) former)) place (key_of upper)) (place + 1) (key_of lower) ≡ map key_of (take (length old.rows.items) elements) =
-        exchanged_keys former elements place (length old.rows.items) lower upper w is.within lt eu el in
+    exchanged_keys former elements place (length old.rows.items) lower upper w is.within lt eu el in
     record {
       within = omega (arith, long, is.within, w.long);
       rows = rows;
       links = subst (λ ks. AreLinks ks new.links.same.items new.links.next.items new.links.tops.items) (keys ∙ ap (λ m. map key_of (take m elements)) (sym long))
           (step (map key_of (take (length old.rows.items) former)) (omega (arith, lt, n))
-            (key_there (length old.rows.items) former place lower (omega (arith, lt)) (sym w.upper ∙ el))
-            (key_there (length old.rows.items) former (place + 1) upper lt (sym w.lower ∙ eu)) is.links);
+          (key_there (length old.rows.items) former place lower (omega (arith, lt)) (sym w.upper ∙ el))
+          (key_there (length old.rows.items) former (place + 1) upper lt (sym w.lower ∙ eu)) is.links);
     }

@@ -100,13 +100,13 @@ scope_missed false false h n W E lw le is not_so = is not_so
 
 pub scope_search : {X : Type 0} (wanted ends : X → Bool) (xs : List X) → IsScopeSearch wanted ends xs
 scope_search wanted ends = by_ends (IsScopeSearch wanted ends)
-    (record { found = λ lt _. absurd (omega (arith, lt)); missed = λ _. refl; })
+    (record { found = λ lt _. absurd (omega (arith, lt)); missed = λ _. refl })
     (λ ys y is.
-      let outer : has_in_scope wanted ends (reverse (ys ++ y ∷ [])) ≡ (wanted y || (not (ends y) && has_in_scope wanted ends (reverse ys))) = ap (has_in_scope wanted ends) (reverse-append ys (y ∷ [])) in
-      record {
-        found = λ lt le. outer ∙ scope_found (wanted y) (ends y) (has_in_scope wanted ends (reverse ys)) (length ys) (last_place wanted ys) (last_place ends ys) (last_place_le wanted ys) (last_place_le ends ys) is.found
-            (subst (λ n. 0 < n) (last_place_push wanted ys y) lt) (subst (λ n. n ≤ (if wanted y then length ys + 1 else last_place wanted ys)) (last_place_push ends ys y) (subst (λ n. last_place ends (ys ++ y ∷ []) ≤ n) (last_place_push wanted ys y) le));
-        missed = λ not_so. outer ∙ scope_missed (wanted y) (ends y) (has_in_scope wanted ends (reverse ys)) (length ys) (last_place wanted ys) (last_place ends ys) (last_place_le wanted ys) (last_place_le ends ys) is.missed
-            (λ lt le. not_so (subst (λ n. 0 < n) (sym (last_place_push wanted ys y)) lt)
-              (subst (λ n. n ≤ last_place wanted (ys ++ y ∷ [])) (sym (last_place_push ends ys y)) (subst (λ n. (if ends y then length ys + 1 else last_place ends ys) ≤ n) (sym (last_place_push wanted ys y)) le)));
-      })
+    let outer : has_in_scope wanted ends (reverse (ys ++ y ∷ [])) ≡ (wanted y || (not (ends y) && has_in_scope wanted ends (reverse ys))) = ap (has_in_scope wanted ends) (reverse-append ys (y ∷ [])) in
+    record {
+      found = λ lt le. outer ∙ scope_found (wanted y) (ends y) (has_in_scope wanted ends (reverse ys)) (length ys) (last_place wanted ys) (last_place ends ys) (last_place_le wanted ys) (last_place_le ends ys) is.found
+          (subst (λ n. 0 < n) (last_place_push wanted ys y) lt) (subst (λ n. n ≤ (if wanted y then length ys + 1 else last_place wanted ys)) (last_place_push ends ys y) (subst (λ n. last_place ends (ys ++ y ∷ []) ≤ n) (last_place_push wanted ys y) le));
+      missed = λ not_so. outer ∙ scope_missed (wanted y) (ends y) (has_in_scope wanted ends (reverse ys)) (length ys) (last_place wanted ys) (last_place ends ys) (last_place_le wanted ys) (last_place_le ends ys) is.missed
+          (λ lt le. not_so (subst (λ n. 0 < n) (sym (last_place_push wanted ys y)) lt)
+          (subst (λ n. n ≤ last_place wanted (ys ++ y ∷ [])) (sym (last_place_push ends ys y)) (subst (λ n. (if ends y then length ys + 1 else last_place ends ys) ≤ n) (sym (last_place_push wanted ys y)) le)));
+    })

@@ -1,5 +1,5 @@
 -- Searches of the stack of open elements by its index, and what the stack's methods do to the index.
-use Rattle.std.proofs.Common.{ℕ, zero, suc, ◌≡◌, ◌+◌, ◌-◌, ◌<◌, ◌≤◌, max, Bool, true, false, ◌||◌, List, [], ◌∷◌, ◌++◌, length, take, set, refl, sym, ap, ◌∙◌, subst, arith, if◌then◌else◌}
+use Rattle.std.proofs.Common.{ℕ, zero, suc, ◌≡◌, ◌+◌, ◌-◌, ◌<◌, ◌≤◌, ◌⊎◌, inl, inr, max, Bool, true, false, ◌||◌, List, [], ◌∷◌, ◌++◌, length, take, set, refl, sym, ap, ◌∙◌, subst, arith, if◌then◌else◌}
 use Rattle.std.specs.Prelude.{Option, Some, None, remove, slice_get}
 use Rattle.std.specs.List.{list_any}
 use Rattle.std.specs.Option.{option_to_list}
@@ -11,7 +11,7 @@ use Rattle.html5_trees.specs.declared.name.Name.{Name}
 use Rattle.html5_trees.specs.declared.stack.Open.{Open}
 use Rattle.html5_trees.specs.declared.stack.marks.Marks.{Marks}
 use Rattle.html5_trees.proofs.IndexLemmas.{front_index}
-use Rattle.html5_trees.proofs.RefreshLemmas.{set_elsewhere, set_here}
+use Rattle.html5_trees.proofs.RefreshLemmas.{same_below, set_elsewhere, set_here}
 use Rattle.html5_trees.proofs.ScopeLemmas.{last_place_none, last_place_or}
 
 -- the index answers for the elements that have entries, the others were looked at
@@ -66,7 +66,8 @@ index_taken xs ys marks (Some o) e le is =
 
 take_removed : {X : Type 0} (n i : ℕ) (xs : List X) → n ≤ i → take n (remove xs i) ≡ take n xs
 take_removed zero i xs le = refl
-take_removed (suc n) i [] le = refl
+take_removed (suc n) zero [] le = absurd (omega (arith, le))
+take_removed (suc n) (suc i) [] le = refl
 take_removed (suc n) zero (x ∷ xs) le = absurd (omega (arith, le))
 take_removed (suc n) (suc i) (x ∷ xs) le = ap (λ ys. x ∷ ys) (take_removed n i xs (omega (arith, le)))
 
@@ -96,3 +97,13 @@ set_exchanged xs mid ys i lower upper el eu lt em ey =
 
 pub below_still : {X : Type 0} (xs ys : List X) (y : X) (n : ℕ) → xs ≡ ys ++ y ∷ [] → n < length xs → n ≤ length ys
 below_still xs ys y n e lt = omega (arith, lt, ap length e, length-append ys (y ∷ []))
+
+-- the index follows an exchange, or has no entries there
+pub exchanged_stack : (xs ys slice : List Open) (m0 m1 m2 : Marks) (place : ℕ) → slice ≡ ys → m1 ≡ m0 → (place + 1 < length m0.rows.items) ⊎ (length m0.rows.items ≤ place) → AreExchanged xs ys place → IsIndex xs m0 →
+    ((former : List Open) → place + 1 < length m1.rows.items → AreExchanged former slice place → IsIndex former m1 → IsIndex slice m2) → (length m1.rows.items ≤ place → m2 ≡ m1) → IsIndex ys m2
+exchanged_stack xs ys slice m0 m1 m2 place es em (inl lt) w is moves stays =
+    let lt1 : place + 1 < length m1.rows.items = omega (arith, lt, ap (λ (m : Marks). length m.rows.items) em) in
+    subst (λ zs. IsIndex zs m2) es (moves xs lt1 (subst (λ zs. AreExchanged xs zs place) (sym es) w) (subst (λ m. IsIndex xs m) (sym em) is))
+exchanged_stack xs ys slice m0 m1 m2 place es em (inr le) w is moves stays =
+    let le1 : length m1.rows.items ≤ place = omega (arith, le, ap (λ (m : Marks). length m.rows.items) em) in
+    subst (λ m. IsIndex ys m) (sym (stays le1 ∙ em)) (front_index xs ys m0 (same_below xs ys place w (length m0.rows.items) le) (omega (arith, is.within, w.long)) is)

@@ -2,14 +2,13 @@
 //! with `TooManyNodes` if there are too many names.
 
 ghost use Rattle.std.specs.Prelude.{◌≡◌, [], ◌∷◌, ◌++◌, Contains, IfNone, IfSome, OnErr, OnOk};
-ghost use Rattle.std.specs.Prelude.{◌+◌, ◌-◌, ◌<◌, ◌≤◌, ◌↔◌, IsTrue, List, drop, false, insert};
+ghost use Rattle.std.specs.Prelude.{◌+◌, ◌-◌, ◌<◌, ◌≤◌, ◌↔◌, ◌⊎◌, IsTrue, List, drop, false, insert};
 ghost use Rattle.std.specs.Prelude.{length, remove, reverse, slice_get, slice_set, take};
-ghost use Rattle.std.specs.List.{list_any};
 ghost use Rattle.std.specs.Option.{option_map_or, option_to_list};
 ghost use Rattle.html5_trees.specs.Popping.{first_from, up_to_last};
 ghost use Rattle.html5_trees.specs.Scopes.{ends_in, has_in_scope, has_name, is_among, is_named};
 ghost use Rattle.html5_trees.specs.Scopes.{is_named_like, last_place};
-ghost use Rattle.html5_trees.specs.SearchIndex.{IsIndexed, is_sought};
+ghost use Rattle.html5_trees.specs.SearchIndex.{IsIndex, IsIndexed, is_sought};
 ghost use Rattle.html5_trees.specs.Sets.{ends_context, ends_scope, ends_select, has_html_content};
 ghost use Rattle.html5_trees.specs.Sets.{is_in_html, is_special_element};
 ghost use Rattle.html5_trees.specs.declared.stack.Open.{Open as AnOpen};
@@ -259,12 +258,23 @@ impl OpenElements {
             slice_set self.old.elements.items place copy.now }
         ensures index { IsIndexed self.old → IsIndexed self.new }
     {
-        if let Some(old) = self.get(place)
-            && !old.is_named_like(copy)
-        {
-            self.marks.cut(place, self.elements.as_slice());
-        }
+        self.forget(place, copy);
         self.put(place, copy);
+    }
+
+    /// Removes the entries of the search index that are wrong after a copy replaces the element at
+    /// an index of the stack.
+    fn forget(&mut self, place: usize, copy: &Open)
+        ensures elements { self.new.elements ≡ self.old.elements }
+        ensures index { let elements = slice_set self.old.elements.items place copy.now in
+            IsIndexed self.old → IsIndex elements self.new.marks }
+    {
+        if let Some(old) = self.get(place)
+            && old.is_named_like(copy)
+        {
+            return;
+        }
+        self.marks.cut(place, self.elements.as_slice());
     }
 
     /// Removes the element at an index of the stack, and inserts a copy of it after the element at
@@ -296,15 +306,24 @@ impl OpenElements {
         let (Some(lower), Some(upper)) = (self.get(place), self.behind(place)) else {
             return;
         };
-        if self.marks.len() <= place + 1 {
-            self.marks.cut(place, self.elements.as_slice());
-            self.put(place, &upper);
-            self.put(place + 1, &lower);
-            return;
-        }
+        self.reach(place);
         self.put(place, &upper);
         self.put(place + 1, &lower);
         self.marks.exchange(place, self.elements.as_slice());
+    }
+
+    /// Removes the entries of the search index from an index on, unless the next element has one.
+    fn reach(&mut self, place: usize)
+        requires { place + 1 < length self.old.elements.items }
+        ensures elements { self.new.elements ≡ self.old.elements }
+        ensures index { IsIndexed self.old → IsIndexed self.new }
+        ensures rows { let count = length self.new.marks.rows.items in
+            (place + 1 < count) ⊎ (count ≤ place) }
+    {
+        if self.marks.len() > place + 1 {
+            return;
+        }
+        self.marks.cut(place, self.elements.as_slice());
     }
 
     /// Writes an element at an index of the stack. The caller brings the search index up to date.
@@ -394,8 +413,8 @@ impl OpenElements {
 
     /// Returns whether an HTML element with that name is open.
     pub fn has(&self, name: Name) -> bool
-        ensures { IsIndexed self.now →
-            result ≡ list_any (is_named name) self.now.elements.items }
+        ensures { IsIndexed self.now → IsTrue result ↔
+            (0 < last_place (is_named name) self.now.elements.items) }
     {
         self.top(name) > 0
     }
@@ -434,8 +453,7 @@ impl OpenElements {
             Scope::Button => self.last(Sought::ScopeEnd).max(self.top(Name::Button)),
             Scope::Table => {
                 let top = self.top(Name::Html);
-                top.max(self.top(Name::Table))
-                    .max(self.top(Name::Template))
+                top.max(self.top(Name::Table)).max(self.top(Name::Template))
             }
             Scope::Select => self.select_scope_end(),
         }
@@ -546,7 +564,7 @@ impl OpenElements {
     pub fn is_in_table(&self) -> bool
         ensures { let elements = self.now.elements.items in IsIndexed self.now → IsTrue result ↔
             (last_place (is_named Name.Template) elements <
-                last_place (is_named Name.Table) elements) }
+            last_place (is_named Name.Table) elements) }
     {
         self.top(Name::Template) < self.top(Name::Table)
     }

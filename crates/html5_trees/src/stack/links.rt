@@ -164,7 +164,7 @@ impl Links {
             slice_index keys place ≡ lower → slice_index keys (place + 1) ≡ upper →
             AreLinks keys self.old.same.items self.old.next.items self.old.tops.items →
             AreLinks (slice_set (slice_set keys place upper) (place + 1) lower)
-                self.new.same.items self.new.next.items self.new.tops.items }
+            self.new.same.items self.new.next.items self.new.tops.items }
     {
         let above = place.saturating_add(1);
         if lower == upper || above >= self.same.len() {

@@ -89,7 +89,11 @@ pub fn key_for(is_html: bool, name: Name, number: u32) -> usize
 pub fn key_of(element: &Open) -> usize
     ensures { result ≡ the_key element.now }
 {
-    key_for(element.ns == ElementNamespace::Html, element.name, element.number)
+    key_for(
+        element.ns == ElementNamespace::Html,
+        element.name,
+        element.number,
+    )
 }
 
 /// What a search looks for.
@@ -249,13 +253,14 @@ impl Marks {
         false
     }
 
-    /// Updates the entries after the elements at an index of the stack and at the next one, which
-    /// both have entries, changed places. It takes as many steps as there are elements up to the
+    /// Updates the entries after the elements at an index of the stack and at the next one changed
+    /// places. Both have entries, or neither has. It takes as many steps as there are elements up to the
     /// next one for which all answers stay the same.
     pub fn exchange(&mut self, place: usize, elements: &[Open])
-        ensures { (former : List AnOpen) → place + 1 < length self.old.rows.items →
+        ensures index { (former : List AnOpen) → place + 1 < length self.old.rows.items →
             AreExchanged former elements.now place →
             IsIndex former self.old → IsIndex elements.now self.new }
+        ensures kept { length self.old.rows.items ≤ place → self.new ≡ self.old }
     {
         if place >= self.rows.len() {
             return;

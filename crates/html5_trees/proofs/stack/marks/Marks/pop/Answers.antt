@@ -12,7 +12,7 @@ returns-in-Some-clause-index c is =
     let none : IfNone c.pop.result (c.args.self.now.rows.items ≡ []) = search rules in
     let place : length c.pop.new.self.items ≡ length c.as_slice.result.now = omega (arith, ap length c.as_slice.ensures.value) in
     let at_end : slice_get c.args.elements.now (length c.as_slice.result.now) ≡ Some c.in-Some.element.now =
-        slice_get_read c.args.elements.now (length c.args.elements.now) (length c.as_slice.result.now) c.in-Some.element.now refl c.in-Some.ensures.lookup.3.0 c.in-Some.ensures.lookup.1 in
+    slice_get_read c.args.elements.now (length c.args.elements.now) (length c.as_slice.result.now) c.in-Some.element.now refl c.in-Some.ensures.lookup.3.0 c.in-Some.ensures.lookup.1 in
     popped_off c.args.elements.now c.args.self.now new c.in-Some.element.now c.pop.result c.pop.ensures.items none c.requires (ap (slice_get c.args.elements.now) place ∙ at_end)
-      (λ keys old. c.pop-in-Some.ensures keys
-        (subst (λ k. AreLinks (keys ++ k ∷ []) c.args.self.now.links.same.items c.args.self.now.links.next.items c.args.self.now.links.tops.items) (sym c.key_of.ensures) old)) is
+    (λ keys old. c.pop-in-Some.ensures keys
+    (subst (λ k. AreLinks (keys ++ k ∷ []) c.args.self.now.links.same.items c.args.self.now.links.next.items c.args.self.now.links.tops.items) (sym c.key_of.ensures) old)) is

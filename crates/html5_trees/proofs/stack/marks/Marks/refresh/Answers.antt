@@ -18,10 +18,10 @@ returns-then-has_row-clause-rows c former lt w is le =
     let so : AreRefreshed former c.args.elements.now c.loop-index.self.rows.items c.loop-index.index c.loop-index.below = c.loop-index.invariant.rows former lt w is le in
     let here : c.loop-index.index < length c.args.elements.now = c.in-Some.ensures.lookup.3.0 in
     let at : slice_get c.args.elements.now c.loop-index.index ≡ Some c.in-Some.element.now =
-        slice_get_read c.args.elements.now (length c.args.elements.now) c.loop-index.index c.in-Some.element.now refl c.in-Some.ensures.lookup.3.0 c.in-Some.ensures.lookup.1 in
+    slice_get_read c.args.elements.now (length c.args.elements.now) c.loop-index.index c.in-Some.element.now refl c.in-Some.ensures.lookup.3.0 c.in-Some.ensures.lookup.1 in
     let top : c.loop-index.index + 1 ≡ length (take c.loop-index.index c.args.elements.now) + 1 = omega (arith, length-take-le c.loop-index.index c.args.elements.now (omega (arith, here))) in
     refresh_stop former c.args.elements.now c.args.place c.loop-index.self.rows.items c.loop-index.index c.loop-index.below c.found-mark.result c.in-Some.element.now w so at
-      (omega arith) (omega (arith, c.loop-index.invariant.long, le)) (c.found-mark.ensures (take c.loop-index.index c.args.elements.now) so.under top) (c.has_row.ensures c.if-has_row.true)
+    (omega arith) (omega (arith, c.loop-index.invariant.long, le)) (c.found-mark.ensures (take c.loop-index.index c.args.elements.now) so.under top) (c.has_row.ensures c.if-has_row.true)
 
 pub loop-index-preserved : goal.loop-index-preserved
 loop-index-preserved c = record {
@@ -31,14 +31,14 @@ loop-index-preserved c = record {
       let so : AreRefreshed former c.args.elements.now c.loop-index.self.rows.items c.loop-index.index c.loop-index.below = c.loop-index.invariant.rows former lt w is le in
       let here : c.loop-index.index < length c.args.elements.now = c.in-Some.ensures.lookup.3.0 in
       let at : slice_get c.args.elements.now c.loop-index.index ≡ Some c.in-Some.element.now =
-          slice_get_read c.args.elements.now (length c.args.elements.now) c.loop-index.index c.in-Some.element.now refl c.in-Some.ensures.lookup.3.0 c.in-Some.ensures.lookup.1 in
+      slice_get_read c.args.elements.now (length c.args.elements.now) c.loop-index.index c.in-Some.element.now refl c.in-Some.ensures.lookup.3.0 c.in-Some.ensures.lookup.1 in
       let top : c.loop-index.index + 1 ≡ length (take c.loop-index.index c.args.elements.now) + 1 = omega (arith, length-take-le c.loop-index.index c.args.elements.now (omega (arith, here))) in
       refresh_step former c.args.elements.now c.loop-index.self.rows.items c.put_row.new.self.rows.items c.loop-index.index c.loop-index.below c.found-mark.result c.in-Some.element.now so at
-        (omega (arith, c.loop-index-test.true, ap length c.as_slice-index-end.ensures.value, c.loop-index.invariant.long))
-        (c.found-mark.ensures (take c.loop-index.index c.args.elements.now) so.under top) c.put_row.ensures.rows;
+      (omega (arith, c.loop-index-test.true, ap length c.as_slice-index-end.ensures.value, c.loop-index.invariant.long))
+      (c.found-mark.ensures (take c.loop-index.index c.args.elements.now) so.under top) c.put_row.ensures.rows;
 }
 
 pub returns-clause-rows : goal.returns-clause-rows
 returns-clause-rows c former lt w is le =
     refresh_end former c.args.elements.now c.loop-index.self.rows.items c.loop-index.index c.loop-index.below (c.loop-index.invariant.rows former lt w is le)
-      (omega (arith, c.loop-index-test.false, ap length c.as_slice-index-end.ensures.value, c.loop-index.invariant.long))
+    (omega (arith, c.loop-index-test.false, ap length c.as_slice-index-end.ensures.value, c.loop-index.invariant.long))
