@@ -10,3 +10,10 @@ mod PlacingLemmas
 mod Carrying
 mod FormattingLemmas
 mod NameLemmas
+mod LinkLemmas
+mod LinkLists
+mod ScopeLemmas
+mod IndexLemmas
+mod AlikeLemmas
+mod RefreshLemmas
+mod StackSearches

@@ -55,7 +55,7 @@ ended : {X : Type 0} (b : Bool) (y : X) → (if b || false then y ∷ [] else []
 ended true y = refl
 ended false y = refl
 
-up_to_last_push : {X : Type 0} (p : X → Bool) (xs : List X) (y : X) → up_to_last p (xs ++ y ∷ []) ≡ (if p y then xs ++ y ∷ [] else up_to_last p xs)
+pub up_to_last_push : {X : Type 0} (p : X → Bool) (xs : List X) (y : X) → up_to_last p (xs ++ y ∷ []) ≡ (if p y then xs ++ y ∷ [] else up_to_last p xs)
 up_to_last_push p [] y = ended (p y) y
 up_to_last_push p (x ∷ xs) y = step (list_any p (x ∷ xs)) (p y) _ x _ _ (xs ++ y ∷ []) (any_push p (x ∷ xs) y) (up_to_last_push p xs y)
 

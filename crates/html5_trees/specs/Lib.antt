@@ -11,3 +11,6 @@ pub mod Quirks
 pub mod Modes
 pub mod Formatting
 pub mod Names
+pub mod Scopes
+pub mod Links
+pub mod SearchIndex

@@ -1,6 +1,14 @@
 //! A search index over the stack of open elements: each search takes constant time. A call that
 //! returns a `Result` fails only when memory runs out.
 
+ghost use Rattle.std.specs.Prelude.{◌≡◌, ◌+◌, ◌<◌, ◌≤◌, [], ◌∷◌, ◌++◌, List, Some, false};
+ghost use Rattle.std.specs.Prelude.{if◌then◌else◌, length, slice_get, slice_index, slice_set, take, true};
+ghost use Rattle.html5_trees.specs.Scopes.{last_place};
+ghost use Rattle.html5_trees.specs.SearchIndex.{AreExchanged, AreRows, IsIndex, is_sought, key_for};
+ghost use Rattle.html5_trees.specs.SearchIndex.{key_of as the_key, mark_of};
+ghost use Rattle.html5_trees.specs.declared.stack.Open.{Open as AnOpen};
+
+use super::links::Links;
 use super::{ElementNamespace, Open};
 use crate::fault::PageFault;
 use crate::name::{COUNT, Name};
@@ -11,11 +19,6 @@ use std::alloc::Global;
 /// the stack, and 0 means that there is none.
 #[derive(Clone, Copy, Drop)]
 pub struct Mark {
-    /// The previous element with the same name that is an HTML element or a foreign one, like this
-    /// one.
-    same: usize,
-    /// The next such element.
-    next: usize,
     /// The last HTML element up to here.
     html: usize,
     /// The last special element up to here.
@@ -28,22 +31,16 @@ pub struct Mark {
 
 /// The answers for an empty stack.
 const NOTHING: Mark = Mark {
-    same: 0,
-    next: 0,
     html: 0,
     special: 0,
     ends: 0,
     item_ends: 0,
 };
 
-/// Returns this position if the element qualifies, and otherwise the one found before.
-fn topmost_of(is_one: bool, top: usize, below: usize) -> usize {
-    if is_one { top } else { below }
-}
-
 impl Mark {
-    /// Returns whether the other entry has the same answers, apart from those about names.
-    fn has_answers_of(&self, other: &Mark) -> bool {
+    fn is_same(&self, other: &Mark) -> bool
+        ensures { result ≡ true → self.now ≡ other.now }
+    {
         self.html == other.html
             && self.special == other.special
             && self.ends == other.ends
@@ -51,280 +48,285 @@ impl Mark {
     }
 }
 
-/// Returns the answers for an element at index `top` - 1, apart from those about names; `below` has
-/// those for the element before it.
-fn found(open: &Open, top: usize, below: &Mark) -> Mark {
-    let special = is_special(open);
-    let is_html = open.ns == ElementNamespace::Html;
+/// Returns this position if the element qualifies, and otherwise the one found before.
+fn topmost_of(is_one: bool, top: usize, below: usize) -> usize
+    ensures { result ≡ (if is_one then top else below) }
+{
+    if is_one { top } else { below }
+}
+
+/// Returns the answers for an element at index `top` - 1; `below` has those for the element before
+/// it.
+fn found(element: &Open, top: usize, below: &Mark) -> Mark
+    ensures { (elements : List AnOpen) → below.now ≡ mark_of elements →
+        top ≡ length elements + 1 → result ≡ mark_of (elements ++ element.now ∷ []) }
+{
     Mark {
-        html: topmost_of(is_html, top, below.html),
-        special: topmost_of(special, top, below.special),
-        ends: topmost_of(ends_default_scope(open), top, below.ends),
-        item_ends: topmost_of(special && !is_crossed_by_items(open), top, below.item_ends),
-        ..NOTHING
+        html: topmost_of(Sought::Html.is(element), top, below.html),
+        special: topmost_of(Sought::Special.is(element), top, below.special),
+        ends: topmost_of(Sought::ScopeEnd.is(element), top, below.ends),
+        item_ends: topmost_of(Sought::ItemEnd.is(element), top, below.item_ends),
     }
 }
 
-/// The last HTML element and the last foreign element with some name, as one more than an index.
+/// Returns a number that elements with the same name share, if both are HTML elements or neither
+/// is. `number` is that of a name that is not in `Name`.
+pub fn key_for(is_html: bool, name: Name, number: u32) -> usize
+    ensures { result ≡ key_for is_html name number }
+{
+    let name_number = if name == Name::Other {
+        COUNT + number as usize
+    } else {
+        name as usize
+    };
+    if is_html {
+        name_number * 2
+    } else {
+        name_number * 2 + 1
+    }
+}
+
+pub fn key_of(element: &Open) -> usize
+    ensures { result ≡ the_key element.now }
+{
+    key_for(
+        element.ns == ElementNamespace::Html,
+        element.name,
+        element.number,
+    )
+}
+
+/// What a search looks for.
 #[derive(Clone, Copy, Drop)]
-pub struct Tops {
-    pub html: usize,
-    pub foreign: usize,
+pub enum Sought {
+    /// An HTML element.
+    Html,
+    /// A special element.
+    Special,
+    /// An element that ends the default scope.
+    ScopeEnd,
+    /// A special element that ends the search for an open list item.
+    ItemEnd,
+    /// An element with this key.
+    Key(usize),
 }
 
-/// There is no element with the name.
-const NONE: Tops = Tops {
-    html: 0,
-    foreign: 0,
-};
-
-fn put(all: &mut [Tops], index: usize, tops: Tops) {
-    if let Some(entry) = all.get_mut(index) {
-        *entry = tops;
+impl Sought {
+    /// Returns whether the search ends at an element.
+    pub fn is(self, element: &Open) -> bool
+        ensures { result ≡ is_sought self element.now }
+    {
+        match self {
+            Sought::Html => element.ns == ElementNamespace::Html,
+            Sought::Special => is_special(element),
+            Sought::ScopeEnd => ends_default_scope(element),
+            Sought::ItemEnd => is_special(element) && !is_crossed_by_items(element),
+            Sought::Key(key) => key_of(element) == key,
+        }
     }
 }
 
-/// Returns whether two elements have the same name, and both are HTML elements or neither is.
-fn is_alike(one: &Open, other: &Open) -> bool {
-    (one.ns == ElementNamespace::Html) == (other.ns == ElementNamespace::Html)
-        && one.name == other.name
-        && one.number == other.number
-}
-
-/// The index over the stack, one entry for each element. The entries from some position on may be
-/// missing while elements there change.
+/// The index over the stack, with one entry for each element. The entries from some position on may
+/// be missing while elements there change.
 #[derive(Drop)]
 pub struct Marks {
     rows: Vec<Mark>,
-    /// For each name, the last elements that have entries.
-    tops: [Tops; COUNT],
-    /// For each number of a name that is not in `Name`, the last elements that have entries.
-    others: Vec<Tops>,
+    links: Links,
 }
 
 impl Marks {
-    pub fn new(alloc: Global) -> Marks {
+    pub fn new(alloc: Global) -> Marks
+        ensures { IsIndex [] result }
+    {
         Marks {
             rows: Vec::new(alloc),
-            tops: [NONE; COUNT],
-            others: Vec::new(alloc),
+            links: Links::new(alloc),
         }
     }
 
-    fn last(&self) -> Mark {
-        self.rows.last().copied().unwrap_or(NOTHING)
+    /// Returns how many elements have entries.
+    pub fn len(&self) -> usize
+        ensures { result ≡ length self.now.rows.items }
+    {
+        self.rows.as_slice().len()
     }
 
-    /// Returns the last special element. Like all searches below, it returns one more than an
-    /// index, and 0 if there is none.
-    pub fn special(&self) -> usize {
-        self.last().special
-    }
-
-    /// Returns the last element that ends the default scope.
-    pub fn ends(&self) -> usize {
-        self.last().ends
-    }
-
-    /// Returns the last special element that ends the search for an open list item.
-    pub fn item_ends(&self) -> usize {
-        self.last().item_ends
-    }
-
-    /// Returns the last HTML element.
-    pub fn html(&self) -> usize {
-        self.last().html
-    }
-
-    fn tops(&self, name: Name) -> Tops {
-        self.tops.get(name as usize).copied().unwrap_or(NONE)
-    }
-
-    /// Returns the last HTML element with that name, which is not `Other`.
-    pub fn top(&self, name: Name) -> usize {
-        self.tops(name).html
-    }
-
-    /// Returns the last foreign element with that name, which is not `Other`.
-    pub fn top_foreign(&self, name: Name) -> usize {
-        self.tops(name).foreign
-    }
-
-    /// Returns the last elements with the name that has this number.
-    pub fn top_other(&self, number: u32) -> Tops {
-        self.others.get(number as usize).copied().unwrap_or(NONE)
-    }
-
-    /// Returns the last HTML element with one of these names.
-    pub fn topmost(&self, names: &[Name]) -> usize {
-        let mut topmost = 0;
-        for name in names {
-            topmost = self.top(*name).max(topmost);
-        }
-        topmost
-    }
-
-    /// Returns the previous element like the one at an index: with the same name, and an HTML
-    /// element or a foreign one like it.
-    pub fn same(&self, place: usize) -> usize {
-        match self.rows.get(place) {
-            Some(mark) => mark.same,
-            None => 0,
+    /// Returns the entry of the last element that has one.
+    fn last_row(&self) -> Mark
+        ensures { (elements : List AnOpen) → IsIndex elements self.now →
+            result ≡ mark_of (take (length self.now.rows.items) elements) }
+    {
+        match self.rows.as_slice().last() {
+            Some(mark) => *mark,
+            None => NOTHING,
         }
     }
 
-    /// Returns the last elements with the name of this element.
-    fn tops_of(&self, open: &Open) -> Tops {
-        match open.name {
-            Name::Other => self.top_other(open.number),
-            _ => self.tops(open.name),
+    /// Returns one more than the index of the last element that the search looks for, among those
+    /// that have entries; 0 if there is none.
+    pub fn last(&self, sought: Sought) -> usize
+        ensures { (elements : List AnOpen) → IsIndex elements self.now →
+            result ≡ last_place (is_sought sought) (take (length self.now.rows.items) elements) }
+    {
+        match sought {
+            Sought::Html => self.last_row().html,
+            Sought::Special => self.last_row().special,
+            Sought::ScopeEnd => self.last_row().ends,
+            Sought::ItemEnd => self.last_row().item_ends,
+            Sought::Key(key) => self.links.top(key),
         }
     }
 
-    fn set_top(&mut self, open: &Open, top: usize) {
-        let old = self.tops_of(open);
-        let tops = match open.ns {
-            ElementNamespace::Html => Tops { html: top, ..old },
-            _ => Tops {
-                foreign: top,
-                ..old
-            },
-        };
-        match open.name {
-            Name::Other => put(self.others.as_mut_slice(), open.number as usize, tops),
-            _ => put(&mut self.tops, open.name as usize, tops),
-        }
+    /// Returns one more than the index of the previous element with the key of the one at an index.
+    pub fn same(&self, place: usize) -> usize
+        ensures { result ≡ slice_index self.now.links.same.items place }
+    {
+        self.links.same(place)
     }
 
-    /// Reserves memory for the name that has this number.
-    pub fn make_room(&mut self, number: u32) -> Result<(), PageFault> {
-        if number as usize >= self.others.len() {
-            self.others.push(NONE)?;
-        }
-        Ok(())
+    /// Reserves memory for the entry of one more element, which has that key.
+    pub fn reserve(&mut self, count: usize, key: usize) -> Result<(), PageFault>
+        ensures { (elements : List AnOpen) →
+            IsIndex elements self.old → IsIndex elements self.new }
+    {
+        let more = count.saturating_sub(self.rows.len());
+        self.rows.reserve(more)?;
+        self.links.reserve(more)?;
+        self.links.make_room(key)
     }
 
-    /// Reserves memory for the entries of a stack of `count` elements.
-    pub fn reserve(&mut self, count: usize) -> Result<(), PageFault> {
-        self.rows.reserve(count.saturating_sub(self.rows.len()))?;
-        Ok(())
+    /// Removes the entry of the last element that has one.
+    fn pop(&mut self, elements: &[Open])
+        requires { 0 < length self.old.rows.items }
+        ensures index { IsIndex elements.now self.old → IsIndex elements.now self.new }
+        ensures short { length self.new.rows.items + 1 ≡ length self.old.rows.items }
+    {
+        let _ = self.rows.pop();
+        if let Some(element) = elements.get(self.rows.as_slice().len()) {
+            self.links.pop(key_of(element));
+        }
     }
 
     /// Removes the entries from an index on.
-    pub fn cut(&mut self, place: usize, elements: &[Open]) {
-        for index in (place..self.rows.len()).rev() {
-            if let Some(mark) = self.rows.pop()
-                && let Some(open) = elements.get(index)
-            {
-                self.set_top(open, mark.same);
-                self.set_next(mark.same, 0);
+    pub fn cut(&mut self, place: usize, elements: &[Open])
+        ensures index { IsIndex elements.now self.old → IsIndex elements.now self.new }
+        ensures short { length self.new.rows.items ≤ place }
+    {
+        while self.rows.as_slice().len() > place {
+            self.pop(elements);
+        }
+    }
+
+    /// Adds the missing entries, as far as memory is reserved for them.
+    pub fn fill(&mut self, elements: &[Open])
+        ensures { IsIndex elements.now self.old → IsIndex elements.now self.new }
+    {
+        for _ in self.rows.as_slice().len()..elements.len() {
+            self.add_next(elements);
+        }
+    }
+
+    /// Adds an entry for the first element that has none, if there is one.
+    fn add_next(&mut self, elements: &[Open])
+        ensures { IsIndex elements.now self.old → IsIndex elements.now self.new }
+    {
+        if let Some(element) = elements.get(self.rows.as_slice().len()) {
+            let _ = self.add(element);
+        }
+    }
+
+    /// Adds an entry for an element. Returns whether memory was reserved for it; otherwise nothing
+    /// is added.
+    fn add(&mut self, element: &Open) -> bool
+        ensures { (elements : List AnOpen) →
+            slice_get elements (length self.old.rows.items) ≡ Some element.now →
+            IsIndex elements self.old → IsIndex elements self.new }
+    {
+        let count = self.rows.as_slice().len();
+        if count < self.rows.capacity() {
+            let mark = found(element, count + 1, &self.last_row());
+            if self.links.add(key_of(element)) {
+                self.rows.push_reserved(mark);
+                return true;
             }
         }
+        false
     }
 
-    /// Adds the missing entries, whose memory is already reserved.
-    pub fn fill(&mut self, elements: &[Open]) {
-        for index in self.rows.len()..elements.len() {
-            if let Some(open) = elements.get(index) {
-                self.add(open);
-            }
-        }
-    }
-
-    fn add(&mut self, open: &Open) {
-        let top = self.rows.len().saturating_add(1);
-        let tops = self.tops_of(open);
-        let same = if open.ns == ElementNamespace::Html {
-            tops.html
-        } else {
-            tops.foreign
-        };
-        let mark = found(open, top, &self.last());
-        if self.rows.len() < self.rows.capacity() {
-            self.rows.push_reserved(Mark { same, ..mark });
-            self.set_next(same, top);
-            self.set_top(open, top);
-        }
-    }
-
-    /// Notes the next element like the one at index `place` - 1.
-    fn set_next(&mut self, place: usize, next: usize) {
-        if let Some(index) = place.checked_sub(1)
-            && let Some(mark) = self.rows.get_mut(index)
-        {
-            mark.next = next;
-        }
-    }
-
-    /// Notes the previous element like the one at index `place` - 1.
-    fn set_same(&mut self, place: usize, same: usize) {
-        if let Some(index) = place.checked_sub(1)
-            && let Some(mark) = self.rows.get_mut(index)
-        {
-            mark.same = same;
-        }
-    }
-
-    /// Updates the entries, none of which is missing, after the elements at an index of the stack
-    /// and at the next one changed places. It takes as many steps as there are elements up to the
+    /// Updates the entries after the elements at an index of the stack and at the next one changed
+    /// places. Both have entries, or neither has. It takes as many steps as there are elements up to the
     /// next one for which all answers stay the same.
-    pub fn exchange(&mut self, place: usize, elements: &[Open]) {
-        let upper_place = place.saturating_add(1);
-        if let Some(lower) = elements.get(place)
-            && let Some(upper) = elements.get(upper_place)
-            && !is_alike(lower, upper)
-        {
-            let was_lower = self.row(upper_place);
-            let was_upper = self.row(place);
-            self.relink(lower, was_lower, upper_place);
-            self.relink(upper, was_upper, upper_place.saturating_add(1));
+    pub fn exchange(&mut self, place: usize, elements: &[Open])
+        ensures index { (former : List AnOpen) → place + 1 < length self.old.rows.items →
+            AreExchanged former elements.now place →
+            IsIndex former self.old → IsIndex elements.now self.new }
+        ensures kept { length self.old.rows.items ≤ place → self.new ≡ self.old }
+    {
+        if place >= self.rows.len() {
+            return;
         }
+        let Some(upper) = elements.get(place) else {
+            return;
+        };
+        let Some(lower) = elements.get(place + 1) else {
+            return;
+        };
+        self.links.exchange(place, key_of(lower), key_of(upper));
         self.refresh(place, elements);
     }
 
-    fn row(&self, place: usize) -> Mark {
-        self.rows.get(place).copied().unwrap_or(NOTHING)
-    }
-
-    /// Links an element that is now at index `place` - 1 with the previous one like it and the next
-    /// one, which its former entry names.
-    fn relink(&mut self, open: &Open, former: Mark, place: usize) {
-        self.set_same(place, former.same);
-        self.set_next(place, former.next);
-        self.set_next(former.same, place);
-        if former.next == 0 {
-            self.set_top(open, place);
-        } else {
-            self.set_same(former.next, place);
+    /// Returns the entry of the element before an index.
+    fn row_before(&self, place: usize) -> Mark
+        ensures { (elements : List AnOpen) → AreRows elements self.now.rows.items →
+            place ≤ length self.now.rows.items → result ≡ mark_of (take place elements) }
+    {
+        if place == 0 {
+            return NOTHING;
+        }
+        match self.rows.get(place - 1) {
+            Some(mark) => *mark,
+            None => NOTHING,
         }
     }
 
-    /// Updates the answers from an index on, up to the first element that is unchanged and has the
-    /// same answers as before.
-    fn refresh(&mut self, place: usize, elements: &[Open]) {
-        let mut below = match place.checked_sub(1) {
-            Some(index) => self.row(index),
-            None => NOTHING,
-        };
-        for index in place..self.rows.len() {
-            let Some(open) = elements.get(index) else {
+    /// Updates the entries from an index on, up to the first one that is right already and whose
+    /// element did not change.
+    fn refresh(&mut self, place: usize, elements: &[Open])
+        ensures links { self.new.links ≡ self.old.links }
+        ensures long { length self.new.rows.items ≡ length self.old.rows.items }
+        ensures rows { (former : List AnOpen) → place + 1 < length self.old.rows.items →
+            AreExchanged former elements.now place → AreRows former self.old.rows.items →
+            length self.old.rows.items ≤ length former →
+            AreRows elements.now self.new.rows.items }
+    {
+        let mut below = self.row_before(place);
+        for index in place..self.rows.as_slice().len() {
+            let Some(element) = elements.get(index) else {
                 return;
             };
-            let mark = found(open, index.saturating_add(1), &below);
-            let old = self.row(index);
-            if index > place.saturating_add(1) && mark.has_answers_of(&old) {
+            let mark = found(element, index + 1, &below);
+            if index - place > 1 && self.has_row(index, &mark) {
                 return;
             }
-            below = Mark {
-                same: old.same,
-                next: old.next,
-                ..mark
-            };
-            self.set_row(index, below);
+            self.put_row(index, mark);
+            below = mark;
         }
     }
 
-    fn set_row(&mut self, index: usize, mark: Mark) {
+    /// Returns whether the entry at an index is this one.
+    fn has_row(&self, index: usize, mark: &Mark) -> bool
+        ensures { result ≡ true → slice_get self.now.rows.items index ≡ Some mark.now }
+    {
+        match self.rows.get(index) {
+            Some(row) => row.is_same(mark),
+            None => false,
+        }
+    }
+
+    fn put_row(&mut self, index: usize, mark: Mark)
+        ensures rows { self.new.rows.items ≡ slice_set self.old.rows.items index mark }
+        ensures links { self.new.links ≡ self.old.links }
+    {
         if let Some(entry) = self.rows.get_mut(index) {
             *entry = mark;
         }

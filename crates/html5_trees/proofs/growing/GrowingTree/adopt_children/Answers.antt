@@ -8,4 +8,4 @@ invariant_of-self c = grown _ _ _ _ _ _ _ c.self.invariant c.put_children_into_c
 pub invariant_of-self-2 : goal.invariant_of-self-2
 invariant_of-self-2 c =
     stack_carried _ _ _ _ _ _ _ _ _ _ _ c.in-Some-get.furthest c.is_forest.ensures c.self.invariant c.put_children_into_copy.ensures.grows c.in_ok-copy.ensures.element (sym c.in-Some-get.ensures.value)
-    (omega (arith, c.if-place-furthest_place.false)) c.carry.ensures
+    (omega (arith, c.if-place-furthest_place.false)) c.carry.ensures.items

@@ -12,4 +12,4 @@ invariant_of-self c = grown _ _ _ _ _ _ _ c.self.invariant c.put_into_copy.ensur
 
 pub invariant_of-self-2 : goal.invariant_of-self-2
 invariant_of-self-2 c =
-    stack_renewed _ _ _ _ _ _ _ _ _ _ _ _ c.in-Some-behind.last c.self.invariant c.put_into_copy.ensures.grows c.in_ok-copy.ensures.element (sym c.in-Some-behind.ensures) c.replace-2.ensures c.replace.ensures
+    stack_renewed _ _ _ _ _ _ _ _ _ _ _ _ c.in-Some-behind.last c.self.invariant c.put_into_copy.ensures.grows c.in_ok-copy.ensures.element (sym c.in-Some-behind.ensures) c.replace-2.ensures.items c.replace.ensures

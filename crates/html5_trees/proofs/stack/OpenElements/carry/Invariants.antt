@@ -1,4 +1,5 @@
 use Rattle.std.proofs.Common.{◌≡◌, ◌≤◌, ◌-◌, insert, length, remove}
+use Rattle.html5_trees.specs.SearchIndex.{IsIndexed}
 use Rattle.html5_trees.proofs.stack.OpenElements.carry.Given as goal
 
 -- the copy stands behind the elements that it passed
@@ -7,6 +8,7 @@ invariant-loop-index l = record {
   value : l.self.elements.items ≡ insert (remove l.fn.self.elements.items l.place) l.index l.copy;
   long : length l.self.elements.items ≡ length l.fn.self.elements.items;
   low : l.index ≤ l.last;
+  index : IsIndexed l.fn.self → IsIndexed l.self;
 }
 
 abbrev pub decreases-loop-index : goal.decreases-loop-index
