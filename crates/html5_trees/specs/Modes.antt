@@ -1,6 +1,5 @@
 -- The insertion modes (13.2.4.1), and what depends on them alone.
-use Rattle.std.specs.Prelude.{Bool, true, false, ◌||◌, ◌-◌, List, Option, None, Some, length, slice_get, if◌then◌else◌}
-use Rattle.std.specs.Option.{unwrap_or}
+use Rattle.std.specs.Prelude.{Bool, true, false, ◌||◌, Option, None, Some, if◌then◌else◌}
 use Rattle.html5_tokens.specs.declared.token.TagKind.{TagKind}
 use Rattle.html5_tokens.specs.declared.tokenizer.state.State.{State}
 use Rattle.html5_trees.specs.Placing.{fosters, is_a_template}
@@ -48,10 +47,6 @@ abbrev pub holds_table_text : Open → Bool
 holds_table_text o = is_a_template o || fosters o
 
 -- ---- "reset the insertion mode appropriately"
-
--- the current template insertion mode: the one that was pushed last
-abbrev pub template_mode_of : List Mode → Mode
-template_mode_of modes = unwrap_or (slice_get modes (length modes - 1)) Mode.InTemplate
 
 -- for a `select`
 abbrev pub mode_in_select : Bool → Bool → Mode

@@ -1,11 +1,10 @@
 //! The list of active formatting elements (13.2.4.3).
 
 ghost use Rattle.std.specs.Prelude.{◌≡◌, [], ◌∷◌, ◌++◌, Contains, IfNone, IfSome, OnErr, OnOk};
-ghost use Rattle.std.specs.Prelude.{MatchOption, length, true, false};
+ghost use Rattle.std.specs.Prelude.{MatchOption, length};
 ghost use Rattle.std.specs.Prelude.{insert, remove, slice_get, slice_set};
 ghost use Rattle.std.specs.List.{list_all};
-ghost use Rattle.std.specs.Option.{option_and_then, option_copied, option_map, option_map_or};
-ghost use Rattle.std.specs.Option.{option_to_list};
+ghost use Rattle.std.specs.Option.{option_and_then, option_copied, option_to_list};
 ghost use Rattle.dom_trees.specs.Views.{node_element};
 ghost use Rattle.html5_trees.specs.Formatting.{IsFirst, IsNamed, IsWithout, NoneHas, after_marker};
 ghost use Rattle.html5_trees.specs.Formatting.{are_alike, element_in, has_attr, is_of};
@@ -392,51 +391,28 @@ impl ActiveFormatting {
     }
 
     /// Returns the index of an element's entry: the last one, if it had several. The index of a
-    /// long list proposes an entry, which is looked at; that it finds one isn't stated.
+    /// long list answers by itself; the contract says nothing of that answer.
     pub fn index_of(&self, id: NodeId) -> Option<usize>
-        ensures found { let entries = self.now.entries.items in
-            IfSome result (λ place. option_map (is_of id) (slice_get entries place) ≡ Some true) }
-        ensures value { let entries = self.now.entries.items in
+        ensures { let entries = self.now.entries.items in
             self.now.index ≡ None → result ≡ last_place (is_of id) entries }
     {
-        let Some(index) = &self.index else {
-            return last_entry_of(self.entries.as_slice(), id);
-        };
-        let place = index.position_of(id)?;
-        if self.is_entry_of(place, id) {
-            Some(place)
-        } else {
-            None
-        }
-    }
-
-    /// Returns whether the entry at an index is of the element with that id.
-    fn is_entry_of(&self, place: usize, id: NodeId) -> bool
-        ensures { let entries = self.now.entries.items in
-            result ≡ option_map_or (is_of id) (slice_get entries place) false }
-    {
-        match self.entries.get(place) {
-            Some(entry) => entry.is_of(id),
-            None => false,
+        match &self.index {
+            Some(index) => index.position_of(id),
+            None => last_entry_of(self.entries.as_slice(), id),
         }
     }
 
     /// Returns the last element with that name after the last marker. The index of a long list
-    /// proposes an entry, whose name is compared; for such a list the contract says only that the
-    /// element is in the list and has the name.
+    /// finds it by itself; the contract says nothing of that answer.
     pub fn named(&self, name: Name) -> Option<Open>
-        ensures found { IfSome result (IsNamed name) }
-        ensures held { let entries = self.now.entries.items in
-            IfSome result (λ o. Contains entries (AnEntry o)) }
-        ensures value { let elements = after_marker self.now.entries.items in
+        ensures { let elements = after_marker self.now.entries.items in
             self.now.index ≡ None →
             MatchOption result (NoneHas (IsNamed name) elements) (IsFirst (IsNamed name) elements) }
     {
         let Some(index) = &self.index else {
             return last_named(self.entries.as_slice(), name);
         };
-        let open = self.element_at(index.last_named(name)?)?;
-        if open.name == name { Some(open) } else { None }
+        self.element_at(index.last_named(name)?)
     }
 
     /// Returns the element of the entry at an index, if it is no marker.

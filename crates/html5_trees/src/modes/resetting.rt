@@ -2,7 +2,7 @@
 
 ghost use Rattle.std.specs.Prelude.{◌≡◌};
 ghost use Rattle.html5_trees.specs.Modes.{mode_for, mode_in_html, mode_in_select, mode_named};
-ghost use Rattle.html5_trees.specs.Modes.{mode_of_others, mode_unless, template_mode_of};
+ghost use Rattle.html5_trees.specs.Modes.{mode_of_others, mode_unless};
 
 use crate::builder::{Mode, TreeBuilder};
 use crate::name::Name;
@@ -54,9 +54,7 @@ impl TreeBuilder {
     }
 
     /// Returns the current template insertion mode.
-    fn template_mode(&self) -> Mode
-        ensures { result ≡ template_mode_of self.now.template_modes.items }
-    {
+    fn template_mode(&self) -> Mode {
         match self.template_modes.last().copied() {
             Some(mode) => mode,
             None => Mode::InTemplate,

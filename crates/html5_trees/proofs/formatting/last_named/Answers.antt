@@ -10,13 +10,13 @@ use Rattle.html5_trees.proofs.formatting.last_named.Goals as goal
 pub returns-then-eq : goal.returns-then-eq
 returns-then-eq c =
     let at : c.loop-entry.rest.now ≡ c.in-Some.before.now ++ AnEntry c.in-Element.open ∷ [] = c.in-Some.ensures.cases.0 ∙ ap (λ (e : Entry). c.in-Some.before.now ++ e ∷ []) c.in-Element.is in
-    c.loop-entry.invariant.first _ (first_here (IsNamed c.args.name) _ _ _ at (same_true the_type (search rules) _ _ (sym c.eq.ensures ∙ c.if-eq.true)))
+    c.loop-entry.invariant.first c.in-Element.open (first_here (IsNamed c.args.name) c.loop-entry.rest.now c.in-Some.before.now c.in-Element.open at (same_true the_type (search rules) c.in-Element.open.name c.args.name (sym c.eq.ensures ∙ c.if-eq.true)))
 
 pub loop-entry-preserved : goal.loop-entry-preserved
 loop-entry-preserved c =
     let at : c.loop-entry.rest.now ≡ c.in-Some.before.now ++ AnEntry c.in-Element.open ∷ [] = c.in-Some.ensures.cases.0 ∙ ap (λ (e : Entry). c.in-Some.before.now ++ e ∷ []) c.in-Element.is in
-    let lacks = same_false the_type _ _ (sym c.eq.ensures ∙ c.if-eq.false) in
+    let lacks = same_false the_type c.in-Element.open.name c.args.name (sym c.eq.ensures ∙ c.if-eq.false) in
     record {
-      none = λ none. c.loop-entry.invariant.none (none_before (IsNamed c.args.name) _ _ _ at lacks none);
-      first = λ p first. c.loop-entry.invariant.first p (first_before (IsNamed c.args.name) _ _ _ p at lacks first);
+      none = λ none. c.loop-entry.invariant.none (none_before (IsNamed c.args.name) c.loop-entry.rest.now c.in-Some.before.now c.in-Element.open at lacks none);
+      first = λ p first. c.loop-entry.invariant.first p (first_before (IsNamed c.args.name) c.loop-entry.rest.now c.in-Some.before.now c.in-Element.open p at lacks first);
     }
