@@ -18,7 +18,6 @@ HEAD = ["before html", "before head", "in head", "after head"]
 TABLE = ["in table", "in table body", "in row"]
 FUNCTIONS = {
     # chars.rt, growing/placing.rt
-    "holds_table_text": ["table text"],
     "is_foster_target": ["table text"],
     "is_table": ["foster parent"],
     "is_template": ["foster parent"],
@@ -27,13 +26,14 @@ FUNCTIONS = {
     "holds_html": ["foreign"],
     "insert_implied": ["before html"],
     "insert_html": ["before html"],
-    "flags_of": ["in body"],
+    "is_template_named": ["in body"],
     "ignores_form": ["form in table"],
     # foreign.rt
     "is_text_point": ["in math"],
     "is_html_point": ["in svg"],
-    "is_tag_foreign": ["text point"],
-    "foreign_start": ["in svg"],
+    "is_glyph": ["text point"],
+    "takes_svg": ["text point"],
+    "ends_foreign": ["in svg"],
     "foreign_end": ["in svg"],
     # growing/popping.rt
     "pop_options": ["in select"],
@@ -84,8 +84,8 @@ FUNCTIONS = {
     "row_tag": ["in row"],
     "leave_cell": ["in cell"],
     "cell_tag": ["in cell"],
-    "mode_at": ["fragment"],
-    "first_state": ["fragment"],
+    "mode_named": ["fragment"],
+    "state_in": ["fragment"],
     "begin_fragment": ["fragment"],
     "begin_in": ["fragment"],
     # "in body"
@@ -108,7 +108,8 @@ FUNCTIONS = {
     "end_p": ["in body"],
     "end_other": ["in body"],
     "end_form": ["in body"],
-    "group_of": ["in body", "in p", "formatting closed", "frameset behind"],
+    "is_block": ["in body", "in p", "formatting closed", "frameset behind"],
+    "common_group_of": ["in body", "in p", "formatting closed", "frameset behind"],
     "rare_group_of": ["in body", "in p", "formatting closed", "frameset behind"],
     # sets.rt, stack.rt
     "is_heading": ["in heading"],
