@@ -201,7 +201,7 @@ fn policies_are_refused(rt: HostRuntime) {
     assert!(&rt; room.starts_with(b"element `svg` can't be kept safely"));
     assert_eq!(&rt; dq_clean(alloc, &mut policy, b"<p>", &mut room), -50);
     assert_eq!(&rt; dq_policy_common(alloc, &mut policy), 0);
-    assert_eq!(&rt; dq_policy_rule(alloc, &mut policy, 7, b"svg"), -5);
+    assert_eq!(&rt; dq_policy_rule(alloc, &mut policy, 12, b"svg"), -5);
     assert_eq!(&rt; dq_policy_finish(alloc, &mut policy), -5);
     dq_policy_free(alloc, &mut policy);
 }
