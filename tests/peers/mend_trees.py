@@ -7,6 +7,7 @@
 - "any other end tag" looks for an HTML element of that name;
 - "in body", the content of `noframes` is text;
 - in a fragment, the content of `noscript` is text only with scripting;
+- "in table body", a template ends the scope in which a `tbody`, `thead` or `tfoot` is looked for;
 - `feDropShadow` is an SVG element;
 - in foreign content, each null character is replaced by one U+FFFD, also where several are side by side;
 - in foreign content of a fragment, an end tag for which only the topmost element is left is processed by the current insertion mode.
@@ -55,6 +56,12 @@ CHANGES = {
             "            case html_js_1.TAG_ID.NOSCRIPT: {\n"
             "                if (this.fragmentContextID === html_js_1.TAG_ID.NOSCRIPT && !this.options.scriptingEnabled) break;\n"
             "                this.tokenizer.state = index_js_1.TokenizerMode.RAWTEXT;\n",
+        ),
+    ],
+    "dist/cjs/parser/open-element-stack.js": [
+        (
+            "            if (tn === html_js_1.TAG_ID.TABLE || tn === html_js_1.TAG_ID.HTML) {\n",
+            "            if (tn === html_js_1.TAG_ID.TABLE || tn === html_js_1.TAG_ID.TEMPLATE || tn === html_js_1.TAG_ID.HTML) {\n",
         ),
     ],
     "dist/cjs/common/foreign-content.js": [("    'feDistantLight',\n", "    'feDistantLight',\n    'feDropShadow',\n")],
