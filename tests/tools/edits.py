@@ -14,7 +14,9 @@ do, and it is reported as one elsewhere.
 `edits.py --control [CRATE ..]` tries the same functions without their edits: the prover must refuse none of them.
 
 `edits.py [CRATE ..]` tries the edits of these crates, or of all, with the libraries that are built in the workspace. As `rt ci` does,
-it keeps on this machine what was refused, by the checksum of all that it depends on; `--anew` tries all again."""
+it keeps on this machine what was refused, by the checksum of all that it depends on; `--anew` tries all again. A library
+says the paths of its public functions alone. With `--log=FILE`, the output of a gate that proved the crates, those of the
+others are known, too; without it, an edit of another function is tried over the whole crate, which takes minutes."""
 import hashlib
 import importlib.machinery
 import importlib.util
@@ -479,13 +481,24 @@ class Trials:
         return passed, failed
 
 
+def proved_in(log):
+    """The paths of the functions that the gate proved, by crate, as its output says them."""
+    found = {}
+    for line in pathlib.Path(log).read_text(encoding="utf-8", errors="replace").splitlines() if log else ():
+        function = re.match(r"fn (\w+)::(\S+): proved", line)
+        if function:
+            found.setdefault(function[1], []).append(function[2].split("::"))
+    return found
+
+
 def main():
     trials = Trials("--control" in sys.argv, "--anew" in sys.argv)
     names = [it for it in sys.argv[1:] if not it.startswith("--")] or sorted(trials.left)
+    proved = proved_in(next((it[len("--log=") :] for it in sys.argv[1:] if it.startswith("--log=")), None))
     trials.left &= set(names)
     for crate in list(trials.crates.values()):
         if crate.name in trials.left or any(crate in trials.crates[it].below() for it in names):
-            trials.built(crate.name, [])
+            trials.built(crate.name, proved.get(crate.name, []))
     return 1 if trials.finish()[1] else 0
 
 
