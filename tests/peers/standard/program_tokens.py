@@ -30,7 +30,10 @@ def main(program, count, seed):
     while done < int(count):
         pieces = rng.sample(random_texts.PIECES, rng.randint(3, 14)) if rng.random() < 0.5 else random_texts.PIECES
         text = "".join(rng.choice(pieces) for _ in range(rng.randint(1, 24))).replace("\0", "")
-        printed = subprocess.run([program, f"web-tokens {text}"], input="", stdout=subprocess.PIPE, encoding="utf-8").stdout.replace(NOTHING, "")
+        # (what is printed is the text before the end of the input, so the text doesn't end in a reference)
+        text += " ."
+        ran = subprocess.run([program, f"web-tokens {text}"], input=b"", stdout=subprocess.PIPE)
+        printed = ran.stdout.decode("utf-8").replace(NOTHING, "")
         done += 1
         if not any(printed.startswith(it) for it in expected(text)):
             bad += 1
