@@ -17,7 +17,8 @@ and `error` are what the program must write to standard output and standard erro
 missing. `markup_hex` and `script_hex` hold bytes in hexadecimal, for inputs that are not UTF-8. A text may also be a list of
 pieces, each a text and how often it is repeated, in which {n} is replaced by the number of the repetition; an argument may be
 a list of a text and how often it is repeated. `entry` names the rule or the entry of a table that the row is for
-(tests/checks/tables.py).
+(tests/checks/tables.py). `read` is what another parser, parse5, made of the output as the contents of a `div`: the output itself,
+or else the row fails.
 
 tests/checks/documents.py says how the commands, programs and outputs in the documents are checked.
 
@@ -145,6 +146,8 @@ def gate(clock):
 
 def fault_of(program, case):
     """What is wrong with the program's answer, or None."""
+    if case.get("read", case.get("output")) != case.get("output"):
+        return f"another parser reads the output as {case['read']}"
     try:
         ran = subprocess.run(
             [built(program), *words_of(case)], input=given(case, "markup"), capture_output=True, timeout=SECONDS, cwd=ROOT
