@@ -21,7 +21,7 @@ ROOT = pathlib.Path(__file__).resolve().parents[2]
 ROOTS, SHARED = ("test_calls", "test_queries", "test_times", "test_batch", "test_encodings", "test_clean", "callers", "examples", "dq", "hq", "hq_pages"), "test_lines"
 # Public functions that no program calls, with the reason. One that a program calls is a fault here.
 UNCALLED = {
-    ("Tree", "move_allowed"): "its caller proves that the move is allowed, which only tree construction (html5_trees) does",
+    ("Tree", "move_allowed"): "its caller proves that the move is allowed, which only tree construction (page_trees) does",
     ("", "plain_trees_are_built"): "a law: it has no body",
     ("", "calm_trees_are_built"): "a law: it has no body",
     ("", "calm_html_is_written"): "a law: it calls laws alone",

@@ -1,5 +1,5 @@
-"""The tables of docs/standard, the definitions of crates/html_standard that are made from them, the texts of tests/standard, and the
-rows that show tokens of html5_tokens."""
+"""The tables of docs/standard, the definitions of crates/standard_tokens that are made from them, the texts of tests/standard, and the
+rows that show tokens of page_tokens."""
 import json
 import pathlib
 import re
@@ -46,7 +46,7 @@ def other_tokens(row):
 
 
 def tokens_asked():
-    """The texts of which rows ask the tokens of html5_tokens, with what is printed."""
+    """The texts of which rows ask the tokens of page_tokens, with what is printed."""
     for file in sorted((ROOT / "tests" / "rows" / "test_calls").glob("*.jsonl")):
         for line in file.read_text(encoding="utf-8").splitlines():
             row = json.loads(line)

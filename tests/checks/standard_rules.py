@@ -1,4 +1,4 @@
-"""The rules of tree construction: what is made from tests/standard/rules/rules.txt is what the crate html_rules holds, and the stored
+"""The rules of tree construction: what is made from tests/standard/rules/rules.txt is what the crate standard_rules holds, and the stored
 rows have the trees that the rules give, and take every rule. `checked()` prints what failed, and returns how many of these passed and
 how many failed."""
 import json
@@ -25,7 +25,7 @@ def plain(value):
 
 def checked():
     passed, failed = 0, []
-    for path, text in generate.targets(ROOT / "crates" / "html_rules").items():
+    for path, text in generate.targets(ROOT / "crates" / "standard_rules").items():
         if path.read_text() == text:
             passed += 1
         else:
@@ -47,7 +47,7 @@ def checked():
         else:
             failed.append("tests/standard/rules/names.jsonl: other trees are given for %s" % row["tokens"])
     for file, name, want in LISTS:
-        found = re.search(r"^%s = (.*)" % name, (ROOT / "crates" / "html_rules" / "specs" / file).read_text(), re.M)
+        found = re.search(r"^%s = (.*)" % name, (ROOT / "crates" / "standard_rules" / "specs" / file).read_text(), re.M)
         if sorted(re.findall('codes "([^"]*)"', found[1])) == sorted(want):
             passed += 1
         else:

@@ -1,4 +1,4 @@
-"""The files of crates/html_standard that are made: of the tables in docs/standard the states, their entries, and the named character
+"""The files of crates/standard_tokens that are made: of the tables in docs/standard the states, their entries, and the named character
 references, and of tests/standard/texts.jsonl the examples and their proof. Run as a program it writes them; tests/checks/standard.py
 makes them anew and compares."""
 import json
@@ -6,7 +6,7 @@ import pathlib
 
 import table
 
-CRATE = pathlib.Path(__file__).resolve().parents[2] / "crates" / "html_standard"
+CRATE = pathlib.Path(__file__).resolve().parents[2] / "crates" / "standard_tokens"
 TEXTS = pathlib.Path(__file__).with_name("texts.jsonl")
 # More steps than any of the texts takes.
 STEPS = 300
@@ -127,8 +127,8 @@ def table_file(states):
         "-- What each state of the tokenizer does (13.2.5.1 to 13.2.5.80). Made from docs/standard/tokenizer.txt by"
         " tests/standard/definitions.py.",
         "use Rattle.std.specs.Prelude.{List, [], ◌∷◌, codes}",
-        f"use Rattle.html_standard.specs.States.{{State, {', '.join(map(state, states))}}}",
-        f"use Rattle.html_standard.specs.Entries.{{{WORDS}}}",
+        f"use Rattle.standard_tokens.specs.States.{{State, {', '.join(map(state, states))}}}",
+        f"use Rattle.standard_tokens.specs.Entries.{{{WORDS}}}",
         "",
         "-- the entries of each state; the first that fits is taken",
         "unfoldable pub entries : State → List Entry",
@@ -200,7 +200,7 @@ def examples_file(rows):
         "-- Pages that take every entry of the table, with their tokens. Made from tests/standard/texts.jsonl by"
         " tests/standard/definitions.py.",
         "use Rattle.std.specs.Prelude.{ℕ, Bool, true, false, List, [], ◌∷◌, None, Some, codes}",
-        "use Rattle.html_standard.specs.Tokens.{Token, AChar, AComment, ADoctype, AStart, AnEnd, AnEof}",
+        "use Rattle.standard_tokens.specs.Tokens.{Token, AChar, AComment, ADoctype, AStart, AnEnd, AnEof}",
         "",
         "pub record Example : Type 0 where",
         "  pub text : List ℕ",
@@ -223,11 +223,11 @@ def examples_proof(rows):
     lines = [
         "-- That the examples are read so, by computing. Made from tests/standard/texts.jsonl by tests/standard/definitions.py.",
         "use Rattle.std.specs.Prelude.{refl}",
-        f"use Rattle.html_standard.specs.Examples.{{{', '.join(f'example{number}' for number in range(len(rows)))}}}",
-        "use Rattle.html_standard.specs.Laws.{ExamplesAreRead, IsExampleRead}",
-        "use Rattle.html_standard.specs.Machine.{longest_name, value_of}",
-        "use Rattle.html_standard.specs.Reading.{run}",
-        "use Rattle.html_standard.proofs.Running.{by_running}",
+        f"use Rattle.standard_tokens.specs.Examples.{{{', '.join(f'example{number}' for number in range(len(rows)))}}}",
+        "use Rattle.standard_tokens.specs.Laws.{ExamplesAreRead, IsExampleRead}",
+        "use Rattle.standard_tokens.specs.Machine.{longest_name, value_of}",
+        "use Rattle.standard_tokens.specs.Reading.{run}",
+        "use Rattle.standard_tokens.proofs.Running.{by_running}",
     ]
     for number in range(len(rows)):
         lines += ["", f"read{number} : IsExampleRead example{number}", "unfolding run longest_name value_of", f"read{number} = by_running {STEPS} example{number} refl"]

@@ -1,5 +1,5 @@
 """Parsing by the two tables: the tokenizer (machine.py) hands its tokens to tree construction (rules/tree_builder.py), which switches the
-tokenizer's state behind the start tag of an element whose text it reads next. This is what crates/html_reading/specs/Parsing.antt
+tokenizer's state behind the start tag of an element whose text it reads next. This is what crates/standard_laws/specs/Parsing.antt
 defines. Trees are as in tree_builder.py; None stands for a text for which tree construction has no rule."""
 import pathlib
 import sys

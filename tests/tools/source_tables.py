@@ -7,7 +7,7 @@ import re
 
 from rows import ROOT
 
-CRATES = ("html5_tokens", "html5_trees", "dom_clean", "hq_pages")
+CRATES = ("page_tokens", "page_trees", "dom_clean", "hq_pages")
 ARRAY = re.compile(r"^[ ]*(?:pub )?(?:static|const) (\w+): \[(?:[^;\]]|\[[^\]]*\])+; ?\w+\] = \[(.*?)\];", re.M | re.S)
 FUNCTION = re.compile(r"^( *)(?:pub(?:\(\w+\))? )?fn (\w+)", re.M)
 STRING = re.compile(r'"((?:[^"\\]|\\.)*)"')
@@ -186,7 +186,7 @@ def arrays():
 
 def names():
     """All element names that the rules of tree construction mention."""
-    text = (ROOT / "crates" / "html5_trees" / "src" / "name.rt").read_text(encoding="utf-8")
+    text = (ROOT / "crates" / "page_trees" / "src" / "name.rt").read_text(encoding="utf-8")
     inside = re.search(r"pub enum Name \{(.*?)\n\}", text, re.S)[1]
     return [element(it) for it in re.findall(r"^    (\w+),$", inside, re.M)]
 
@@ -195,7 +195,7 @@ def named_entries():
     """The entries of the functions and arrays that hold names of elements: pairs of a question and a name. Functions that aren't
     in FUNCTIONS come as pairs of their name and None."""
     for crate, _, text in sources():
-        if crate != "html5_trees":
+        if crate != "page_trees":
             continue
         for name, body in functions(text):
             found = variants(body)
@@ -209,8 +209,8 @@ def named_entries():
 
 
 def known_functions():
-    """The names of all functions of html5_trees that mention names of elements."""
-    return {name for crate, _, text in sources() if crate == "html5_trees" for name, body in functions(text) if variants(body)}
+    """The names of all functions of page_trees that mention names of elements."""
+    return {name for crate, _, text in sources() if crate == "page_trees" for name, body in functions(text) if variants(body)}
 
 
 def text_entries():

@@ -11,10 +11,10 @@ use Rattle.dom_markup.specs.Numbered.{document_of}
 use Rattle.dom_markup.specs.ValueTrees.{ValueTrees}
 use Rattle.dom_markup.specs.declared.document.Document.{Document}
 use Rattle.calm_pages.specs.Calm.{IsCalmPage, ReadsCalm}
-use Rattle.dom_html5.specs.Pages.{ReadsAsWritten}
-use Rattle.dom_html5.specs.declared.charset.ReadPage.{ReadPage}
-use Rattle.html5_trees.specs.Shape.{IsPage}
-use Rattle.html5_trees.specs.declared.reading.Options.{Options}
+use Rattle.page_reading.specs.Pages.{ReadsAsWritten}
+use Rattle.page_reading.specs.declared.charset.ReadPage.{ReadPage}
+use Rattle.page_trees.specs.Shape.{IsPage}
+use Rattle.page_trees.specs.declared.reading.Options.{Options}
 use Rattle.c_state.specs.Decodings.{IsDecoded, IsDecodedPage, IsTransport}
 use Rattle.c_state.specs.declared.decoding.Decoded.{Decoded}
 use Rattle.c_state.specs.declared.state.State.{State}

@@ -12,7 +12,7 @@ use Rattle.text_decoding.specs.declared.page.Fallback.TheVariants.{Guess}
 use Rattle.dom_markup.specs.Numbered.{document_of}
 use Rattle.dom_markup.specs.ValueTrees.{ValueTrees}
 use Rattle.calm_pages.specs.Calm.{IsCalmPage}
-use Rattle.html5_trees.specs.Shape.{IsPage}
+use Rattle.page_trees.specs.Shape.{IsPage}
 use Rattle.c_state.specs.declared.decoding.Decoded.{Decoded}
 use Rattle.c_state.specs.declared.state.State.{State}
 

@@ -3,7 +3,7 @@
 ghost use Rattle.std.specs.Prelude.{◌≡◌, ◌<◌, IfErr, IfOk, length, string_bytes, take};
 ghost use Rattle.dom_markup.specs.Documents.{IsDocumentOf};
 ghost use Rattle.calm_pages.specs.Calm.{ReadsCalm};
-ghost use Rattle.html5_trees.specs.Shape.{IsPage};
+ghost use Rattle.page_trees.specs.Shape.{IsPage};
 ghost use Rattle.c_state.specs.declared.fault.Fault.TheVariants.{NoNode};
 
 use crate::bytes::{as_text, copy_bytes, copy_numbers};

@@ -2,11 +2,11 @@
 
 ghost use Rattle.std.specs.Prelude.{codes, IfOk};
 ghost use Rattle.dom_trees.specs.Views.{page_part};
-ghost use Rattle.html5_trees.specs.Shape.{IsFound};
+ghost use Rattle.page_trees.specs.Shape.{IsFound};
 
-use dom_html5::laws::pages_have_parts;
-use dom_html5::{Options, PageFault, parse_page};
 use dom_markup::document::Document;
+use page_reading::laws::pages_have_parts;
+use page_reading::{Options, PageFault, parse_page};
 use std::alloc::Global;
 
 /// Reads a page. `head` of the result returns an HTML element with that name.

@@ -11,7 +11,7 @@ use Rattle.dom_markup.specs.Numbered.{read_attr}
 use Rattle.dom_markup.specs.Plain.{start_text, text_of_trees}
 use Rattle.dom_markup.specs.ValueTrees.{Attribute, ValueTrees}
 use Rattle.dom_markup.specs.ValueTrees.ValueTrees.{no_trees, doctype_node, element_node}
-use Rattle.html5_trees.specs.Framed.{IsFramed}
+use Rattle.page_trees.specs.Framed.{IsFramed}
 use Rattle.calm_pages.specs.Calm.{IsCalmDocument, behind_text}
 
 -- the text ends with that one

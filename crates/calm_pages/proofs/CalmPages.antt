@@ -13,7 +13,7 @@ use Rattle.dom_markup.specs.ValueTrees.{Attribute, ValueTrees}
 use Rattle.dom_markup.specs.ValueTrees.ValueTrees.{no_trees, doctype_node, element_node}
 use Rattle.dom_markup.proofs.plain.PlainRows.{document-represents}
 use Rattle.calm_pages.specs.Calm.{IsCalmDocument, behind_text, has_elements_at_ends, is_element_at}
-use Rattle.html5_trees.specs.Shape.{IsPage, besides_comments, elements_of, is_html}
+use Rattle.page_trees.specs.Shape.{IsPage, besides_comments, elements_of, is_html}
 
 -- the shape of a page whose element `html` holds whitespace between its parts alone
 pub record IsCalmShape (f : Forest) : Type 0 where

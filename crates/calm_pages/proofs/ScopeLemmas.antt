@@ -16,10 +16,10 @@ use Rattle.dom_markup.specs.Numbered.{Row, read_element, rows_from, size}
 use Rattle.dom_markup.specs.ValueTrees.{ValueTrees}
 use Rattle.dom_markup.specs.ValueTrees.ValueTrees.{no_trees, text_node, comment_node, doctype_node, element_node}
 use Rattle.calm_pages.specs.Calm.{admits, are_calm, bars, behind, behind_first, inside, may_hold_comment, may_hold_text, top}
-use Rattle.html5_trees.specs.ElementKinds.{holds_doctype, kind_of, may_hold, names_of}
+use Rattle.page_trees.specs.ElementKinds.{holds_doctype, kind_of, may_hold, names_of}
 use Rattle.calm_pages.specs.Scopes.{next_scope, scope_at, scope_below}
-use Rattle.html5_trees.specs.declared.element_kinds.ElementCategory.{ElementCategory}
-use Rattle.html5_trees.specs.declared.element_kinds.ElementCategory.TheVariants.{Document, Pre, Other}
+use Rattle.page_trees.specs.declared.element_kinds.ElementCategory.{ElementCategory}
+use Rattle.page_trees.specs.declared.element_kinds.ElementCategory.TheVariants.{Document, Pre, Other}
 use Rattle.calm_pages.specs.declared.nesting.Scope.{Scope}
 
 -- each of these rows may stand where it stands, where the nodes before them have these scopes

@@ -16,12 +16,12 @@ use Rattle.dom_markup.specs.Numbered.{document_of}
 use Rattle.dom_markup.specs.Plain.{Represents}
 use Rattle.dom_markup.specs.ValueTrees.{Attribute, ValueTrees}
 use Rattle.dom_markup.specs.ValueTrees.ValueTrees.{no_trees, text_node, comment_node, doctype_node, element_node}
-use Rattle.html5_trees.specs.ElementKinds.{holds_comments, holds_doctype, holds_flow, holds_parts, kind_of, may_hold}
-use Rattle.html5_trees.specs.Framed.{IsFramed}
-use Rattle.html5_trees.specs.declared.element_kinds.ElementCategory.{ElementCategory}
-use Rattle.html5_trees.specs.declared.element_kinds.ElementCategory.TheVariants.{Anchor, Block, Button, DescriptionList, Document, Form, Heading, Html, ItemList, Paragraph, Pre, Table, Verbatim}
+use Rattle.page_trees.specs.ElementKinds.{holds_comments, holds_doctype, holds_flow, holds_parts, kind_of, may_hold}
+use Rattle.page_trees.specs.Framed.{IsFramed}
+use Rattle.page_trees.specs.declared.element_kinds.ElementCategory.{ElementCategory}
+use Rattle.page_trees.specs.declared.element_kinds.ElementCategory.TheVariants.{Anchor, Block, Button, DescriptionList, Document, Form, Heading, Html, ItemList, Paragraph, Pre, Table, Verbatim}
 use Rattle.calm_pages.specs.declared.nesting.Scope.{Scope}
-use Rattle.html5_trees.specs.declared.reading.Options.{Options}
+use Rattle.page_trees.specs.declared.reading.Options.{Options}
 
 -- ---- trees
 

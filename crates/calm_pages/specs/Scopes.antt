@@ -4,7 +4,7 @@ use Rattle.std.specs.Option.{option_and_then}
 use Rattle.dom_nodes.specs.declared.node_data.NodeData.{NodeData}
 use Rattle.dom_nodes.specs.declared.node_data.NodeData.TheVariants.{Comment, Doctype, Element as AnElement, Text}
 use Rattle.calm_pages.specs.Calm.{admits, behind, inside, may_hold_comment, may_hold_text}
-use Rattle.html5_trees.specs.ElementKinds.{holds_doctype, kind_of}
+use Rattle.page_trees.specs.ElementKinds.{holds_doctype, kind_of}
 use Rattle.calm_pages.specs.declared.nesting.Scope.{Scope}
 
 -- the scope of a node's children, if the node may be in this scope

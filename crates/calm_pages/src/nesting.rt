@@ -7,7 +7,7 @@ ghost use Rattle.calm_pages.specs.Scopes.{next_scope, scope_at, scope_below};
 
 use crate::texts::{begins_line, has_close, is_whitespace, lacks_greater_than};
 use dom_nodes::node_data::{NodeData, TreeNode};
-use html5_trees::ElementCategory;
+use page_trees::ElementCategory;
 
 /// The scope of a node: the category of its parent, and which kinds of elements are open around it.
 #[derive(Clone, Copy, Drop)]

@@ -5,7 +5,7 @@ ghost use Rattle.calm_pages.specs.Calm.{IsCalmDocument, IsCalmPage, are_calm, to
 ghost use Rattle.calm_pages.specs.Calm.{has_elements_at_ends, is_element_at};
 ghost use Rattle.dom_links.specs.Forest.{children_of};
 ghost use Rattle.dom_links.specs.Lists.{first, last};
-ghost use Rattle.html5_trees.specs.Shape.{IsPage};
+ghost use Rattle.page_trees.specs.Shape.{IsPage};
 ghost use Rattle.dom_markup.specs.FaultKinds.{IsLimitFault};
 ghost use Rattle.dom_markup.specs.Numbered.{document_of};
 ghost use Rattle.dom_markup.specs.ValueTrees.{ValueTrees};
@@ -18,7 +18,7 @@ use dom_markup::laws::plain::documents_are_forests;
 use dom_nodes::fault::{MarkupFault, MarkupFaultKind};
 use dom_nodes::node_id::NodeId;
 use dom_trees::tree::Tree;
-use html5_trees::{PageFault, is_page};
+use page_trees::{PageFault, is_page};
 use std::alloc::Global;
 
 /// Returns the document of a calm page, or `None` if the page isn't calm. Fails only with `Memory`

@@ -7,7 +7,7 @@ ghost use Rattle.dom_markup.specs.Bytes.{is_whitespace};
 ghost use Rattle.dom_nodes.specs.Ascii.{greater_than};
 ghost use Rattle.calm_pages.specs.Calm.{begins_close, begins_line, has_close};
 ghost use Rattle.calm_pages.specs.Calm.{is_bare, is_calm_at, is_calm_byte, is_calm_text};
-ghost use Rattle.html5_trees.specs.Framed.{IsFramed};
+ghost use Rattle.page_trees.specs.Framed.{IsFramed};
 ghost use Rattle.calm_pages.specs.Calm.{begins_other_tag, is_plain_reference};
 
 use memchr::memchr;

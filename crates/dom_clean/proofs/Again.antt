@@ -22,7 +22,7 @@ use Rattle.dom_markup.specs.Plain.{Represents, html_element}
 use Rattle.dom_markup.specs.ValueTrees.{Attribute, ValueTrees}
 use Rattle.dom_markup.specs.ValueTrees.ValueTrees.{no_trees, text_node, comment_node, doctype_node, element_node}
 use Rattle.dom_markup.proofs.plain.PlainRows.{document-represents, document_rows, rows-size}
-use Rattle.html5_trees.specs.ElementKinds.{kind_of}
+use Rattle.page_trees.specs.ElementKinds.{kind_of}
 use Rattle.calm_pages.specs.Calm.{IsCalmPage, admits, are_calm, behind, behind_text, inside, may_hold_text}
 use Rattle.dom_clean.specs.Again.{CleansOnce, IsLeftBy}
 use Rattle.dom_clean.specs.Cleaned.{body_of, cleaned, cleaned_below, cleaned_body, followed_by, held_by, in_body, left_of}

@@ -3,9 +3,9 @@ use Rattle.std.proofs.Common.{◌≡◌, ◌≢◌, ℕ, Bool, true, false, ◌&
 use Rattle.std.proofs.lemmas.Bool.{and_from, and_parts, not-true}
 use Rattle.dom_markup.specs.ValueTrees.{ValueTrees}
 use Rattle.dom_markup.specs.ValueTrees.ValueTrees.{no_trees, text_node, comment_node, doctype_node, element_node}
-use Rattle.html5_trees.specs.ElementKinds.{kind_of, may_hold}
-use Rattle.html5_trees.specs.declared.element_kinds.ElementCategory.{ElementCategory}
-use Rattle.html5_trees.specs.declared.element_kinds.ElementCategory.TheVariants.{Block, Pre}
+use Rattle.page_trees.specs.ElementKinds.{kind_of, may_hold}
+use Rattle.page_trees.specs.declared.element_kinds.ElementCategory.{ElementCategory}
+use Rattle.page_trees.specs.declared.element_kinds.ElementCategory.TheVariants.{Block, Pre}
 use Rattle.calm_pages.specs.Calm.{admits, are_calm, bars, begins_line, behind, behind_first, inside, may_hold_text}
 use Rattle.calm_pages.specs.declared.nesting.Scope.{Scope}
 use Rattle.dom_clean.specs.Cleaned.{held_by, text_or, without_lines}

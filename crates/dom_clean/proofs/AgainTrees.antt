@@ -13,9 +13,9 @@ use Rattle.dom_markup.specs.Html.{is_html}
 use Rattle.dom_markup.specs.Names.{void_names}
 use Rattle.dom_markup.specs.ValueTrees.{ValueTrees}
 use Rattle.dom_markup.specs.ValueTrees.ValueTrees.{no_trees, text_node, comment_node, doctype_node, element_node}
-use Rattle.html5_trees.specs.ElementKinds.{kind_of}
-use Rattle.html5_trees.specs.declared.element_kinds.ElementCategory.{ElementCategory}
-use Rattle.html5_trees.specs.declared.element_kinds.ElementCategory.TheVariants.{Pre}
+use Rattle.page_trees.specs.ElementKinds.{kind_of}
+use Rattle.page_trees.specs.declared.element_kinds.ElementCategory.{ElementCategory}
+use Rattle.page_trees.specs.declared.element_kinds.ElementCategory.TheVariants.{Pre}
 use Rattle.calm_pages.specs.Calm.{admits, behind_text, may_hold_text}
 use Rattle.dom_clean.specs.Cleaned.{after_lines, cleaned, followed_by, held_by, left_of, text_or, without_lines}
 use Rattle.dom_clean.specs.Fates.{fate_of, is_dropped, is_unseen, may_stay, place_below, spellable}

@@ -6,9 +6,9 @@ use Rattle.std.proofs.lemmas.List.Folds.{list_all-append}
 use Rattle.dom_markup.specs.Bytes.{is_whitespace}
 use Rattle.dom_markup.specs.ValueTrees.{ValueTrees}
 use Rattle.dom_markup.specs.ValueTrees.ValueTrees.{no_trees, text_node, comment_node, doctype_node, element_node}
-use Rattle.html5_trees.specs.ElementKinds.{kind_of}
-use Rattle.html5_trees.specs.declared.element_kinds.ElementCategory.{ElementCategory}
-use Rattle.html5_trees.specs.declared.element_kinds.ElementCategory.TheVariants.{Html, Head, Verbatim, Pre, Table, ColumnGroup, RowGroup, TableRow}
+use Rattle.page_trees.specs.ElementKinds.{kind_of}
+use Rattle.page_trees.specs.declared.element_kinds.ElementCategory.{ElementCategory}
+use Rattle.page_trees.specs.declared.element_kinds.ElementCategory.TheVariants.{Html, Head, Verbatim, Pre, Table, ColumnGroup, RowGroup, TableRow}
 use Rattle.calm_pages.specs.Calm.{admits, are_calm, behind, behind_first, inside, may_hold_text}
 use Rattle.calm_pages.specs.declared.nesting.Scope.{Scope}
 use Rattle.dom_clean.specs.Joined.{AreTidy, joined, merges, with_text}

@@ -3,16 +3,16 @@ use Rattle.std.proofs.Common.{◌≡◌, ℕ, true, not, ◌&&◌, List, [], ref
 use Rattle.std.specs.Prelude.{codes}
 use Rattle.dom_markup.specs.ValueTrees.{ValueTrees}
 use Rattle.dom_markup.specs.ValueTrees.ValueTrees.{no_trees, text_node, comment_node, doctype_node, element_node}
-use Rattle.html5_trees.specs.ElementKinds.{holds_doctype, kind_of, may_hold, names_of}
-use Rattle.html5_trees.specs.declared.element_kinds.ElementCategory.{ElementCategory}
-use Rattle.html5_trees.specs.declared.element_kinds.ElementCategory.TheVariants.{Anchor, Block, Body, Button, Cell, Form, Head, Html, Item, Paragraph}
+use Rattle.page_trees.specs.ElementKinds.{holds_doctype, kind_of, may_hold, names_of}
+use Rattle.page_trees.specs.declared.element_kinds.ElementCategory.{ElementCategory}
+use Rattle.page_trees.specs.declared.element_kinds.ElementCategory.TheVariants.{Anchor, Block, Body, Button, Cell, Form, Head, Html, Item, Paragraph}
 use Rattle.calm_pages.specs.Calm.{are_calm, bars, behind, behind_first, inside, may_hold_comment, may_hold_text, top}
 use Rattle.calm_pages.specs.declared.nesting.Scope.{Scope}
-use Rattle.html_rules.specs.PlainTrees.{flow_contexts}
-use Rattle.html_rules.specs.TreeTokens.{is_among}
-use Rattle.html_rules.proofs.TreeLists.{of_each}
-use Rattle.html_calm.specs.CalmTrees.{scope_in}
-use Rattle.html_calm.proofs.CalmDocuments.{body_kind, calm_parts, head_kind, html_kind}
+use Rattle.standard_rules.specs.PlainTrees.{flow_contexts}
+use Rattle.standard_rules.specs.TreeTokens.{is_among}
+use Rattle.standard_rules.proofs.TreeLists.{of_each}
+use Rattle.standard_laws.specs.CalmTrees.{scope_in}
+use Rattle.standard_laws.proofs.CalmDocuments.{body_kind, calm_parts, head_kind, html_kind}
 use Rattle.dom_clean.specs.Laws.{page_of, utf8_meta}
 
 -- the scope of the outermost nodes below such a parent

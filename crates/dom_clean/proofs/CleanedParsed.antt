@@ -7,19 +7,19 @@ use Rattle.dom_markup.specs.Plain.{IsPlain, IsPlainTrees}
 use Rattle.dom_markup.specs.ValueTrees.{ValueTrees}
 use Rattle.dom_links.specs.Forest.{Forest, children_of}
 use Rattle.calm_pages.specs.Calm.{IsCalmPage}
-use Rattle.html_rules.specs.PlainTrees.{flow_contexts}
-use Rattle.html_rules.specs.TreeTokens.{is_among}
-use Rattle.html_calm.specs.CalmTrees.{nodes_of}
-use Rattle.html_laws.specs.ReadableTrees.{AreReadable}
-use Rattle.html_laws.specs.Values.{safe_char, safe_piece}
-use Rattle.html_laws.specs.WrittenTrees.{text_by}
-use Rattle.html_laws.proofs.Pieces.{safe_writes_values}
-use Rattle.html_reading.specs.Laws.{CalmFragmentsAreParsed, CalmPagesAreParsed, FragmentsAreParsedOneWay, PagesAreParsedOneWay}
-use Rattle.html_reading.specs.Parsing.{IsFragmentOf, IsPageOf, IsPageOnlyOf}
-use Rattle.html_reading.proofs.CalmParsed.{OneMeaning, ReadIsPlain, StandForTheirTrees}
-use Rattle.html_reading.proofs.CalmReadable.{document_readable}
-use Rattle.html_reading.proofs.Kept.{calm_kept, safe_shows}
-use Rattle.html_reading.proofs.Utf8Pieces.{document_bare, document_utf8}
+use Rattle.standard_rules.specs.PlainTrees.{flow_contexts}
+use Rattle.standard_rules.specs.TreeTokens.{is_among}
+use Rattle.standard_laws.specs.CalmTrees.{nodes_of}
+use Rattle.standard_laws.specs.ReadableTrees.{AreReadable}
+use Rattle.standard_laws.specs.Values.{safe_char, safe_piece}
+use Rattle.standard_laws.specs.WrittenTrees.{text_by}
+use Rattle.standard_laws.proofs.Pieces.{safe_writes_values}
+use Rattle.standard_laws.specs.ParsingLaws.{CalmFragmentsAreParsed, CalmPagesAreParsed, FragmentsAreParsedOneWay, PagesAreParsedOneWay}
+use Rattle.standard_laws.specs.Parsing.{IsFragmentOf, IsPageOf, IsPageOnlyOf}
+use Rattle.standard_laws.proofs.CalmParsed.{OneMeaning, ReadIsPlain, StandForTheirTrees}
+use Rattle.standard_laws.proofs.CalmReadable.{document_readable}
+use Rattle.standard_laws.proofs.Kept.{calm_kept, safe_shows}
+use Rattle.standard_laws.proofs.Utf8Pieces.{document_bare, document_utf8}
 use Rattle.dom_clean.specs.Cleaned.{cleaned_below}
 use Rattle.dom_clean.specs.Laws.{IsSafe, left_below, page_around, page_of}
 use Rattle.dom_clean.specs.Policy.{Policy, is_sound}
@@ -30,7 +30,7 @@ use Rattle.dom_clean.proofs.CleanedText.{page_utf8, same_page, same_text}
 use Rattle.dom_clean.proofs.DeclaresUtf8.{page_declares}
 use Rattle.dom_clean.proofs.Pages.{safe_text}
 
--- the page as html_laws writes it
+-- the page as standard_laws writes it
 page_is : (policy : Policy) → is_sound policy ≡ true → (text : List ℕ) (trees : ValueTrees) → IsSafe policy text trees → page_around text ≡ text_by safe_char false (page_of trees)
 page_is policy sound text trees safe = ap page_around safe.is ∙ sym (same_page policy sound trees safe.allowed)
 

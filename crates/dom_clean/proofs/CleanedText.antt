@@ -1,4 +1,4 @@
--- The text of what was left is the text of its trees as html_laws defines it.
+-- The text of what was left is the text of its trees as standard_laws defines it.
 use Rattle.std.proofs.Common.{◌≡◌, ℕ, true, false, cond, List, [], ◌++◌, refl, ap, ◌∙◌, append-nil, append_assoc}
 use Rattle.std.specs.Prelude.{codes}
 use Rattle.std.specs.Str.{IsUtf8, chars}
@@ -10,8 +10,8 @@ use Rattle.dom_markup.specs.Html.{end_tag}
 use Rattle.dom_markup.specs.Names.{raw_names, void_names}
 use Rattle.dom_markup.specs.ValueTrees.{ValueTrees}
 use Rattle.dom_markup.specs.ValueTrees.ValueTrees.{no_trees, text_node, comment_node, doctype_node, element_node}
-use Rattle.html_laws.specs.Values.{safe_char}
-use Rattle.html_laws.specs.WrittenTrees.{text_by}
+use Rattle.standard_laws.specs.Values.{safe_char}
+use Rattle.standard_laws.specs.WrittenTrees.{text_by}
 use Rattle.dom_clean.specs.Laws.{AreAllowed, page_around, page_of}
 use Rattle.dom_clean.specs.Policy.{Policy, is_sound}
 use Rattle.dom_clean.specs.Written.{start_of, text_of}

@@ -12,11 +12,11 @@ use Rattle.dom_markup.specs.Names.{void_names}
 use Rattle.dom_markup.specs.Html.{is_html}
 use Rattle.dom_markup.specs.ValueTrees.{ValueTrees}
 use Rattle.dom_markup.specs.ValueTrees.ValueTrees.{no_trees, text_node, comment_node, doctype_node, element_node}
-use Rattle.html5_trees.specs.ElementKinds.{kind_of}
+use Rattle.page_trees.specs.ElementKinds.{kind_of}
 use Rattle.calm_pages.specs.Calm.{admits, are_calm, bars, begins_line, behind, behind_first, behind_text, inside, may_hold_text}
-use Rattle.html5_trees.specs.ElementKinds.{may_hold}
-use Rattle.html5_trees.specs.declared.element_kinds.ElementCategory.{ElementCategory}
-use Rattle.html5_trees.specs.declared.element_kinds.ElementCategory.TheVariants.{Block, Pre}
+use Rattle.page_trees.specs.ElementKinds.{may_hold}
+use Rattle.page_trees.specs.declared.element_kinds.ElementCategory.{ElementCategory}
+use Rattle.page_trees.specs.declared.element_kinds.ElementCategory.TheVariants.{Block, Pre}
 use Rattle.calm_pages.specs.declared.nesting.Scope.{Scope}
 use Rattle.dom_clean.specs.Cleaned.{after_lines, cleaned, followed_by, held_by, left_of, text_or, without_lines}
 use Rattle.dom_clean.specs.Fates.{fate_of, is_dropped, may_stay, place_below, spellable}

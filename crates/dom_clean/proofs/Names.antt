@@ -12,7 +12,7 @@ use Rattle.dom_markup.specs.Escaping.{lacks}
 use Rattle.dom_markup.specs.Markup.{IsTagName}
 use Rattle.dom_markup.specs.Names.{raw_names, text_names}
 use Rattle.dom_markup.specs.Plain.{IsPlainName}
-use Rattle.html5_trees.specs.ElementKinds.{kind_of, names_of}
+use Rattle.page_trees.specs.ElementKinds.{kind_of, names_of}
 use Rattle.calm_pages.specs.Calm.{begins, begins_other_tag}
 use Rattle.dom_clean.specs.Policy.{is_simple, is_simple_byte, keepable_names, may_keep}
 use Rattle.dom_clean.specs.Spelled.{Front, IsQuietName}

@@ -12,8 +12,8 @@ use Rattle.dom_markup.specs.Names.{raw_names, text_names, void_names}
 use Rattle.dom_markup.specs.Plain.{IsPlainTrees}
 use Rattle.dom_markup.specs.ValueTrees.{ValueTrees}
 use Rattle.dom_markup.specs.ValueTrees.ValueTrees.{no_trees, text_node, comment_node, doctype_node, element_node}
-use Rattle.html5_trees.specs.ElementKinds.{kind_of, names_of}
-use Rattle.html5_trees.specs.Framed.{IsFramed}
+use Rattle.page_trees.specs.ElementKinds.{kind_of, names_of}
+use Rattle.page_trees.specs.Framed.{IsFramed}
 use Rattle.calm_pages.specs.Calm.{IsCalmDocument, are_calm, is_calm_text}
 use Rattle.dom_clean.specs.Cleaned.{cleaned_below, in_body}
 use Rattle.dom_clean.specs.Joined.{AreTidy, joined, with_text}

@@ -24,9 +24,9 @@ use Rattle.dom_clean.specs.Fates.{cleaned_attrs, fate_of, place_below, spellable
 use Rattle.dom_clean.specs.Policy.{Policy}
 use Rattle.dom_clean.proofs.Lines.{lines_before_tag, lines_escaped, lines_seen}
 use Rattle.dom_clean.proofs.Spellings.{spellable_utf8}
-use Rattle.html5_trees.specs.ElementKinds.{kind_of}
-use Rattle.html5_trees.specs.declared.element_kinds.ElementCategory.{ElementCategory}
-use Rattle.html5_trees.specs.declared.element_kinds.ElementCategory.TheVariants.{Pre}
+use Rattle.page_trees.specs.ElementKinds.{kind_of}
+use Rattle.page_trees.specs.declared.element_kinds.ElementCategory.{ElementCategory}
+use Rattle.page_trees.specs.declared.element_kinds.ElementCategory.TheVariants.{Pre}
 use Rattle.std.specs.Prelude.{codes}
 use Rattle.std.specs.Str.{IsUtf8}
 use Rattle.dom_clean.specs.Written.{start_of, text_of}

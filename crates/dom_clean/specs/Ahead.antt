@@ -10,9 +10,9 @@ use Rattle.dom_links.specs.Walk.{row_on}
 use Rattle.dom_markup.specs.Escaping.{escaped_text}
 use Rattle.dom_markup.specs.Html.{closing}
 use Rattle.dom_markup.specs.Names.{void_names}
-use Rattle.html5_trees.specs.ElementKinds.{kind_of}
-use Rattle.html5_trees.specs.declared.element_kinds.ElementCategory.{ElementCategory}
-use Rattle.html5_trees.specs.declared.element_kinds.ElementCategory.TheVariants.{Pre}
+use Rattle.page_trees.specs.ElementKinds.{kind_of}
+use Rattle.page_trees.specs.declared.element_kinds.ElementCategory.{ElementCategory}
+use Rattle.page_trees.specs.declared.element_kinds.ElementCategory.TheVariants.{Pre}
 use Rattle.dom_clean.specs.Cleaned.{after_lines, cleaned}
 use Rattle.dom_clean.specs.Fates.{cleaned_attrs, place_below, spellable}
 use Rattle.dom_clean.specs.Policy.{Policy}

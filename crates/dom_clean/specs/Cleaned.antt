@@ -11,9 +11,9 @@ use Rattle.dom_trees.specs.Views.{page_part}
 use Rattle.dom_markup.specs.Names.{void_names}
 use Rattle.dom_markup.specs.ValueTrees.{ValueTrees}
 use Rattle.dom_markup.specs.ValueTrees.ValueTrees.{no_trees, text_node, comment_node, doctype_node, element_node}
-use Rattle.html5_trees.specs.ElementKinds.{kind_of}
-use Rattle.html5_trees.specs.declared.element_kinds.ElementCategory.{ElementCategory}
-use Rattle.html5_trees.specs.declared.element_kinds.ElementCategory.TheVariants.{Body, Html, Pre}
+use Rattle.page_trees.specs.ElementKinds.{kind_of}
+use Rattle.page_trees.specs.declared.element_kinds.ElementCategory.{ElementCategory}
+use Rattle.page_trees.specs.declared.element_kinds.ElementCategory.TheVariants.{Body, Html, Pre}
 use Rattle.calm_pages.specs.Calm.{behind, behind_text, inside, top}
 use Rattle.dom_clean.specs.Fates.{cleaned_attrs, fate_of, place_below, spellable}
 use Rattle.dom_clean.specs.declared.fates.Fate.{Fate}

@@ -15,9 +15,9 @@ use Rattle.dom_nodes.specs.declared.node_data.NodeData.{NodeData}
 use Rattle.dom_nodes.specs.declared.node_data.NodeData.TheVariants.{Element as AnElement, Text}
 use Rattle.dom_markup.specs.Html.{is_html}
 use Rattle.dom_markup.specs.ValueTrees.{Attribute}
-use Rattle.html5_trees.specs.ElementKinds.{kind_of}
-use Rattle.html5_trees.specs.declared.element_kinds.ElementCategory.{ElementCategory}
-use Rattle.html5_trees.specs.declared.element_kinds.ElementCategory.TheVariants.{Head, Metadata, Verbatim}
+use Rattle.page_trees.specs.ElementKinds.{kind_of}
+use Rattle.page_trees.specs.declared.element_kinds.ElementCategory.{ElementCategory}
+use Rattle.page_trees.specs.declared.element_kinds.ElementCategory.TheVariants.{Head, Metadata, Verbatim}
 use Rattle.calm_pages.specs.Calm.{admits, behind, inside, may_hold_text}
 use Rattle.url.specs.Parser.{Parsed, parse_url}
 use Rattle.url.specs.Parts.{Parts, serialize}

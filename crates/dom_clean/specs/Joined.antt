@@ -8,9 +8,9 @@ use Rattle.dom_markup.specs.Names.{raw_names, text_names, void_names}
 use Rattle.dom_markup.specs.Plain.{IsPlainName}
 use Rattle.dom_markup.specs.ValueTrees.{Attribute, ValueTrees}
 use Rattle.dom_markup.specs.ValueTrees.ValueTrees.{no_trees, text_node, comment_node, doctype_node, element_node}
-use Rattle.html5_trees.specs.ElementKinds.{kind_of}
-use Rattle.html5_trees.specs.declared.element_kinds.ElementCategory.{ElementCategory}
-use Rattle.html5_trees.specs.declared.element_kinds.ElementCategory.TheVariants.{Verbatim}
+use Rattle.page_trees.specs.ElementKinds.{kind_of}
+use Rattle.page_trees.specs.declared.element_kinds.ElementCategory.{ElementCategory}
+use Rattle.page_trees.specs.declared.element_kinds.ElementCategory.TheVariants.{Verbatim}
 use Rattle.dom_clean.specs.Spelled.{AreSpelled, Front, IsQuietName}
 
 -- a text before trees, joined with a text that they begin with

@@ -6,10 +6,10 @@ use Rattle.encodings.specs.declared.encoding.Encoding.TheVariants.{Utf8}
 use Rattle.text_decoding.specs.Pages.{IsPageEncoding}
 use Rattle.text_decoding.specs.declared.page.Charset.{Charset}
 use Rattle.text_decoding.specs.declared.page.Confidence.TheVariants.{Declared}
-use Rattle.html_rules.specs.PlainTrees.{flow_contexts}
-use Rattle.html_rules.specs.TreeTokens.{is_among}
-use Rattle.html_calm.specs.CalmTrees.{nodes_of}
-use Rattle.html_reading.specs.Parsing.{IsFragmentOnlyOf, IsPageOnlyOf}
+use Rattle.standard_rules.specs.PlainTrees.{flow_contexts}
+use Rattle.standard_rules.specs.TreeTokens.{is_among}
+use Rattle.standard_laws.specs.CalmTrees.{nodes_of}
+use Rattle.standard_laws.specs.Parsing.{IsFragmentOnlyOf, IsPageOnlyOf}
 use Rattle.dom_clean.specs.Laws.{IsSafe, page_around, page_of}
 use Rattle.dom_clean.specs.Policy.{Policy, is_sound}
 

@@ -16,12 +16,12 @@ use crate::laws::cleaned_text_is_parsed;
 use crate::policy::Policy;
 use crate::writer::clean_below;
 use calm_pages::read_calm;
-use dom_html5::{Context, Options, PageFault, parse_page, parse_page_fragment};
 use dom_links::iters::first_child_id;
 use dom_markup::document::Document;
 use dom_nodes::fault::OutOfMemory;
 use dom_nodes::node_id::NodeId;
 use dom_trees::tree::Tree;
+use page_reading::{Context, Options, PageFault, parse_page, parse_page_fragment};
 use std::alloc::Global;
 
 /// The id of the body of a page that `page_around` returns, if that is a calm page: the root, the

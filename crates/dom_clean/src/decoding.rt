@@ -8,7 +8,7 @@ ghost use Rattle.text_decoding.specs.Pages.{IsPageEncoding, behind_mark, page_te
 
 use crate::cleaning::{clean, clean_page};
 use crate::policy::Policy;
-use dom_html5::{Charset, Confidence, Encoding, PageFault, decode_page};
+use page_reading::{Charset, Confidence, Encoding, PageFault, decode_page};
 use std::alloc::Global;
 
 /// What a policy leaves of bytes, in UTF-8, and the encoding that the bytes were in.

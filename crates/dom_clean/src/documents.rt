@@ -10,9 +10,9 @@ use crate::cleaning::{body_of, page_around};
 use crate::laws::what_is_left_is_safe;
 use crate::policy::Policy;
 use crate::writer::clean_below;
-use dom_html5::{Options, PageFault, parse_page};
 use dom_markup::document::Document;
 use dom_trees::tree::Tree;
+use page_reading::{Options, PageFault, parse_page};
 
 /// Returns the document of a page with what the policy leaves of the body of a tree, or of the
 /// whole tree if it has no body. It is the document that the text of the page is parsed to, and it

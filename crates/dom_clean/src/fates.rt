@@ -7,7 +7,7 @@ ghost use Rattle.dom_clean.specs.Fates.{may_stay, place_below, text_fate};
 ghost use Rattle.dom_clean.specs.Policies.{policy_of};
 ghost use Rattle.dom_clean.specs.declared.fates.Fate.TheVariants.{Stays};
 ghost use Rattle.dom_nodes.specs.declared.node_data.NodeData.TheVariants.{Element as AnElement};
-ghost use Rattle.html5_trees.specs.ElementKinds.{kind_of};
+ghost use Rattle.page_trees.specs.ElementKinds.{kind_of};
 
 use crate::lists::{Lists, is_among};
 use crate::values::spellable;
@@ -15,7 +15,7 @@ use calm_pages::{Scope, TOP, holds_text};
 use dom_nodes::fault::OutOfMemory;
 use dom_nodes::name::NamespaceRef;
 use dom_nodes::node_data::{Element, NodeData};
-use html5_trees::ElementCategory;
+use page_trees::ElementCategory;
 use std::alloc::Global;
 
 /// What becomes of a node.

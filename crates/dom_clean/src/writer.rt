@@ -20,7 +20,7 @@ ghost use Rattle.dom_links.specs.Sound.{IsForest};
 ghost use Rattle.dom_markup.specs.Html.{closing, end_tag};
 ghost use Rattle.dom_markup.specs.Names.{void_names};
 ghost use Rattle.dom_nodes.specs.Words.{is_among};
-ghost use Rattle.html5_trees.specs.ElementKinds.{kind_of};
+ghost use Rattle.page_trees.specs.ElementKinds.{kind_of};
 
 use crate::attributes::{is_void_name, push_start};
 use crate::fates::{Fate, Place, category, fate_of, in_body, place_below};
@@ -34,7 +34,7 @@ use dom_nodes::fault::OutOfMemory;
 use dom_nodes::node_data::{Element, NodeData};
 use dom_nodes::node_id::NodeId;
 use dom_trees::tree::Tree;
-use html5_trees::ElementCategory;
+use page_trees::ElementCategory;
 use std::alloc::Global;
 use std::marker::Model;
 

@@ -4,10 +4,6 @@ pub use crate::document_md::DocumentMd;
 pub use crate::selection_md::SelectionMd;
 pub use dom_edits::edit::SelectionFault;
 pub use dom_edits::selection_mut::SelectionMut;
-pub use dom_html5::{
-    Charset, Confidence, Context, Encoding, Fallback, Options, PageByteParser, PageFault,
-    PageParser, ReadPage, parse_page, parse_page_bytes, parse_page_fragment, read_page,
-};
 pub use dom_links::gap::Place;
 pub use dom_markup::document::Document;
 pub use dom_markup::document::snippet::Snippet;
@@ -26,3 +22,7 @@ pub use dom_selectors::fault::SelectorFault;
 pub use dom_trees::node_mut::NodeMut;
 pub use dom_trees::node_ref::NodeRef;
 pub use dom_trees::tree::Tree;
+pub use page_reading::{
+    Charset, Confidence, Context, Encoding, Fallback, Options, PageByteParser, PageFault,
+    PageParser, ReadPage, parse_page, parse_page_bytes, parse_page_fragment, read_page,
+};

@@ -18,7 +18,7 @@ ghost use Rattle.dom_trees.specs.Edits.{making, normalizing, removing, setting_t
 ghost use Rattle.dom_trees.specs.NewNodes.{bare_element, html_name, text_node};
 ghost use Rattle.dom_nodes.specs.Words.{class_words};
 ghost use Rattle.dom_trees.specs.Views.{node_attr, node_attrs, node_name};
-ghost use Rattle.html5_trees.specs.Shape.{IsPage};
+ghost use Rattle.page_trees.specs.Shape.{IsPage};
 ghost use Rattle.c_state.specs.Answers.{ChangesTree, EditsTree, GivesNodes, GivesText};
 ghost use Rattle.c_state.specs.Answers.{GivesTextThat, MakesNode, SaysWhether};
 ghost use Rattle.c_state.specs.Decodings.{IsDecodedPage, source_number};

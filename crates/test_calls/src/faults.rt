@@ -1,12 +1,12 @@
 //! The messages of faults, and the position of a fault in a text.
 
 use dom_edits::edit::SelectionFault;
-use dom_html5::PageFault;
 use dom_links::validation::ValidateFault;
 use dom_markup::serializing::WriteFault;
 use dom_nodes::fault::{EditFault, MarkupFault, MarkupFaultKind, OutOfMemory};
 use dom_selectors::fault::SelectorFault;
 use dom_selectors::mini_selector::fault::MiniFault;
+use page_reading::PageFault;
 use std::fmt::Display;
 use test_lines::words::cut;
 

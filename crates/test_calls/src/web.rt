@@ -1,12 +1,12 @@
 //! Pages of the web: the trees that texts are parsed to, and their tokens.
 
-use dom_html5::{
-    Context, Options, PageFault, make_page, parse_page, parse_page_bytes, parse_page_fragment,
-};
 use dom_markup::document::Document;
 use dom_trees::tree::Tree;
-use html5_tokens::token::{TagKind, Token};
-use html5_tokens::tokenizer::{Step, Tokenizer};
+use page_reading::{
+    Context, Options, PageFault, make_page, parse_page, parse_page_bytes, parse_page_fragment,
+};
+use page_tokens::token::{TagKind, Token};
+use page_tokens::tokenizer::{Step, Tokenizer};
 use test_lines::printing::{show, show_edit, show_read};
 
 /// Options that store parse errors. They turn off two quick ways: tags are read character by

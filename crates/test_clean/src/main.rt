@@ -13,9 +13,9 @@ use dom_clean::{
     CleanedBytes, Policy, clean, clean_bytes, clean_document, clean_page, clean_page_bytes,
     clean_tree, write_clean_tree,
 };
-use dom_html5::{Charset, Options, parse_page};
 use dom_markup::document::Document;
 use dom_markup::serializing::NodeMarkup;
+use page_reading::{Charset, Options, parse_page};
 use std::env;
 use std::io::{Read, Write};
 use std::process::ExitCode;

@@ -4,7 +4,6 @@
 //! counted.
 #![tactic(auto)]
 
-use dom_html5::{Options, parse_page};
 use dom_index::index::TreeIndex;
 use dom_links::gap::Place;
 use dom_markup::document::snippet::Snippet;
@@ -19,6 +18,7 @@ use dom_select::matcher::Matcher;
 use dom_select::matcher::descendants::select_below;
 use dom_selection::document_select::DocumentSelect;
 use dom_trees::tree::Tree;
+use page_reading::{Options, parse_page};
 use std::alloc::Global;
 use std::process::ExitCode;
 use std::time::{Duration, Instant};

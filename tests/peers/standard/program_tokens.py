@@ -1,4 +1,4 @@
-"""program_tokens.py TEST_CALLS COUNT SEED: tokens of random texts by html5_tokens, as test_calls prints them for `web-tokens`, beside
+"""program_tokens.py TEST_CALLS COUNT SEED: tokens of random texts by page_tokens, as test_calls prints them for `web-tokens`, beside
 those of the table of the tokenizer's states (tests/standard/machine.py). Compared are the kinds of the tokens, the names of tags and
 doctypes, the texts of comments, and the characters, all in the data state; test_calls prints no attributes, and it doesn't switch
 states, which the trees of `hq --tree` show."""

@@ -1,4 +1,4 @@
-"""Changes the tables and definitions of crates/html_standard, one place at a time, and sees that the laws are then no longer proved: each
+"""Changes the tables and definitions of crates/standard_tokens, one place at a time, and sees that the laws are then no longer proved: each
 place is one that the laws rest on. Run outside the gate, since each change takes a check of the crate: wrong_definitions.py [WORD..] tries
 those changes whose description has one of the words."""
 import pathlib
@@ -9,7 +9,7 @@ import tempfile
 
 ROOT = pathlib.Path(__file__).resolve().parents[3]
 TABLE = "docs/standard/tokenizer.txt"
-PLAIN = "crates/html_standard/specs/PlainMarkup.antt"
+PLAIN = "crates/standard_tokens/specs/PlainMarkup.antt"
 # What is changed, in which file, text before the change by which it is found, the old text, and the new.
 CHANGES = [
     ("a writer that leaves < in a text", PLAIN, "is_text_char c = ", "|| 60 == c)", ")"),
@@ -35,16 +35,16 @@ def changed(text, before, old, new):
 
 def copy_to(folder):
     """The crate, with its tables and what makes its definitions, as a workspace of its own."""
-    crate = "crates/html_standard"
+    crate = "crates/standard_tokens"
     shutil.copytree(ROOT / crate, folder / crate, ignore=shutil.ignore_patterns("out"))
     for part in ("docs/standard", "tests/standard"):
         shutil.copytree(ROOT / part, folder / part)
     shutil.copy(ROOT / "HANDLES", folder)
-    (folder / "crates.txt").write_text("html_standard:\n")
+    (folder / "crates.txt").write_text("standard_tokens:\n")
 
 
 def proved(folder):
-    ran = subprocess.run(["rt", "check", "--jobs", "1"], cwd=folder / "crates/html_standard", capture_output=True, text=True)
+    ran = subprocess.run(["rt", "check", "--jobs", "1"], cwd=folder / "crates/standard_tokens", capture_output=True, text=True)
     return "logic=proved" in ran.stdout + ran.stderr
 
 

@@ -1,4 +1,4 @@
-"""What is made for the crate html_rules: the definition specs/TreeRules.antt from rules.txt, and proofs/TreeAgreement.antt, in which the
+"""What is made for the crate standard_rules: the definition specs/TreeRules.antt from rules.txt, and proofs/TreeAgreement.antt, in which the
 prover computes the trees of rows.jsonl, from those rows; proofs/RuleFacts.antt is what it computes for each name."""
 import json
 import pathlib
@@ -69,7 +69,7 @@ def tree_rules():
     words = sorted({*WORDS.values(), *IMPORTED, *map(mode_name, MODES)})
     out = ["-- The rules of tree construction (13.2.6.4), written by generate.py from rules.txt.",
            "use Rattle.std.specs.Prelude.{ℕ, List, [], ◌∷◌, ◌++◌, codes}",
-           "use Rattle.html_rules.specs.RuleWords.{%s}" % ", ".join(words)]
+           "use Rattle.standard_rules.specs.RuleWords.{%s}" % ", ".join(words)]
     for name, members in SETS.items():
         out += ["", "abbrev pub %s : List (List ℕ)" % name, "%s = %s" % (name, names(members)[1:-1])]
     out += ["", "unfoldable pub rules : Mode → List Rule"]
@@ -118,10 +118,10 @@ def rows():
 def agreement():
     out = ["-- The trees of the rows of rows.jsonl, computed from the rules; written by generate.py.",
            "use Rattle.std.specs.Prelude.{◌≡◌, false, [], ◌∷◌, None, Some, codes, refl}",
-           "use Rattle.html_rules.specs.Building.{built, built_fragment, tree_step, run, taken, act, in_scope}",
-           "use Rattle.html_rules.specs.TreeRules.{rules}",
-           "use Rattle.html_rules.specs.TreeTokens.{no_trees, text_node, comment_node, doctype_named, doctype_node, element_node}",
-           "use Rattle.html_standard.specs.Tokens.{AChar, AComment, ADoctype, AStart, AnEnd}"]
+           "use Rattle.standard_rules.specs.Building.{built, built_fragment, tree_step, run, taken, act, in_scope}",
+           "use Rattle.standard_rules.specs.TreeRules.{rules}",
+           "use Rattle.standard_rules.specs.TreeTokens.{no_trees, text_node, comment_node, doctype_named, doctype_node, element_node}",
+           "use Rattle.standard_tokens.specs.Tokens.{AChar, AComment, ADoctype, AStart, AnEnd}"]
     for i, row in enumerate(rows(), 1):
         call = "built_fragment " + codes(row["context"]) if row["context"] else "built"
         tree = "None" if row["tree"] is None else "Some " + trees(row["tree"])
@@ -137,5 +137,5 @@ def targets(crate):
 
 
 if __name__ == "__main__":
-    for path, text in targets(HERE.parents[2] / "crates" / "html_rules").items():
+    for path, text in targets(HERE.parents[2] / "crates" / "standard_rules").items():
         path.write_text(text)

@@ -8,16 +8,16 @@ THREE = "(%s, %s, %s)"
 HEAD = '''-- What the rules do with each name of a class, computed by the prover; written by generate.py.
 use Rattle.std.specs.Prelude.{◌≡◌, false, ◌∷◌, codes, refl}
 use mathlib.Core.Path.{ap}
-use Rattle.html_rules.specs.Building.{act, in_found_mode, in_scope, run, taken, with_stack}
-use Rattle.html_rules.specs.PlainTrees.{%(classes)s, names_of}
-use Rattle.html_rules.specs.RuleWords.{InCaption, InCell, InColumnGroup, InHead, InRow, InTable, InTableBody}
-use Rattle.html_rules.specs.TreeRules.{headings, rules}
-use Rattle.html_rules.specs.TreeTokens.{is_among}
-use Rattle.html_standard.specs.Tokens.{AChar}
-use Rattle.html_rules.proofs.FormSteps.{form_closes, form_opens}
-use Rattle.html_rules.proofs.RuleShapes.{Formatting, HoldsItems, IsBreak, IsForm, IsLeafIn, IsMarkedPart, IsPart, IsRawText, IsSource, IsTable, IsVoid, KeepsSpace, OpensBlock, OpensFormatting, OpensHeading, OpensItem, OpensPhrase, OpensPre, OpensRubyText, Ordinary, RunsIn, grown, open_of, with_one}
-use Rattle.html_rules.proofs.StackKeys.{Barless}
-use Rattle.html_rules.proofs.TreeLists.{Each, each_space}'''
+use Rattle.standard_rules.specs.Building.{act, in_found_mode, in_scope, run, taken, with_stack}
+use Rattle.standard_rules.specs.PlainTrees.{%(classes)s, names_of}
+use Rattle.standard_rules.specs.RuleWords.{InCaption, InCell, InColumnGroup, InHead, InRow, InTable, InTableBody}
+use Rattle.standard_rules.specs.TreeRules.{headings, rules}
+use Rattle.standard_rules.specs.TreeTokens.{is_among}
+use Rattle.standard_tokens.specs.Tokens.{AChar}
+use Rattle.standard_rules.proofs.FormSteps.{form_closes, form_opens}
+use Rattle.standard_rules.proofs.RuleShapes.{Formatting, HoldsItems, IsBreak, IsForm, IsLeafIn, IsMarkedPart, IsPart, IsRawText, IsSource, IsTable, IsVoid, KeepsSpace, OpensBlock, OpensFormatting, OpensHeading, OpensItem, OpensPhrase, OpensPre, OpensRubyText, Ordinary, RunsIn, grown, open_of, with_one}
+use Rattle.standard_rules.proofs.StackKeys.{Barless}
+use Rattle.standard_rules.proofs.TreeLists.{Each, each_space}'''
 NO_HEADING = "λ name. is_among name headings ≡ false"
 
 

@@ -2,7 +2,7 @@ use Rattle.std.proofs.Common.{◌≡◌, false, sym, subst, ◌∙◌}
 use Rattle.dom_links.specs.Forest.{children_of}
 use Rattle.dom_markup.specs.Html.{html_of}
 use Rattle.dom_markup.specs.Plain.{text_of_trees}
-use Rattle.html5_trees.specs.Framed.{IsFramed}
+use Rattle.page_trees.specs.Framed.{IsFramed}
 use Rattle.calm_pages.specs.Calm.{IsCalmDocument}
 use Rattle.calm_pages.proofs.CalmFrames.{calm_framed}
 use Rattle.calm_pages.proofs.laws.calm_documents_are_pages.Goals as goal

@@ -1,6 +1,6 @@
 use Rattle.std.proofs.Common.{◌≡◌, true, sym, subst, ◌∙◌}
 use Rattle.calm_pages.specs.Calm.{has_elements_at_ends}
-use Rattle.html5_trees.specs.Shape.{IsPage}
+use Rattle.page_trees.specs.Shape.{IsPage}
 use Rattle.calm_pages.proofs.CalmPages.{calm_shape}
 use Rattle.calm_pages.proofs.reading.is_calm.Goals as goal
 

@@ -1,5 +1,0 @@
-use Rattle.html5_tokens.proofs.NameLemmas.{longest_of_nothing}
-use Rattle.html5_tokens.proofs.tokenizer.named.Match.new.Goals as goal
-
-pub invariant_of-result : goal.invariant_of-result
-invariant_of-result c = record { longest = longest_of_nothing _ c.all.ensures }

@@ -1,6 +1,0 @@
-use Rattle.std.proofs.Common.{◌≡◌, map, take}
-use Rattle.html5_trees.specs.Foreign.{attr_in}
-use Rattle.html5_trees.proofs.attributes.attrs_of.Given as goal
-
-abbrev pub invariant-loop-attr : goal.invariant-loop-attr
-invariant-loop-attr l = l.attrs ≡ map (attr_in l.ns) (take l.attr-index l.given)

@@ -1,5 +1,0 @@
-use Rattle.html5_trees.proofs.FormattingLemmas.{entries_left}
-use Rattle.html5_trees.proofs.growing.GrowingTree.make_room.Goals as goal
-
-pub invariant_of-self : goal.invariant_of-self
-invariant_of-self c = entries_left _ _ _ _ _ _ _ c.self.invariant c.make_room.ensures.one

@@ -1,5 +1,0 @@
-use Rattle.html5_trees.proofs.HeldNumbers.{entries_removed}
-use Rattle.html5_trees.proofs.growing.GrowingTree.remove_entry.Goals as goal
-
-pub invariant_of-self : goal.invariant_of-self
-invariant_of-self c = entries_removed _ _ _ _ _ _ _ _ c.self.invariant c.remove_at.ensures

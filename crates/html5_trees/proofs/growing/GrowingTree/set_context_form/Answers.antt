@@ -1,6 +1,0 @@
-use Rattle.html5_trees.proofs.growing.GrowingTree.set_context_form.Goals as goal
-
-pub invariant_of-self : goal.invariant_of-self
-invariant_of-self c =
-    let all = c.self.invariant in
-    record { root = all.root; stack = all.stack; order = all.order; formatting = all.formatting; head = all.head; form = tt; context = all.context }

@@ -1,9 +1,0 @@
-use Rattle.std.proofs.Common.{refl}
-use Rattle.html5_trees.proofs.Ways.{child_call, fresh_call}
-use Rattle.html5_trees.proofs.growing.edits.append.Goals as goal
-
-pub returns-clause-grows : goal.returns-clause-grows
-returns-clause-grows c = child_call _ _ _ _ _ _ c.made.ensures c.append_child_data_of.ensures c.is_forest.ensures c.requires.open.1 c.requires.plain refl
-
-pub returns-clause-element : goal.returns-clause-element
-returns-clause-element c = fresh_call _ _ _ _ _ _ c.made.ensures c.append_child_data_of.ensures c.is_forest.ensures c.requires.open c.requires.plain

@@ -1,8 +1,0 @@
-use Rattle.std.proofs.Common.{◌≡◌, drop}
-use Rattle.html5_trees.specs.Names.{row_for, rows_of}
-use Rattle.html5_trees.specs.declared.name.Name.{Name}
-use Rattle.html5_trees.proofs.name.Name.in_rows.Given as goal
-
--- what is left decides
-abbrev pub invariant-loop-known : goal.invariant-loop-known
-invariant-loop-known l = row_for (rows_of (drop l.known-index l.rows)) Name.Other l.written ≡ row_for (rows_of l.rows) Name.Other l.written

@@ -1,4 +1,0 @@
-pub mod CalmDocuments
-pub mod CalmPlain
-pub mod CategoryPlaces
-pub mod CharTexts

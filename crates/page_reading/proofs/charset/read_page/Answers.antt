@@ -1,0 +1,24 @@
+use Rattle.std.proofs.Common.{◌≡◌, ◌∙◌, subst, sym}
+use Rattle.calm_pages.specs.Calm.{IsCalmPage, SpellsCalmPage}
+use Rattle.page_reading.specs.Pages.{ReadsAsWritten}
+use Rattle.text_decoding.specs.Pages.{page_text}
+use Rattle.text_decoding.proofs.PageTexts.{replaced_is, text_is}
+use Rattle.page_reading.proofs.PageLemmas.{utf8_written}
+use Rattle.page_reading.proofs.charset.read_page.Goals as goal
+
+pub returns-clause-replaced : goal.returns-clause-replaced
+returns-clause-replaced c = c.replaced.ensures ∙ replaced_is _ _ c.in_ok-page.ensures.text
+
+pub returns-clause-written : goal.returns-clause-written
+returns-clause-written c = λ calm. record {
+  calm = λ trees page. c.in_ok-document.ensures.calm trees (subst (λ text. IsCalmPage text trees) (sym (c.as_str.ensures ∙ text_is _ _ c.in_ok-page.ensures.text)) page) calm;
+  same = λ forest page. c.in_ok-document.ensures.same forest (subst (λ text. SpellsCalmPage text forest) (sym (c.as_str.ensures ∙ text_is _ _ c.in_ok-page.ensures.text)) page) calm;
+}
+
+pub returns-clause-utf8 : goal.returns-clause-utf8
+returns-clause-utf8 c = λ transport utf8 calm.
+    let text = sym (c.as_str.ensures ∙ text_is _ _ c.in_ok-page.ensures.text) in
+    utf8_written c.args.charset c.args.bytes.now c.in_ok-page.page.encoding c.in_ok-page.page.confidence _ transport utf8 c.in_ok-page.ensures.encoding (record {
+      calm = λ trees page. c.in_ok-document.ensures.calm trees (subst (λ text. IsCalmPage text trees) text page) calm;
+      same = λ forest page. c.in_ok-document.ensures.same forest (subst (λ text. SpellsCalmPage text forest) text page) calm;
+    })

@@ -1,0 +1,191 @@
+//! Parsing a page or a fragment, whole or in pieces. Start at `parse_page`; `PageParser` takes
+//! pieces.
+
+ghost use Rattle.std.specs.Prelude.{◌≡◌, ◌↔◌, IfOk, IsTrue, IsUtf8};
+ghost use Rattle.dom_links.specs.Forest.{Forest};
+ghost use Rattle.dom_markup.specs.Numbered.{document_of};
+ghost use Rattle.dom_markup.specs.ValueTrees.{ValueTrees};
+ghost use Rattle.dom_trees.specs.SameTree.{SameTree};
+ghost use Rattle.calm_pages.specs.Calm.{IsCalmPage, ReadsCalm, SpellsCalmPage};
+ghost use Rattle.page_reading.specs.Parsers.{ReadsPage};
+ghost use Rattle.page_trees.specs.Shape.{IsPage};
+ghost use Rattle.standard_laws.specs.Pages.{IsParsedPage, IsWrittenPage};
+
+use calm_pages::read_calm;
+use dom_markup::document::Document;
+use page_trees::{Context, Options, PageFault, PageReader, make_page, without_mark};
+use standard_laws::parsing::written_pages_are_parsed;
+use std::alloc::Global;
+
+/// A parser for a page or a fragment whose text comes in pieces.
+#[derive(Drop)]
+pub struct PageParser {
+    reader: PageReader,
+    is_fragment: bool,
+}
+
+/// Parses a page and returns its document, which always has the shape of a page. Malformed markup
+/// is not an error: it is repaired by the rules of the HTML Standard. Fails only with `Memory` or
+/// `TooManyNodes`.
+///
+/// A calm page, which is explicit markup that tree construction would leave as it is, is parsed as
+/// `Document::parse` does, if depth is not limited and errors are not collected. If it is written
+/// as `html` or `clean_page` writes it, this is the tree that the HTML Standard gives.
+pub fn parse_page(alloc: Global, source: &str, options: Options) -> Result<Document, PageFault>
+    ensures page { IfOk result (λ document. IsPage document.tree) }
+    ensures calm { (trees : ValueTrees) → IsCalmPage source.now trees → ReadsCalm options
+        → IfOk result (λ document. document.tree ≡ document_of trees) }
+    ensures same { (forest : Forest) → SpellsCalmPage source.now forest → ReadsCalm options
+        → IfOk result (λ document. SameTree forest 0 document.tree 0) }
+    ensures standard { IsWrittenPage source.now → ReadsCalm options
+        → IfOk result (λ document. IsParsedPage source.now document.tree) }
+{
+    // A law, called for its contract alone.
+    written_pages_are_parsed();
+    parse_text(alloc, source, options)
+}
+
+/// Parses a page: a calm page as explicit markup, if the options allow it.
+fn parse_text(alloc: Global, source: &str, options: Options) -> Result<Document, PageFault>
+    ensures page { IfOk result (λ document. IsPage document.tree) }
+    ensures calm { (trees : ValueTrees) → IsCalmPage source.now trees → ReadsCalm options
+        → IfOk result (λ document. document.tree ≡ document_of trees) }
+{
+    if !reads_calm(options) {
+        return parse_any_page(alloc, source, options);
+    }
+    match read_calm(alloc, source)? {
+        Some(document) => Ok(document),
+        None => parse_any_page(alloc, source, options),
+    }
+}
+
+/// Returns whether calm pages are parsed as explicit markup with these options.
+fn reads_calm(options: Options) -> bool
+    ensures { IsTrue result ↔ ReadsCalm options }
+{
+    options.max_depth.is_none() && !options.errors
+}
+
+/// Parses a page by tree construction and returns its document.
+fn parse_any_page(alloc: Global, source: &str, options: Options) -> Result<Document, PageFault>
+    ensures { IfOk result (λ document. IsPage document.tree) }
+{
+    let parser = PageParser::new(alloc, options)?;
+    parser.read_whole(source)
+}
+
+/// Parses a page in UTF-8 like `parse_page`, and fails as it does. A byte order mark at the start
+/// is removed, and bytes that are not UTF-8 become U+FFFD. A page in another encoding has to be
+/// converted first: the encoding that a `meta` element or an HTTP header names is ignored.
+pub fn parse_page_bytes(
+    alloc: Global,
+    source: &[u8],
+    options: Options,
+) -> Result<Document, PageFault>
+    ensures page { IfOk result (λ document. IsPage document.tree) }
+    ensures calm { (trees : ValueTrees) → IsUtf8 source.now → IsCalmPage source.now trees
+        → ReadsCalm options → IfOk result (λ document. document.tree ≡ document_of trees) }
+    ensures same { (forest : Forest) → IsUtf8 source.now → SpellsCalmPage source.now forest
+        → ReadsCalm options → IfOk result (λ document. SameTree forest 0 document.tree 0) }
+    ensures standard { IsUtf8 source.now → IsWrittenPage source.now → ReadsCalm options
+        → IfOk result (λ document. IsParsedPage source.now document.tree) }
+{
+    let source = without_mark(source);
+    if let Ok(text) = str::from_utf8(source) {
+        return parse_page(alloc, text, options);
+    }
+    let text = String::from_utf8_lossy(alloc, source)?;
+    parse_page(alloc, text.as_str(), options)
+}
+
+/// Parses a text as the content of the context element (13.4) and returns a fragment: below the
+/// root is an element `html`, and below that are the nodes. Fails only with `Memory` or
+/// `TooManyNodes`.
+pub fn parse_page_fragment(
+    alloc: Global,
+    source: &str,
+    context: Context<'_>,
+    options: Options,
+) -> Result<Document, PageFault> {
+    let parser = PageParser::for_fragment(alloc, context, options)?;
+    parser.read_whole(source)
+}
+
+/// Returns the document in the shape of a page.
+fn page_of(document: Document) -> Result<Document, PageFault>
+    ensures { IfOk result (λ page. IsPage page.tree) }
+{
+    let mut page = document;
+    make_page(&mut page.tree)?;
+    Ok(page)
+}
+
+impl PageParser {
+    /// Returns a parser for a page. Fails only when memory runs out.
+    pub fn new(alloc: Global, options: Options) -> Result<PageParser, PageFault>
+        ensures { IfOk result ReadsPage }
+    {
+        Ok(PageParser {
+            reader: PageReader::page(alloc, options)?,
+            is_fragment: false,
+        })
+    }
+
+    /// Returns a parser for a fragment, the content of the context element. Fails only when memory
+    /// runs out.
+    pub fn for_fragment(
+        alloc: Global,
+        context: Context<'_>,
+        options: Options,
+    ) -> Result<PageParser, PageFault> {
+        Ok(PageParser {
+            reader: PageReader::fragment(alloc, context, options)?,
+            is_fragment: true,
+        })
+    }
+
+    /// Parses a text in one piece and returns its document.
+    fn read_whole(self, source: &str) -> Result<Document, PageFault>
+        ensures { ReadsPage self → IfOk result (λ document. IsPage document.tree) }
+    {
+        let mut parser = self;
+        parser.feed(source)?;
+        parser.finish()
+    }
+
+    /// Parses the next piece of the text. The text may be split anywhere. Fails only with `Memory`
+    /// or `TooManyNodes`; then nothing more is parsed, and each further call returns the same
+    /// error.
+    pub fn feed(&mut self, piece: &str) -> Result<(), PageFault>
+        ensures { ReadsPage self.old → ReadsPage self.new }
+    {
+        self.reader.feed(piece)
+    }
+
+    /// Parses the next bytes of a page in UTF-8, in pieces as a file or a connection delivers them.
+    /// The page may be split anywhere, even inside a character. A byte order mark at the start is
+    /// removed, and bytes that are not UTF-8 become U+FFFD. Fails as `feed` does.
+    pub fn feed_bytes(&mut self, piece: &[u8]) -> Result<(), PageFault>
+        ensures { ReadsPage self.old → ReadsPage self.new }
+    {
+        self.reader.feed_bytes(piece)
+    }
+
+    /// Returns the document after the last piece. Fails with the error of an earlier call, or with
+    /// `Memory` or `TooManyNodes`.
+    pub fn finish(self) -> Result<Document, PageFault>
+        ensures { ReadsPage self → IfOk result (λ document. IsPage document.tree) }
+    {
+        let built = self.reader.finish()?;
+        let document = Document {
+            tree: built.tree,
+            errors: built.errors,
+            quirks_mode: built.quirks_mode,
+        };
+        if self.is_fragment {
+            return Ok(document);
+        }
+        page_of(document)
+    }
+}

@@ -1,0 +1,417 @@
+//! The calls that read a page, and the runs of characters that a state copies unchanged.
+
+ghost use Rattle.std.specs.Prelude.{◌≡◌, ◌<◌, ◌≤◌, true, IfOk, IfSome, OnOk, length};
+ghost use Rattle.std.specs.Str.{IsCharBoundary};
+ghost use Rattle.page_tokens.specs.Runs.{ends_text, ends_tag_name, tag_name_len_of, IsRun};
+
+use super::plain::first_byte;
+use super::state::{
+    AttrState, CdataState, CommentState, DoctypeState, DoubleState, Id, Quote, ScriptState,
+    TagState,
+};
+use super::{Progress, Rest, State, Step, Tokenizer, append};
+use crate::token::{Token, TokenKind};
+use std::alloc::AllocError;
+use std::simd::prelude::*;
+
+/// The character that can end a token. A page can be split after each of them.
+pub const MARKS: char = '>';
+
+/// The places whose characters are copied unchanged.
+#[derive(Clone, Copy, Drop)]
+pub enum Run {
+    Text,
+    Raw,
+    Plaintext,
+    Escaped,
+    Comment,
+    BogusComment,
+    TagName,
+    AttrName,
+    AttrValue(Quote),
+    UnquotedValue,
+    DoctypeId(Id, Quote),
+    Cdata,
+}
+
+/// Returns which characters the state copies unchanged, if it copies any.
+fn run_of(state: State) -> Option<Run>
+    ensures { state ≡ State.Data → result ≡ Some Run.Text }
+{
+    match state {
+        State::Data | State::Rcdata => Some(Run::Text),
+        State::Rawtext | State::Script => Some(Run::Raw),
+        State::Plaintext => Some(Run::Plaintext),
+        State::ScriptData(ScriptState::Escaped | ScriptState::Double(DoubleState::Escaped)) => {
+            Some(Run::Escaped)
+        }
+        State::Comment(CommentState::Comment) => Some(Run::Comment),
+        State::Comment(CommentState::Bogus) => Some(Run::BogusComment),
+        State::Tag(TagState::Name) => Some(Run::TagName),
+        State::Attribute(AttrState::Name) => Some(Run::AttrName),
+        State::Attribute(AttrState::Quoted(quote)) => Some(Run::AttrValue(quote)),
+        State::Attribute(AttrState::Unquoted) => Some(Run::UnquotedValue),
+        State::Doctype(DoctypeState::Quoted(id, quote)) => Some(Run::DoctypeId(id, quote)),
+        State::Cdata(CdataState::Section) => Some(Run::Cdata),
+        _ => None,
+    }
+}
+
+/// Returns whether a byte ends a run of text: null, carriage return, `&` or `<`.
+#[inline(always)]
+fn ends_text(byte: u8) -> bool
+    ensures { result ≡ ends_text byte }
+{
+    matches!(byte, 0 | b'\r' | b'&' | b'<')
+}
+
+/// Returns whether a byte ends a tag name.
+#[inline(always)]
+fn ends_tag_name(byte: u8) -> bool
+    ensures ascii { result ≡ true → byte < 128 }
+    ensures value { result ≡ ends_tag_name byte }
+{
+    byte <= b'>' && matches!(byte, 0 | b'\t' | b'\n' | 0xc | b'\r' | b' ' | b'/' | b'>')
+}
+
+/// Returns whether a byte ends an attribute name, or is a parse error in one.
+#[inline(always)]
+fn ends_attr_name(byte: u8) -> bool
+    ensures { result ≡ true → byte < 128 }
+{
+    byte <= b'>' && (ends_tag_name(byte) || matches!(byte, b'"' | b'\'' | b'<' | b'='))
+}
+
+/// Returns whether a byte ends a run in a double-quoted value.
+#[inline(always)]
+fn ends_value(byte: u8) -> bool
+    ensures { result ≡ true → byte < 128 }
+{
+    matches!(byte, 0 | b'\r' | b'&' | b'"')
+}
+
+/// Returns whether a byte ends an unquoted value, starts a reference, or is a parse error there.
+#[inline(always)]
+fn ends_unquoted_value(byte: u8) -> bool {
+    byte <= b'`'
+        && (matches!(byte, 0 | b'\t' | b'\n' | 0xc | b'\r' | b' ' | b'&' | b'>')
+            || matches!(byte, b'"' | b'\'' | b'<' | b'=' | b'`'))
+}
+
+impl Run {
+    /// Returns whether a byte ends the run. A null and a carriage return end every run.
+    #[inline(always)]
+    fn ends_at(self, byte: u8) -> bool
+        ensures ascii { result ≡ true → byte < 128 }
+        ensures text { self ≡ Run.Text → result ≡ ends_text byte }
+    {
+        if byte >= 128 {
+            return false;
+        }
+        match self {
+            Run::Text => ends_text(byte),
+            Run::Raw => matches!(byte, 0 | b'\r' | b'<'),
+            Run::Plaintext => matches!(byte, 0 | b'\r'),
+            Run::Escaped | Run::Comment => matches!(byte, 0 | b'\r' | b'-' | b'<'),
+            Run::BogusComment => matches!(byte, 0 | b'\r' | b'>'),
+            Run::TagName => ends_tag_name(byte),
+            Run::AttrName => ends_attr_name(byte),
+            Run::AttrValue(Quote::Double) => ends_value(byte),
+            Run::AttrValue(Quote::Single) => matches!(byte, 0 | b'\r' | b'&' | b'\''),
+            Run::UnquotedValue => ends_unquoted_value(byte),
+            Run::DoctypeId(_, Quote::Double) => matches!(byte, 0 | b'\r' | b'>' | b'"'),
+            Run::DoctypeId(_, Quote::Single) => matches!(byte, 0 | b'\r' | b'>' | b'\''),
+            Run::Cdata => matches!(byte, 0 | b'\r' | b']'),
+        }
+    }
+}
+
+/// Returns how many bytes come before the first of the four. The last bytes, fewer than sixteen,
+/// are not searched, so the result can be less.
+#[inline(always)]
+fn skip(bytes: &[u8], ends: [u8; 4]) -> usize {
+    let (blocks, _) = bytes.as_chunks::<16>();
+    let mut count: usize = 0;
+    for block in blocks {
+        let lanes = u8x16::from_array(*block);
+        let marks = lanes.simd_eq(u8x16::splat(ends[0]))
+            | lanes.simd_eq(u8x16::splat(ends[1]))
+            | lanes.simd_eq(u8x16::splat(ends[2]))
+            | lanes.simd_eq(u8x16::splat(ends[3]));
+        let marks = marks.to_bitmask();
+        if marks != 0 {
+            return count.saturating_add(marks.trailing_zeros() as usize);
+        }
+        count = count.saturating_add(16);
+    }
+    count
+}
+
+/// Returns how many bytes come before the first that ends a run of text.
+fn text_len(text: &str) -> usize
+    ensures boundary { IsCharBoundary text.now result }
+    ensures text { IsRun text.now → result ≡ length text.now }
+{
+    let bytes = text.as_bytes();
+    for index in skip(bytes, *b"\0\r&<")..bytes.len() {
+        if ends_text(bytes[index]) {
+            return index;
+        }
+    }
+    text.len()
+}
+
+/// Returns how many bytes come before the first that ends a tag name.
+pub fn tag_name_len(text: &str) -> usize
+    ensures boundary { IsCharBoundary text.now result }
+    ensures len { result ≡ tag_name_len_of text.now }
+{
+    let bytes = text.as_bytes();
+    for index in 0..bytes.len() {
+        if ends_tag_name(bytes[index]) {
+            return index;
+        }
+    }
+    text.len()
+}
+
+/// Returns how many bytes come before the first that ends an attribute name.
+pub fn attr_name_len(text: &str) -> usize
+    ensures { IsCharBoundary text.now result }
+{
+    for (index, byte) in text.as_bytes().iter().enumerate() {
+        if ends_attr_name(*byte) {
+            return index;
+        }
+    }
+    text.len()
+}
+
+/// Returns how many bytes come before the first that ends a run in a double-quoted value.
+pub fn value_len(text: &str) -> usize
+    ensures { IsCharBoundary text.now result }
+{
+    let bytes = text.as_bytes();
+    for index in skip(bytes, *b"\0\r&\"")..bytes.len() {
+        if ends_value(bytes[index]) {
+            return index;
+        }
+    }
+    text.len()
+}
+
+/// Returns how many bytes come before the first that ends the run.
+pub fn run_len(run: Run, text: &str) -> usize
+    ensures boundary { IsCharBoundary text.now result }
+    ensures text { run ≡ Run.Text → IsRun text.now → result ≡ length text.now }
+{
+    match run {
+        Run::Text => return text_len(text),
+        Run::TagName => return tag_name_len(text),
+        Run::AttrName => return attr_name_len(text),
+        Run::AttrValue(Quote::Double) => return value_len(text),
+        _ => {}
+    }
+    let bytes = text.as_bytes();
+    let skipped = match run {
+        Run::Raw => skip(bytes, *b"\0\r<<"),
+        Run::Escaped | Run::Comment => skip(bytes, *b"\0\r-<"),
+        _ => 0,
+    };
+    for index in skipped..bytes.len() {
+        if run.ends_at(bytes[index]) {
+            return index;
+        }
+    }
+    text.len()
+}
+
+/// Splits off the first character.
+#[inline(always)]
+fn split_char(text: &str) -> Option<(char, &str)>
+    ensures { IfSome result (λ found. length found.1.now < length text.now) }
+{
+    let mut chars = text.chars();
+    let c = chars.next()?;
+    Some((c, chars.as_str()))
+}
+
+impl Tokenizer {
+    ghost use Rattle.page_tokens.specs.Reading.{IsInText, AddsText};
+    ghost use Rattle.page_tokens.specs.Reading.{ReadsNoToken, ReadsRun, ReadsWhole};
+    ghost use Rattle.page_tokens.specs.Tags.{ReadsPlainTag, TakesPlainTag};
+
+    /// Reads a part of a page that contains [`MARKS`] at its end or not at all;
+    /// `split_inclusive(MARKS)` splits a page into such parts. Returns the token that ends there,
+    /// if one does. Fails only when memory runs out.
+    pub fn read_stretch(&mut self, stretch: &str) -> Step
+        ensures text { IsInText self.old → IsRun stretch.now →
+            ReadsNoToken self.old self.new stretch.now result }
+    {
+        let kind = self.stretch(stretch)?;
+        Ok(self.take_token(kind))
+    }
+
+    /// Reads the text up to the end of its first token, and returns the text after it. The token is
+    /// stored in `token`, which keeps its value if no token ends. Fails only when memory runs out.
+    pub fn read_token<'a>(&mut self, text: &'a str, token: &mut Option<Token>) -> Rest<'a>
+        ensures text { ReadsRun self.old self.new text.now token.old token.new result }
+        ensures plain_tag { TakesPlainTag self.old self.new text.now token.new result }
+    {
+        let mut kind = None;
+        let rest = self.read_kind(text, &mut kind)?;
+        self.put_token(kind, token);
+        Ok(rest)
+    }
+
+    /// Reads the text up to the end of its first token, and returns the text after it. The kind of
+    /// the token is stored in `kind`, which keeps its value if no token ends; the tokenizer keeps
+    /// the token itself, for [`Tokenizer::tag`] and the like. Fails only when memory runs out.
+    pub fn read_kind<'a>(&mut self, text: &'a str, kind: &mut Option<TokenKind>) -> Rest<'a>
+        ensures text { ReadsRun self.old self.new text.now kind.old kind.new result }
+        ensures plain_tag { ReadsPlainTag self.old self.new text.now kind.new result }
+    {
+        if self.errors.is_some() {
+            return self.read_first(text, kind);
+        }
+        if first_byte(text) == b'<' {
+            return self.read_mark(text, kind);
+        }
+        let rest = self.read_run(text)?;
+        if rest.is_empty() {
+            return Ok(rest);
+        }
+        self.read_mark(rest, kind)
+    }
+
+    /// Reads the text up to the end of a token, without looking for a run at its start.
+    fn read_mark<'a>(&mut self, text: &'a str, kind: &mut Option<TokenKind>) -> Rest<'a>
+        ensures { ReadsPlainTag self.old self.new text.now kind.new result }
+    {
+        let mut made = None;
+        let rest = self.read_front(text, &mut made)?;
+        if made.is_some() {
+            *kind = made;
+            return Ok(rest);
+        }
+        self.read_to_token(rest, kind)
+    }
+
+    /// Reads the text up to its first [`MARKS`], and returns the text after it.
+    #[inline(never)]
+    fn read_first<'a>(&mut self, text: &'a str, kind: &mut Option<TokenKind>) -> Rest<'a> {
+        let Some(stretch) = text.split_inclusive(MARKS).next() else {
+            return Ok(text);
+        };
+        if let Some(made) = self.stretch(stretch)? {
+            *kind = Some(made);
+        }
+        Ok(text.get(stretch.len()..).unwrap_or(""))
+    }
+
+    /// Reads a part of a page in which [`MARKS`] occurs at the end at most.
+    fn stretch(&mut self, stretch: &str) -> Progress
+        ensures text { IsInText self.old → IsRun stretch.now →
+            ReadsNoToken self.old self.new stretch.now result }
+    {
+        if self.errors.is_some() {
+            self.check_input(stretch)?;
+        }
+        let rest = self.read_run(stretch)?;
+        if rest.is_empty() {
+            return Ok(None);
+        }
+        self.read_marks(rest)
+    }
+
+    /// Reads a text whose first character is not part of a run.
+    fn read_marks(&mut self, text: &str) -> Progress {
+        let mut kind = None;
+        let mut rest = text;
+        for _ in 0..text.len() {
+            if rest.is_empty() {
+                break;
+            }
+            rest = self.read_mark(rest, &mut kind)?;
+        }
+        Ok(kind)
+    }
+
+    /// Reads the text up to the end of a token, if one ends in it.
+    fn read_to_token<'a>(&mut self, text: &'a str, kind: &mut Option<TokenKind>) -> Rest<'a> {
+        let mut made = None;
+        let mut rest = text;
+        for _ in 0..text.len() {
+            rest = self.read_run(rest)?;
+            if rest.is_empty() {
+                break;
+            }
+            rest = self.read_front(rest, &mut made)?;
+            if made.is_some() {
+                *kind = made;
+                break;
+            }
+        }
+        Ok(rest)
+    }
+
+    /// Reads what has the usual form at the start of the text, or else one character.
+    fn read_front<'a>(&mut self, text: &'a str, kind: &mut Option<TokenKind>) -> Rest<'a>
+        ensures { ReadsPlainTag self.old self.new text.now kind.new result }
+    {
+        let rest = self.read_plain(text, kind)?;
+        if rest.len() < text.len() {
+            self.offset = self
+                .offset
+                .saturating_add(text.len().saturating_sub(rest.len()));
+            return Ok(rest);
+        }
+        self.read_char(text, kind)
+    }
+
+    /// Reads one character.
+    #[inline(never)]
+    fn read_char<'a>(&mut self, text: &'a str, kind: &mut Option<TokenKind>) -> Rest<'a> {
+        let Some((c, after)) = split_char(text) else {
+            return Ok(text);
+        };
+        let made = self.step(c)?;
+        *kind = self.settled(made)?;
+        self.offset = self.offset.saturating_add(c.len_utf8());
+        Ok(after)
+    }
+
+    /// Copies the run at the start of the text as one slice, and returns the text after it.
+    fn read_run<'a>(&mut self, text: &'a str) -> Result<&'a str, AllocError>
+        ensures less { IfOk result (λ rest. length rest.now ≤ length text.now) }
+        ensures text { IsInText self.old → IsRun text.now →
+            ReadsWhole self.old self.new text.now result }
+    {
+        if self.after_return || self.is_in_reference() {
+            return Ok(text);
+        }
+        let Some(run) = run_of(self.state) else {
+            return Ok(text);
+        };
+        let (front, rest) = text.split_at(run_len(run, text));
+        self.push_run(run, front)?;
+        self.offset = self.offset.saturating_add(front.len());
+        Ok(rest)
+    }
+
+    /// Appends a run to what its state collects.
+    fn push_run(&mut self, run: Run, front: &str) -> Result<(), AllocError>
+        ensures { run ≡ Run.Text → OnOk result (AddsText self.old self.new front.now) }
+    {
+        match run {
+            Run::Text | Run::Raw | Run::Plaintext | Run::Escaped | Run::Cdata => {
+                append(&mut self.text, front)
+            }
+            Run::DoctypeId(id, _) => self.push_id(id, front),
+            Run::Comment | Run::BogusComment => append(&mut self.comment, front),
+            Run::TagName => append(&mut self.tag.name, front),
+            Run::AttrName => append(&mut self.tag.attr_name, front),
+            Run::AttrValue(_) | Run::UnquotedValue => append(&mut self.tag.attr_value, front),
+        }
+    }
+}

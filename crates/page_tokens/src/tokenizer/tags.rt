@@ -1,0 +1,137 @@
+//! The tag states (13.2.5.6 to 13.2.5.8 and 13.2.5.40), outside attributes.
+
+ghost use Rattle.std.specs.Prelude.{◌≡◌, IfOk};
+
+use super::state::{AttrState, CommentState, Place, Seen, TagState};
+use super::{Progress, State, Tokenizer, append, is_space, push};
+use crate::parse_error::ParseError;
+use crate::token::{TagKind, TokenKind};
+use std::alloc::AllocError;
+
+impl Tokenizer {
+    ghost use Rattle.page_tokens.specs.Drafts.{IsReadyDraft, IsEmitted};
+
+    pub(super) fn in_tag(&mut self, state: TagState, c: char) -> Progress {
+        match state {
+            TagState::Open => self.tag_open(c),
+            TagState::EndOpen => self.end_tag_open(c),
+            TagState::Name => self.tag_name(c),
+            TagState::SelfClosing => self.self_closing(c),
+        }
+    }
+
+    fn tag_open(&mut self, c: char) -> Progress {
+        match c {
+            '!' => {
+                self.comment.clear();
+                self.then(State::Declaration(Seen::Nothing))
+            }
+            '/' => self.then(State::Tag(TagState::EndOpen)),
+            'a'..='z' | 'A'..='Z' => self.begin_tag(TagKind::Start, c),
+            '?' => {
+                self.error(ParseError::UnexpectedQuestionMarkInsteadOfTagName);
+                self.bogus_comment(c)
+            }
+            _ => {
+                self.error(ParseError::InvalidFirstCharacterOfTagName);
+                self.put_text("<");
+                self.state = State::Data;
+                self.in_data(c)
+            }
+        }
+    }
+
+    fn end_tag_open(&mut self, c: char) -> Progress {
+        match c {
+            'a'..='z' | 'A'..='Z' => self.begin_tag(TagKind::End, c),
+            '>' => {
+                self.error(ParseError::MissingEndTagName);
+                self.then(State::Data)
+            }
+            _ => {
+                self.error(ParseError::InvalidFirstCharacterOfTagName);
+                self.bogus_comment(c)
+            }
+        }
+    }
+
+    /// Starts a bogus comment with this character.
+    fn bogus_comment(&mut self, c: char) -> Progress {
+        self.comment.clear();
+        self.state = State::Comment(CommentState::Bogus);
+        self.in_comment(CommentState::Bogus, c)
+    }
+
+    /// Starts a tag with the first letter of its name.
+    fn begin_tag(&mut self, kind: TagKind, c: char) -> Progress {
+        self.tag.begin(self.alloc, kind);
+        self.state = State::Tag(TagState::Name);
+        push(&mut self.tag.name, c)
+    }
+
+    fn tag_name(&mut self, c: char) -> Progress {
+        match c {
+            '/' => self.then(State::Tag(TagState::SelfClosing)),
+            '>' => self.emit_tag(),
+            _ if is_space(c) => self.then(State::Attribute(AttrState::BeforeName)),
+            _ => self.letter(Place::TagName, c),
+        }
+    }
+
+    fn self_closing(&mut self, c: char) -> Progress {
+        match c {
+            '>' => {
+                self.tag.self_closing = true;
+                self.emit_tag()
+            }
+            _ => {
+                self.error(ParseError::UnexpectedSolidusInTag);
+                self.state = State::Attribute(AttrState::BeforeName);
+                self.in_attribute(AttrState::BeforeName, c)
+            }
+        }
+    }
+
+    /// Ends the tag. The tokenizer is then in the data state until a caller switches it.
+    pub(super) fn emit_tag(&mut self) -> Progress
+        ensures { IsReadyDraft self.old → IfOk result (λ kind.
+            (kind ≡ Some TokenKind.Tag) × IsEmitted self.old self.new) }
+    {
+        self.finish_attr()?;
+        self.state = State::Data;
+        self.check_end_tag();
+        if !self.tag.finish(self.alloc, &mut self.ended) {
+            return Ok(None);
+        }
+        self.note_start()?;
+        Ok(Some(TokenKind::Tag))
+    }
+
+    /// Reports attributes and a trailing slash of an end tag, which are parse errors.
+    fn check_end_tag(&mut self)
+        ensures { self.old.errors ≡ None → self.new ≡ self.old }
+    {
+        if self.tag.kind == TagKind::Start {
+            return;
+        }
+        if !self.tag.attrs.is_empty() {
+            self.error(ParseError::EndTagWithAttributes);
+        }
+        if self.tag.self_closing {
+            self.error(ParseError::EndTagWithTrailingSolidus);
+        }
+    }
+
+    /// Keeps the name of a start tag; raw text ends at an end tag with that name.
+    fn note_start(&mut self) -> Result<(), AllocError>
+        ensures { self.new ≡ record self.old { last_start = self.new.last_start } }
+    {
+        match &self.ended {
+            Some(tag) if tag.kind == TagKind::Start => {
+                self.last_start.clear();
+                append(&mut self.last_start, tag.name.as_str())
+            }
+            _ => Ok(()),
+        }
+    }
+}

@@ -1,0 +1,10 @@
+use Rattle.std.proofs.Common.{◌≡◌, length}
+use Rattle.page_trees.specs.Popping.{before_last, is_a_marker}
+use Rattle.page_trees.proofs.formatting.ActiveFormatting.clear_to_marker.Given as goal
+
+-- the entries that are left decide
+abbrev pub invariant-loop-entry : goal.invariant-loop-entry
+invariant-loop-entry l = before_last is_a_marker l.self.entries.items ≡ before_last is_a_marker l.initial.self.entries.items
+
+abbrev pub decreases-loop-entry : goal.decreases-loop-entry
+decreases-loop-entry l = length l.self.entries.items

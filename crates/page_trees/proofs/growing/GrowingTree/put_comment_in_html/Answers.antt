@@ -1,0 +1,10 @@
+use Rattle.std.proofs.Common.{arith}
+use Rattle.std.proofs.lemmas.Grind.{elements}
+use Rattle.page_trees.proofs.HeldNumbers.{grown}
+use Rattle.page_trees.proofs.growing.GrowingTree.put_comment_in_html.Goals as goal
+
+pub invariant_of-self : goal.invariant_of-self
+invariant_of-self c = grown _ _ _ _ _ _ _ c.self.invariant c.put_comment.ensures
+
+pub put_comment-requires : goal.put_comment-requires
+put_comment-requires c = grind (arith, elements)

@@ -1,0 +1,52 @@
+-- Searches of the stack of open elements (13.2.4.2).
+use Rattle.std.specs.Prelude.{ℕ, Bool, true, false, ◌&&◌, ◌||◌, not, eqb, List, [], ◌∷◌, length}
+use denote.Enum.Declared.{tag_of}
+use Rattle.page_trees.specs.Popping.{up_to_last}
+use Rattle.page_trees.specs.Sets.{ends_scope, ends_select, is_crossed, is_in_html, is_special_element}
+use Rattle.page_trees.specs.contracts.name.Name.{the_type}
+use Rattle.page_trees.specs.contracts.stack.ElementNamespace.{the_type as the_space}
+use Rattle.page_trees.specs.declared.name.Name.{Name}
+use Rattle.page_trees.specs.declared.sets.Scope.{Scope}
+use Rattle.page_trees.specs.declared.sets.Scope.TheVariants.{Default, ListItem, Button, Table, Select}
+use Rattle.page_trees.specs.declared.stack.Open.{Open}
+
+-- "has an element in the specific scope": the elements from the current node outwards
+abbrev pub has_in_scope : {X : Type 0} → (X → Bool) → (X → Bool) → List X → Bool
+has_in_scope wanted ends [] = false
+has_in_scope wanted ends (node ∷ outer) = wanted node || (not (ends node) && has_in_scope wanted ends outer)
+
+-- one more than the index of the last element that passes a test; 0 if there is none
+abbrev pub last_place : {X : Type 0} → (X → Bool) → List X → ℕ
+last_place test elements = length (up_to_last test elements)
+
+abbrev pub is_name : Name → Name → Bool
+is_name name other = eqb (tag_of the_type name) (tag_of the_type other)
+
+-- an HTML element whose name has this entry in `Name`
+abbrev pub has_name : Name → Open → Bool
+has_name name o = is_in_html o.ns && is_name o.name name
+
+-- an HTML element with this name; `Other` is no one name
+abbrev pub is_named : Name → Open → Bool
+is_named name o = not (is_name name Name.Other) && has_name name o
+
+-- the same name and namespace
+abbrev pub is_named_like : Open → Open → Bool
+is_named_like o other = eqb (tag_of the_space o.ns) (tag_of the_space other.ns) && is_name o.name other.name && eqb o.number other.number
+
+-- an HTML element with one of these names
+abbrev pub is_among : List Name → Open → Bool
+is_among [] o = false
+is_among (name ∷ names) o = is_named name o || is_among names o
+
+-- the elements that end each scope
+abbrev pub ends_in : Scope → Open → Bool
+ends_in Default o = ends_scope o
+ends_in ListItem o = ends_scope o || is_named Name.Ol o || is_named Name.Ul o
+ends_in Button o = ends_scope o || is_named Name.Button o
+ends_in Table o = is_named Name.Html o || is_named Name.Table o || is_named Name.Template o
+ends_in Select o = ends_select o
+
+-- the special elements that end the search for an open list item
+abbrev pub ends_items : Open → Bool
+ends_items o = is_special_element o && not (is_crossed o)

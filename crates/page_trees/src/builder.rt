@@ -1,0 +1,127 @@
+//! The state of tree construction (13.2.4), besides the tree and the stack.
+
+use crate::fault::PageFault;
+use crate::growing::{GrowingTree, Placing};
+use crate::reading::Options;
+use page_tokens::tokenizer::State;
+use std::alloc::Global;
+
+/// The insertion mode (13.2.4.1), which chooses the rules for a token.
+#[derive(Clone, Copy, PartialEq, Eq, Drop)]
+pub enum Mode {
+    Initial,
+    BeforeHtml,
+    BeforeHead,
+    InHead,
+    InHeadNoscript,
+    AfterHead,
+    InBody,
+    Text,
+    InTable,
+    InTableText,
+    InCaption,
+    InColumnGroup,
+    InTableBody,
+    InRow,
+    InCell,
+    InSelect,
+    InSelectInTable,
+    InTemplate,
+    AfterBody,
+    InFrameset,
+    AfterFrameset,
+    AfterAfterBody,
+    AfterAfterFrameset,
+}
+
+/// Whether a token is processed, or has to be reprocessed in the current insertion mode.
+#[derive(Clone, Copy, PartialEq, Eq, Drop)]
+pub enum Next {
+    Done,
+    Again,
+}
+
+/// The smallest limit on depth: `html`, `body`, and one more element.
+const LEAST_DEPTH: usize = 3;
+
+/// The state of tree construction: the tree, the insertion mode and the flags of the standard.
+#[derive(Drop)]
+pub struct TreeBuilder {
+    pub alloc: Global,
+    pub tree: GrowingTree,
+    pub placing: Placing,
+    pub mode: Mode,
+    /// The original insertion mode, to which the text and table text modes return.
+    pub original: Mode,
+    pub template_modes: Vec<Mode>,
+    pub frameset_ok: bool,
+    /// Whether the next character is ignored if it is a line feed.
+    pub skip_line_feed: bool,
+    pub scripting: bool,
+    /// Whether the document is in quirks mode.
+    pub quirks: bool,
+    /// The pending table character tokens.
+    pub table_text: String,
+    pub table_text_has_letters: bool,
+    /// The state to which the tokenizer has to switch, if any.
+    pub switch: Option<State>,
+    /// The first fault. The current token is processed to its end; then nothing more is read.
+    pub fault: Option<PageFault>,
+}
+
+impl TreeBuilder {
+    pub fn new(alloc: Global, tree: GrowingTree, options: Options) -> TreeBuilder {
+        TreeBuilder {
+            alloc,
+            tree,
+            placing: Placing {
+                foster: false,
+                in_head: false,
+                max_depth: options.max_depth.unwrap_or(usize::MAX).max(LEAST_DEPTH),
+            },
+            mode: Mode::Initial,
+            original: Mode::InBody,
+            template_modes: Vec::new(alloc),
+            frameset_ok: true,
+            skip_line_feed: false,
+            scripting: options.scripting,
+            quirks: false,
+            table_text: String::new(alloc),
+            table_text_has_letters: false,
+            switch: None,
+            fault: None,
+        }
+    }
+
+    /// Stores the fault of an edit, if it is the first one.
+    pub fn keep(&mut self, done: Result<(), PageFault>) {
+        if let Err(fault) = done
+            && self.fault.is_none()
+        {
+            self.fault = Some(fault);
+        }
+    }
+
+    /// Returns the first fault as an error, if there is one.
+    pub fn settled(&self) -> Result<(), PageFault> {
+        match self.fault {
+            Some(fault) => Err(fault),
+            None => Ok(()),
+        }
+    }
+
+    pub fn done_in(&mut self, mode: Mode) -> Next {
+        self.mode = mode;
+        Next::Done
+    }
+
+    pub fn again_in(&mut self, mode: Mode) -> Next {
+        self.mode = mode;
+        Next::Again
+    }
+
+    /// Returns how often a token may be reprocessed; after that the rules for "in body" process it.
+    pub fn turns(&self) -> usize {
+        self.tree.open().len().saturating_mul(4).saturating_add(64)
+    }
+}

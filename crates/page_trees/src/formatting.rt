@@ -1,0 +1,424 @@
+//! The list of active formatting elements (13.2.4.3).
+
+ghost use Rattle.std.specs.Prelude.{◌≡◌, [], ◌∷◌, ◌++◌, Contains, IfNone, IfSome, OnErr, OnOk};
+ghost use Rattle.std.specs.Prelude.{MatchOption, length};
+ghost use Rattle.std.specs.Prelude.{insert, remove, slice_get, slice_set};
+ghost use Rattle.std.specs.List.{list_all};
+ghost use Rattle.std.specs.Option.{option_and_then, option_copied, option_to_list};
+ghost use Rattle.dom_trees.specs.Views.{node_element};
+ghost use Rattle.page_trees.specs.Formatting.{IsFirst, IsNamed, IsWithout, NoneHas, after_marker};
+ghost use Rattle.page_trees.specs.Formatting.{are_alike, element_in, has_attr, is_of};
+ghost use Rattle.page_trees.specs.Formatting.{last_place, same_attr, same_element, third_alike};
+ghost use Rattle.page_trees.specs.Formatting.{with_room};
+ghost use Rattle.page_trees.specs.Popping.{before_last, is_a_marker};
+ghost use Rattle.page_trees.specs.declared.formatting.Entry.TheVariants.{Element as AnEntry};
+
+mod index;
+
+use crate::fault::PageFault;
+use crate::name::Name;
+use crate::stack::Open;
+use dom_nodes::name::Attr;
+use dom_nodes::node_data::Element;
+use dom_nodes::node_id::NodeId;
+use dom_trees::node_ref::NodeRef;
+use dom_trees::tree::Tree;
+use index::FormattingIndex;
+use std::alloc::Global;
+
+/// A list of this many entries gets an index; a list of half as many loses it. In a shorter list,
+/// each search looks at every entry.
+const MANY: usize = 16;
+
+/// An entry of the list of active formatting elements.
+#[derive(Clone, Copy, Drop)]
+pub enum Entry {
+    Marker,
+    Element(Open),
+}
+
+impl Entry {
+    fn is_marker(&self) -> bool
+        ensures { result ≡ is_a_marker self.now }
+    {
+        match self {
+            Entry::Marker => true,
+            Entry::Element(_) => false,
+        }
+    }
+
+    /// Returns whether the entry is of the element with that id.
+    fn is_of(&self, id: NodeId) -> bool
+        ensures { result ≡ is_of id self.now }
+    {
+        match self {
+            Entry::Marker => false,
+            Entry::Element(open) => open.id == id,
+        }
+    }
+
+    /// Returns the element of an entry that is no marker.
+    fn element(&self) -> Option<Open>
+        ensures { result ≡ element_in self.now }
+    {
+        match self {
+            Entry::Marker => None,
+            Entry::Element(open) => Some(*open),
+        }
+    }
+}
+
+/// The list of active formatting elements, the oldest first.
+#[derive(Drop)]
+pub struct ActiveFormatting {
+    entries: Vec<Entry>,
+    /// The index of a long list. A long list has none after memory was refused for it.
+    index: Option<FormattingIndex>,
+}
+
+/// Returns whether the element has an attribute with that name and value.
+fn has_attr(element: &Element, attr: &Attr) -> bool
+    ensures { result ≡ has_attr element.now.attrs attr.now }
+{
+    let mut rest = element.attrs().as_slice();
+    while let Some((also, others)) = rest.split_first() {
+        if is_same_attr(attr, also) {
+            return true;
+        }
+        rest = others;
+    }
+    false
+}
+
+fn is_same_attr(one: &Attr, other: &Attr) -> bool
+    ensures { result ≡ same_attr one.now other.now }
+{
+    if !one.name.is_same(&other.name) {
+        return false;
+    }
+    one.value.as_str() == other.value.as_str()
+}
+
+/// Returns whether each attribute of an element is one of the other, too.
+fn has_attrs(one: &Element, other: &Element) -> bool
+    ensures { result ≡ list_all (has_attr other.now.attrs) one.now.attrs }
+{
+    let mut rest = one.attrs().as_slice();
+    while let Some((attr, others)) = rest.split_first() {
+        if !has_attr(other, attr) {
+            return false;
+        }
+        rest = others;
+    }
+    true
+}
+
+/// Returns whether two elements have the same name and the same attributes, in any order. No two
+/// attributes of an element have the same name.
+fn is_same_element(one: &Element, other: &Element) -> bool
+    ensures { result ≡ same_element one.now other.now }
+{
+    if !one.name().is_same(&other.name()) {
+        return false;
+    }
+    if one.attrs().as_slice().len() != other.attrs().as_slice().len() {
+        return false;
+    }
+    has_attrs(one, other)
+}
+
+/// Returns the element with that id.
+fn element_of(tree: &Tree, id: NodeId) -> Option<&Element>
+    ensures { option_copied result ≡ node_element tree.now id }
+{
+    NodeRef::new(id, tree).element_ref()
+}
+
+/// Returns whether two ids are of elements with the same name and the same attributes.
+fn are_same(tree: &Tree, one: NodeId, other: NodeId) -> bool
+    ensures { result ≡ are_alike tree.now one other }
+{
+    match (element_of(tree, one), element_of(tree, other)) {
+        (Some(one), Some(other)) => is_same_element(one, other),
+        _ => false,
+    }
+}
+
+/// Returns the last element with that name after the last marker, by a walk over the entries.
+fn last_named(entries: &[Entry], name: Name) -> Option<Open>
+    ensures { let elements = after_marker entries.now in
+        MatchOption result (NoneHas (IsNamed name) elements) (IsFirst (IsNamed name) elements) }
+{
+    let mut rest = entries;
+    while let Some((entry, before)) = rest.split_last() {
+        let Entry::Element(open) = entry else {
+            return None;
+        };
+        if open.name == name {
+            return Some(*open);
+        }
+        rest = before;
+    }
+    None
+}
+
+/// Returns the index of an element's last entry, by a walk over the entries.
+fn last_entry_of(entries: &[Entry], id: NodeId) -> Option<usize>
+    ensures { result ≡ last_place (is_of id) entries.now }
+{
+    let mut rest = entries;
+    while let Some((entry, before)) = rest.split_last() {
+        if entry.is_of(id) {
+            return Some(before.len());
+        }
+        rest = before;
+    }
+    None
+}
+
+/// Returns the index of the third entry, from the end and after the last marker, whose element is
+/// like that one, by a walk over the entries.
+fn third_like(entries: &[Entry], tree: &Tree, id: NodeId) -> Option<usize>
+    ensures { result ≡ third_alike tree.now id entries.now }
+{
+    let mut more: usize = 2;
+    let mut rest = entries;
+    while let Some((entry, before)) = rest.split_last() {
+        let Entry::Element(other) = entry else {
+            return None;
+        };
+        if are_same(tree, other.id, id) {
+            let Some(fewer) = more.checked_sub(1) else {
+                return Some(before.len());
+            };
+            more = fewer;
+        }
+        rest = before;
+    }
+    None
+}
+
+impl ActiveFormatting {
+    pub fn new(alloc: Global) -> ActiveFormatting
+        ensures { result.entries.items ≡ [] }
+    {
+        ActiveFormatting {
+            entries: Vec::new(alloc),
+            index: None,
+        }
+    }
+
+    pub fn len(&self) -> usize
+        ensures { result ≡ length self.now.entries.items }
+    {
+        self.entries.len()
+    }
+
+    pub fn get(&self, index: usize) -> Option<Entry>
+        ensures found { IfSome result (Contains self.now.entries.items) }
+        ensures value { result ≡ slice_get self.now.entries.items index }
+    {
+        self.entries.get(index).copied()
+    }
+
+    /// Appends an entry. `likeness` is what `likeness_of` returned for its element. Fails only when
+    /// memory runs out.
+    pub fn push(&mut self, entry: Entry, likeness: u32) -> Result<(), PageFault>
+        ensures ok { let old = self.old.entries.items in
+            OnOk result (self.new.entries.items ≡ old ++ entry ∷ []) }
+        ensures err { OnErr result (self.new.entries.items ≡ self.old.entries.items) }
+    {
+        self.entries.push(entry)?;
+        self.index_entry(usize::MAX, &entry, likeness);
+        Ok(())
+    }
+
+    /// Indexes an entry that was put at a position; the last one for a position past the end.
+    fn index_entry(&mut self, position: usize, entry: &Entry, likeness: u32)
+        ensures { self.new.entries ≡ self.old.entries }
+    {
+        let is_indexed = match &mut self.index {
+            Some(index) => index.add(position, entry, likeness).is_ok(),
+            None => true,
+        };
+        if !is_indexed {
+            self.index = None;
+        }
+    }
+
+    /// Removes an entry from the index, before it is removed from the list.
+    fn forget_entry(&mut self, position: usize)
+        ensures { self.new.entries ≡ self.old.entries }
+    {
+        if self.entries.len() <= MANY / 2 {
+            self.index = None;
+        }
+        if let Some(index) = &mut self.index
+            && let Some(entry) = self.entries.get(position)
+        {
+            index.remove(position, entry);
+        }
+    }
+
+    /// Returns the likeness of an element that is to be added: elements with the same name and the
+    /// same attributes have the same. A list that grew long is indexed first. Without an index it
+    /// returns 0, and `third_same` compares the elements themselves.
+    pub fn likeness_of(&mut self, tree: &Tree, id: NodeId) -> u32
+        ensures { self.new.entries ≡ self.old.entries }
+    {
+        if self.index.is_none() && self.entries.len() >= MANY {
+            self.index = self.made_index(tree).ok();
+        }
+        let likeness = match &mut self.index {
+            Some(index) => index.likeness_of(tree, id).ok(),
+            None => Some(0),
+        };
+        if likeness.is_none() {
+            self.index = None;
+        }
+        likeness.unwrap_or(0)
+    }
+
+    /// Returns an index of the whole list. Fails when memory runs out.
+    fn made_index(&self, tree: &Tree) -> Result<FormattingIndex, PageFault> {
+        let mut index = FormattingIndex::new(tree.allocator());
+        for entry in self.entries.as_slice() {
+            let likeness = match entry {
+                Entry::Marker => 0,
+                Entry::Element(open) => index.likeness_of(tree, open.id)?,
+            };
+            index.add(usize::MAX, entry, likeness)?;
+        }
+        Ok(index)
+    }
+
+    /// Returns the index of the third entry, from the end and after the last marker, with the same
+    /// name and attributes (the Noah's Ark clause). `likeness` is that of the element. The index of
+    /// a long list answers by the likeness alone; the contract says nothing of that answer.
+    pub fn third_same(&self, tree: &Tree, id: NodeId, likeness: u32) -> Option<usize>
+        ensures { let entries = self.now.entries.items in
+            self.now.index ≡ None → result ≡ third_alike tree.now id entries }
+    {
+        match &self.index {
+            Some(index) => index.third_alike(likeness),
+            None => third_like(self.entries.as_slice(), tree, id),
+        }
+    }
+
+    /// Makes room for an element that is to be added: if three elements after the last marker have
+    /// its name and attributes, the earliest is removed (the Noah's Ark clause). At most one entry
+    /// is removed; the contract says which one for a list without an index.
+    pub fn make_room(&mut self, tree: &Tree, id: NodeId, likeness: u32)
+        ensures ark { let old = self.old.entries.items in
+            self.old.index ≡ None → self.new.entries.items ≡ with_room tree.now id old }
+        ensures one { let old = self.old.entries.items in
+            IsWithout old self.new.entries.items }
+    {
+        if let Some(place) = self.third_same(tree, id, likeness) {
+            self.remove_at(place);
+        }
+    }
+
+    /// Removes the last entry and returns it.
+    pub fn take(&mut self) -> Option<Entry>
+        ensures items { self.old.entries.items ≡ self.new.entries.items ++ option_to_list result }
+        ensures none { IfNone result (self.old.entries.items ≡ []) }
+    {
+        let last = self.entries.len().saturating_sub(1);
+        self.forget_entry(last);
+        self.entries.pop()
+    }
+
+    /// Clears the list up to the last marker: removes the entries after it, and the marker. A list
+    /// without a marker is empty afterwards.
+    pub fn clear_to_marker(&mut self)
+        ensures { self.new.entries.items ≡ before_last is_a_marker self.old.entries.items }
+    {
+        while let Some(entry) = self.take() {
+            if entry.is_marker() {
+                return;
+            }
+        }
+    }
+
+    /// Replaces the element at an index of the list by a copy of it.
+    pub fn replace(&mut self, index: usize, element: &Open)
+        ensures { let old = self.old.entries.items in
+            self.new.entries.items ≡ slice_set old index (AnEntry element.now) }
+    {
+        self.index_copy(index, element.id);
+        if let Some(entry) = self.entries.get_mut(index) {
+            *entry = Entry::Element(*element);
+        }
+    }
+
+    /// Brings the index up to date before a copy replaces the element at a position.
+    fn index_copy(&mut self, position: usize, copy: NodeId)
+        ensures { self.new.entries ≡ self.old.entries }
+    {
+        let Some(Entry::Element(old)) = self.get(position) else {
+            return;
+        };
+        let is_indexed = match &mut self.index {
+            Some(index) => index.replace(position, old.id, copy).is_ok(),
+            None => true,
+        };
+        if !is_indexed {
+            self.index = None;
+        }
+    }
+
+    /// Inserts an element of that likeness at an index of the list. Fails only when memory runs
+    /// out.
+    pub fn insert(&mut self, index: usize, element: &Open, likeness: u32) -> Result<(), PageFault>
+        ensures ok { let old = self.old.entries.items in
+            OnOk result (self.new.entries.items ≡ insert old index (AnEntry element.now)) }
+        ensures err { OnErr result (self.new.entries.items ≡ self.old.entries.items) }
+    {
+        let index = index.min(self.entries.len());
+        self.entries.insert(index, Entry::Element(*element))?;
+        self.index_entry(index, &Entry::Element(*element), likeness);
+        Ok(())
+    }
+
+    pub fn remove_at(&mut self, index: usize)
+        ensures { self.new.entries.items ≡ remove self.old.entries.items index }
+    {
+        if index < self.entries.len() {
+            self.forget_entry(index);
+            let _ = self.entries.remove(index);
+        }
+    }
+
+    /// Returns the index of an element's entry: the last one, if it had several. The index of a
+    /// long list answers by itself; the contract says nothing of that answer.
+    pub fn index_of(&self, id: NodeId) -> Option<usize>
+        ensures { let entries = self.now.entries.items in
+            self.now.index ≡ None → result ≡ last_place (is_of id) entries }
+    {
+        match &self.index {
+            Some(index) => index.position_of(id),
+            None => last_entry_of(self.entries.as_slice(), id),
+        }
+    }
+
+    /// Returns the last element with that name after the last marker. The index of a long list
+    /// finds it by itself; the contract says nothing of that answer.
+    pub fn named(&self, name: Name) -> Option<Open>
+        ensures { let elements = after_marker self.now.entries.items in
+            self.now.index ≡ None →
+            MatchOption result (NoneHas (IsNamed name) elements) (IsFirst (IsNamed name) elements) }
+    {
+        let Some(index) = &self.index else {
+            return last_named(self.entries.as_slice(), name);
+        };
+        self.element_at(index.last_named(name)?)
+    }
+
+    /// Returns the element of the entry at an index, if it is no marker.
+    fn element_at(&self, index: usize) -> Option<Open>
+        ensures { result ≡ option_and_then element_in (slice_get self.now.entries.items index) }
+    {
+        self.get(index)?.element()
+    }
+}

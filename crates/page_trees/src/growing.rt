@@ -1,0 +1,353 @@
+//! The tree under construction, and the elements that tree construction keeps: the stack of open
+//! elements, the list of active formatting elements, and the head and form element pointers. A call
+//! that returns a `Result` fails only when memory or node ids run out.
+
+ghost use Rattle.std.specs.Prelude.{◌≡◌, IfOk};
+ghost use Rattle.dom_links.specs.Growth.{lone};
+ghost use Rattle.dom_links.specs.Sound.{IsOpenGap};
+ghost use Rattle.dom_nodes.specs.declared.node_data.NodeData.TheVariants.{Document as TheDocument};
+ghost use Rattle.dom_nodes.specs.declared.node_data.NodeData.TheVariants.{Fragment as TheFragment};
+ghost use Rattle.page_trees.specs.Elements.{IsRooted};
+ghost use Rattle.page_trees.specs.Placing.{is_at_top};
+
+mod adopting;
+mod edits;
+mod late;
+mod placing;
+mod popping;
+
+use crate::fault::PageFault;
+use crate::formatting::{ActiveFormatting, Entry};
+use crate::name::Name;
+use crate::pointers::FormPointer;
+use crate::stack::{ElementNamespace, Open, OpenElements};
+use dom_links::gap::InsertionPoint;
+use dom_nodes::node_data::NodeData;
+use dom_nodes::node_id::NodeId;
+use dom_trees::quirks::QuirksMode;
+use dom_trees::tree::Tree;
+use edits::{cut_out, put_comment, put_copy, put_doctype, put_element, put_text};
+use late::LateTags;
+use page_tokens::token::Tag;
+use placing::gap;
+pub use placing::{Placing, is_foster_target, is_template};
+pub use popping::ForeignEnd;
+use std::alloc::Global;
+use std::marker::Model;
+
+/// A finished tree, the parse errors of its text, and its quirks mode.
+#[derive(Drop)]
+pub struct BuiltTree {
+    pub tree: Tree,
+    pub errors: Vec<String>,
+    pub quirks_mode: QuirksMode,
+}
+
+/// A tree under construction. A contract sees it as a forest. Each node id that it keeps is the id
+/// of an element; no id comes from outside.
+#[derive(Drop)]
+pub struct GrowingTree {
+    tree: Tree,
+    errors: Vec<String>,
+    quirks_mode: QuirksMode,
+    stack: OpenElements,
+    formatting: ActiveFormatting,
+    head: Option<NodeId>,
+    form: FormPointer,
+    /// The context element of a fragment, with the id of the root that represents it.
+    context: Option<Open>,
+    /// The attributes that later tags add to `html` and to `body`.
+    late: LateTags,
+}
+
+impl Model for GrowingTree {
+    ghost use Rattle.dom_links.specs.Forest.{Forest};
+    ghost use Rattle.page_trees.specs.Elements.{AreElements};
+
+    ghost Value = { Forest };
+
+    ghost view = { λ t. t.tree };
+
+    ghost invariant = { λ t. AreElements t.tree t.stack.elements.items
+        t.formatting.entries.items t.head t.form t.context };
+}
+
+impl GrowingTree {
+    /// Returns an empty page. Fails only when memory runs out.
+    pub fn page(alloc: Global) -> Result<GrowingTree, PageFault>
+        ensures { IfOk result (λ made. made ≡ lone TheDocument) }
+    {
+        Ok(GrowingTree::over(alloc, lone(alloc, NodeData::Document)?))
+    }
+
+    /// Returns an empty fragment. Fails only when memory runs out.
+    pub fn fragment(alloc: Global) -> Result<GrowingTree, PageFault>
+        ensures { IfOk result (λ made. made ≡ lone TheFragment) }
+    {
+        Ok(GrowingTree::over(alloc, lone(alloc, NodeData::Fragment)?))
+    }
+
+    /// Returns the state for a tree, with no open elements.
+    fn over(alloc: Global, tree: Tree) -> GrowingTree
+        requires { IsRooted tree }
+        ensures { result ≡ tree }
+    {
+        GrowingTree {
+            tree,
+            errors: Vec::new(alloc),
+            quirks_mode: QuirksMode::NoQuirks,
+            stack: OpenElements::new(alloc),
+            formatting: ActiveFormatting::new(alloc),
+            head: None,
+            form: FormPointer::None,
+            context: None,
+            late: LateTags::new(alloc),
+        }
+    }
+
+    /// Returns the finished tree. Fails only when memory runs out.
+    pub fn into_built(self) -> Result<BuiltTree, PageFault> {
+        let mut tree = self.tree;
+        self.late.put_into(&mut tree)?;
+        Ok(BuiltTree {
+            tree,
+            errors: self.errors,
+            quirks_mode: self.quirks_mode,
+        })
+    }
+
+    /// Returns the stack of open elements.
+    pub fn open(&self) -> &OpenElements {
+        &self.stack
+    }
+
+    pub fn has_head(&self) -> bool {
+        self.head.is_some()
+    }
+
+    pub fn has_form(&self) -> bool {
+        !self.form.is_none()
+    }
+
+    /// Returns whether a fragment is parsed.
+    pub fn is_fragment(&self) -> bool {
+        self.context.is_some()
+    }
+
+    /// Returns whether a `form` in a table is ignored, because a form or a template is open.
+    pub fn ignores_form(&self) -> bool {
+        self.has_form() || self.stack.has(Name::Template)
+    }
+
+    pub fn context(&self) -> Option<Open> {
+        self.context
+    }
+
+    /// Returns the element at an index of the stack; in a fragment, the context element replaces
+    /// the outermost one.
+    pub fn adjusted_current_node(&self, place: usize) -> Option<Open> {
+        match self.context {
+            Some(context) if place == 0 => Some(context),
+            _ => self.stack.get(place),
+        }
+    }
+
+    /// Returns the adjusted current node.
+    pub fn adjusted_current(&self) -> Option<Open> {
+        match self.stack.len() {
+            0 => None,
+            count => self.adjusted_current_node(count - 1),
+        }
+    }
+
+    /// Returns the last active formatting element with that name after the last marker.
+    pub fn formatting_named(&self, name: Name) -> Option<Open> {
+        self.formatting.named(name)
+    }
+
+    pub fn set_quirks_mode(&mut self, mode: QuirksMode) {
+        self.quirks_mode = mode;
+    }
+
+    /// Adds a message to the parse errors. Fails only when memory runs out.
+    pub fn note_error(&mut self, message: &str) -> Result<(), PageFault> {
+        let text = String::from_str(*self.errors.allocator(), message)?;
+        self.errors.push(text)?;
+        Ok(())
+    }
+
+    /// Returns the insertion point for a node: the appropriate place for inserting a node.
+    fn gap(&self, placing: Placing) -> InsertionPoint
+        ensures { IsOpenGap result self.now }
+    {
+        match self.head {
+            Some(head) if placing.in_head => InsertionPoint::EndOf(head),
+            _ => gap(&self.tree, &self.stack, placing),
+        }
+    }
+
+    /// Returns the number for a name that is not in `Name`, and 0 for any other.
+    fn number_of(&mut self, name: Name, written: &str) -> Result<u32, PageFault>
+        ensures { self.new ≡ self.old }
+    {
+        let alloc = self.tree.allocator();
+        self.stack.number_of(alloc, name, written)
+    }
+
+    /// Inserts the element of a tag, and pushes it onto the stack of open elements.
+    pub fn insert(
+        &mut self,
+        placing: Placing,
+        ns: ElementNamespace,
+        name: Name,
+        tag: &Tag,
+    ) -> Result<(), PageFault> {
+        let number = self.number_of(name, tag.name.as_str())?;
+        let gap = self.gap(placing);
+        let open = put_element(&mut self.tree, gap, ns, name, tag)?;
+        self.stack.push(&Open { number, ..open })
+    }
+
+    /// Inserts the element `html` below the root, and pushes it onto the stack of open elements.
+    pub fn insert_html(&mut self, tag: &Tag) -> Result<(), PageFault> {
+        let gap = InsertionPoint::EndOf(self.tree.root_id());
+        let open = put_element(&mut self.tree, gap, ElementNamespace::Html, Name::Html, tag)?;
+        self.stack.push(&open)
+    }
+
+    /// Sets the context element, which the current node represents.
+    pub fn set_context(&mut self, ns: ElementNamespace, name: Name) {
+        let Some(root) = self.stack.current() else {
+            return;
+        };
+        self.context = Some(Open {
+            id: root.id,
+            ns,
+            name,
+            number: 0,
+            holds_html: false,
+        });
+    }
+
+    /// Sets the head element pointer to the current node.
+    pub fn set_head(&mut self) {
+        if let Some(head) = self.stack.current() {
+            self.head = Some(head.id);
+        }
+    }
+
+    /// Sets the form element pointer to the current node.
+    pub fn set_form(&mut self) {
+        if let Some(form) = self.stack.current() {
+            self.form = FormPointer::Element(form.id);
+        }
+    }
+
+    /// Sets the form element pointer to the context element.
+    pub fn set_context_form(&mut self) {
+        self.form = FormPointer::Context;
+    }
+
+    /// Resets the form element pointer, and closes the form if it is in scope.
+    pub fn end_form(&mut self) {
+        let form = self.form;
+        self.form = FormPointer::None;
+        if let FormPointer::Element(id) = form
+            && let Some(place) = self.stack.place_among(Name::Form, id)
+            && self.stack.is_in_scope(place)
+        {
+            self.generate_implied_end_tags(None);
+            self.remove_at(place);
+            self.mark();
+        }
+    }
+
+    /// Inserts characters. The document itself can't have text, so characters there are ignored.
+    pub fn put_text(&mut self, placing: Placing, text: &str) -> Result<(), PageFault> {
+        let gap = self.gap(placing.at_any_depth());
+        let at_top = is_at_top(&gap);
+        if at_top && self.context.is_none() {
+            return Ok(());
+        }
+        put_text(&mut self.tree, gap, text)
+    }
+
+    /// Inserts a comment at the appropriate place.
+    pub fn put_comment(&mut self, placing: Placing, text: &str) -> Result<(), PageFault> {
+        let gap = self.gap(placing.at_any_depth());
+        put_comment(&mut self.tree, gap, text)
+    }
+
+    /// Inserts a comment as the last child of the root.
+    pub fn put_comment_at_top(&mut self, text: &str) -> Result<(), PageFault> {
+        let gap = InsertionPoint::EndOf(self.tree.root_id());
+        put_comment(&mut self.tree, gap, text)
+    }
+
+    /// Inserts a comment as the last child of the outermost element.
+    pub fn put_comment_in_html(&mut self, text: &str) -> Result<(), PageFault> {
+        let Some(html) = self.stack.get(0) else {
+            return Ok(());
+        };
+        put_comment(&mut self.tree, InsertionPoint::EndOf(html.id), text)
+    }
+
+    /// Inserts a doctype as the last child of the root: name, public identifier and system
+    /// identifier.
+    pub fn put_doctype(&mut self, parts: [&str; 3]) -> Result<(), PageFault> {
+        put_doctype(&mut self.tree, parts)
+    }
+
+    /// Adds to the element at an index of the stack those of a tag's attributes whose names it
+    /// doesn't have yet. They are in the tree once all is read.
+    pub fn add_attrs(&mut self, place: usize, tag: &Tag) -> Result<(), PageFault> {
+        match self.stack.get(place) {
+            Some(open) => self.late.add(&self.tree, open.id, tag),
+            None => Ok(()),
+        }
+    }
+
+    /// Detaches the element at an index of the stack.
+    pub fn cut_out(&mut self, place: usize) {
+        if let Some(open) = self.stack.get(place) {
+            cut_out(&mut self.tree, open.id);
+        }
+    }
+
+    /// Inserts a copy of a formatting element, pushes it onto the stack, and replaces the element
+    /// in the list of active formatting elements.
+    pub fn reconstruct_formatting(
+        &mut self,
+        index: usize,
+        placing: Placing,
+    ) -> Result<(), PageFault> {
+        let Some(Entry::Element(open)) = self.formatting.get(index) else {
+            return Ok(());
+        };
+        let gap = self.gap(placing);
+        let copy = put_copy(&mut self.tree, gap, open)?;
+        self.stack.push(&copy)?;
+        self.formatting.replace(index, &copy);
+        Ok(())
+    }
+}
+
+/// Returns a tree of one node. Fails only when memory runs out.
+fn lone(alloc: Global, content: NodeData) -> Result<Tree, PageFault>
+    ensures { IfOk result (λ tree. tree ≡ lone content) }
+{
+    match Tree::new(alloc, content) {
+        Ok(tree) => Ok(tree),
+        Err(_) => Err(PageFault::Memory),
+    }
+}
+
+/// Returns whether an insertion point is at the end of the root's children.
+fn is_at_top(gap: &InsertionPoint) -> bool
+    ensures { result ≡ is_at_top gap.now }
+{
+    match gap {
+        InsertionPoint::EndOf(parent) => *parent == NodeId::root(),
+        _ => false,
+    }
+}

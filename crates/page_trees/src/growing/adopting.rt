@@ -1,0 +1,243 @@
+//! Reconstructing the active formatting elements (13.2.4.3), and the adoption agency algorithm
+//! (13.2.6.4.7). A call that returns a `Result` fails only when memory or node ids run out.
+
+ghost use Rattle.std.specs.Prelude.{◌≡◌, ◌+◌, ◌^◌, ◌<◌, ◌≤◌, false, true};
+ghost use Rattle.page_trees.specs.Elements.{IsElement};
+
+use super::GrowingTree;
+use super::edits::{is_forest, move_to, put_children_into_copy, put_into_copy};
+use super::placing::{Placing, gap_in};
+use crate::fault::PageFault;
+use crate::formatting::Entry;
+use crate::name::Name;
+use crate::stack::Open;
+use dom_nodes::node_id::NodeId;
+
+/// The bookmark of the algorithm: where in the list the copy of the formatting element is inserted.
+#[derive(Clone, Copy, Drop)]
+struct Bookmark {
+    index: usize,
+    /// Whether it is after an element that was replaced by a copy.
+    renewed: bool,
+}
+
+impl Bookmark {
+    /// Returns the bookmark after the first entry that was replaced.
+    fn behind(self, index: usize) -> Bookmark
+        ensures first { let room = index + 1 < 2 ^ 64 in
+            self.renewed ≡ false → room → result.index ≡ index + 1 }
+        ensures later { self.renewed ≡ true → result ≡ self }
+        ensures renewed { result.renewed ≡ true }
+    {
+        if self.renewed {
+            return self;
+        }
+        Bookmark {
+            index: index.saturating_add(1),
+            renewed: true,
+        }
+    }
+
+    /// Returns the bookmark after an entry is removed.
+    fn without(self, index: usize) -> Bookmark
+        ensures before { index < self.index → result.index + 1 ≡ self.index }
+        ensures behind { self.index ≤ index → result ≡ self }
+        ensures renewed { result.renewed ≡ self.renewed }
+    {
+        if index >= self.index {
+            return self;
+        }
+        Bookmark {
+            index: self.index.saturating_sub(1),
+            renewed: self.renewed,
+        }
+    }
+}
+
+impl GrowingTree {
+    /// Reconstructs the active formatting elements: inserts copies of those that are not open.
+    pub fn reconstruct(&mut self, placing: Placing) -> Result<(), PageFault> {
+        for index in self.first_closed()..self.formatting.len() {
+            self.reconstruct_formatting(index, placing)?;
+        }
+        Ok(())
+    }
+
+    /// Returns the index of the first entry after the last marker and the last open element.
+    fn first_closed(&self) -> usize {
+        for index in (0..self.formatting.len()).rev() {
+            match self.formatting.get(index) {
+                Some(Entry::Element(open)) if self.stack.place_of(&open).is_none() => {}
+                _ => return index.saturating_add(1),
+            }
+        }
+        0
+    }
+
+    /// Runs the adoption agency algorithm for a tag. Returns `false` if the tag is to be processed
+    /// like any other end tag.
+    pub fn adopt(&mut self, name: Name, foster: bool) -> Result<bool, PageFault> {
+        if let Some(current) = self.stack.current()
+            && current.is_html(name)
+            && self.formatting.index_of(current.id).is_none()
+        {
+            self.pop();
+            return Ok(true);
+        }
+        for _ in 0..8 {
+            let Some(formatting) = self.formatting.named(name) else {
+                return Ok(false);
+            };
+            let Some(place) = self.stack.place_of(&formatting) else {
+                self.remove_formatting(formatting.id);
+                return Ok(true);
+            };
+            if !self.stack.is_in_scope(place) {
+                return Ok(true);
+            }
+            let Some(furthest) = self.stack.furthest_block(place) else {
+                self.truncate(place);
+                self.remove_formatting(formatting.id);
+                return Ok(true);
+            };
+            let bookmark = self.bookmark_at(formatting.id);
+            self.adopt_once(place, furthest, bookmark, foster)?;
+        }
+        Ok(true)
+    }
+
+    /// Returns the bookmark at the entry of an element.
+    fn bookmark_at(&self, id: NodeId) -> Bookmark {
+        Bookmark {
+            index: self.formatting.index_of(id).unwrap_or(0),
+            renewed: false,
+        }
+    }
+
+    /// Runs the outer loop once. `place` and `furthest_place` are the indexes of the formatting
+    /// element and of the furthest block on the stack.
+    ///
+    /// The inner loop goes down from the block. It removes each element between the two from the
+    /// stack or replaces it by a copy, so the element that was moved last always follows the index
+    /// of the loop.
+    fn adopt_once(
+        &mut self,
+        place: usize,
+        furthest_place: usize,
+        bookmark: Bookmark,
+        foster: bool,
+    ) -> Result<(), PageFault> {
+        let count = self.stack.len();
+        let mut bookmark = bookmark;
+        let mut round: usize = 0;
+        for node_place in (place.saturating_add(1)..furthest_place).rev() {
+            round = round.saturating_add(1);
+            bookmark = self.pass(node_place, round <= 3, bookmark)?;
+        }
+        self.mark();
+        self.put_below(place, foster);
+        let removed = count.saturating_sub(self.stack.len());
+        self.adopt_children(place, furthest_place.saturating_sub(removed), bookmark)
+    }
+
+    /// Runs the inner loop for one element. It is replaced by a copy if it is in the list and among
+    /// the first three; otherwise it is removed from the stack, and from the list too.
+    fn pass(
+        &mut self,
+        place: usize,
+        is_near: bool,
+        bookmark: Bookmark,
+    ) -> Result<Bookmark, PageFault> {
+        let Some(node) = self.stack.get(place) else {
+            return Ok(bookmark);
+        };
+        let Some(index) = self.formatting.index_of(node.id) else {
+            self.remove_at(place);
+            return Ok(bookmark);
+        };
+        if is_near {
+            self.renew(place, index)?;
+            return Ok(bookmark.behind(index));
+        }
+        self.remove_at(place);
+        self.remove_entry(index);
+        Ok(bookmark.without(index))
+    }
+
+    /// Replaces an element by a copy on the stack and in the list, and moves the element after it
+    /// on the stack into the copy.
+    fn renew(&mut self, place: usize, index: usize) -> Result<(), PageFault> {
+        let Some(node) = self.stack.get(place) else {
+            return Ok(());
+        };
+        let Some(last) = self.stack.behind(place) else {
+            return Ok(());
+        };
+        let copy = put_into_copy(&mut self.tree, node, last.id)?;
+        self.formatting.replace(index, &copy);
+        self.stack.replace(place, &copy);
+        Ok(())
+    }
+
+    /// Moves the element after an index of the stack to the end of the one at the index before it,
+    /// or before a table (foster parenting).
+    fn put_below(&mut self, place: usize, foster: bool) {
+        let Some(last) = self.stack.behind(place) else {
+            return;
+        };
+        let gap = gap_in(&self.tree, self.stack.before(place), foster);
+        is_forest(&self.tree);
+        move_to(&mut self.tree, gap, last.id);
+    }
+
+    /// Moves the children of the furthest block into a copy of the formatting element, and the copy
+    /// into the block. On the stack the copy follows the block and replaces the formatting element.
+    fn adopt_children(
+        &mut self,
+        place: usize,
+        furthest_place: usize,
+        bookmark: Bookmark,
+    ) -> Result<(), PageFault> {
+        let Some(formatting) = self.stack.get(place) else {
+            return Ok(());
+        };
+        let Some(furthest) = self.stack.get(furthest_place) else {
+            return Ok(());
+        };
+        if place > furthest_place {
+            return Ok(());
+        }
+        is_forest(&self.tree);
+        let parent = furthest.id;
+        let element = formatting.id;
+        let copy = put_children_into_copy(&mut self.tree, formatting, parent)?;
+        self.stack.carry(place, furthest_place, &copy);
+        self.put_in_place(element, bookmark, &copy)
+    }
+
+    /// Replaces an element of the list by its copy at the bookmark.
+    fn put_in_place(
+        &mut self,
+        element: NodeId,
+        bookmark: Bookmark,
+        copy: &Open,
+    ) -> Result<(), PageFault>
+        requires { IsElement self.old copy.now.id }
+    {
+        let mut index = bookmark.index;
+        if let Some(gone) = self.formatting.index_of(element) {
+            self.remove_entry(gone);
+            index = bookmark.without(gone).index;
+        }
+        let likeness = self.likeness_of(copy.id);
+        self.insert_entry(index, copy, likeness)
+    }
+
+    /// Inserts an entry of that likeness at an index of the list.
+    fn insert_entry(&mut self, index: usize, element: &Open, likeness: u32) -> Result<(), PageFault>
+        requires { IsElement self.old element.now.id }
+        ensures { self.new ≡ self.old }
+    {
+        self.formatting.insert(index, element, likeness)
+    }
+}

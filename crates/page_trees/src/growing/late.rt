@@ -1,0 +1,167 @@
+//! Attributes that later tags add to `html` and to `body`.
+
+ghost use Rattle.std.specs.Prelude.{◌≡◌, ◌==◌, [], IfOk, position};
+ghost use Rattle.dom_trees.specs.Views.{node_attrs};
+
+use crate::attributes::attr_of;
+use crate::fault::PageFault;
+use crate::stack::ElementNamespace;
+use dom_nodes::name::Attr;
+use dom_nodes::node_data::{Attrs, Change};
+use dom_nodes::node_id::NodeId;
+use dom_trees::node_ref::NodeRef;
+use dom_trees::tree::Tree;
+use page_tokens::token::Tag;
+use std::alloc::Global;
+use std::collections::BTreeSet;
+
+/// The attributes that tags add to an element that is in the tree already. They are collected, and
+/// added to the element at once when the tree is complete, so that each costs one look-up in a set.
+#[derive(Drop)]
+pub struct LateAttrs {
+    id: NodeId,
+    /// The names of the element's attributes and of those that are to be added.
+    names: BTreeSet<String>,
+    added: Vec<Attr>,
+}
+
+impl LateAttrs {
+    /// Returns the state for an element to which nothing is to be added yet. Fails only when memory
+    /// runs out.
+    pub fn new(tree: &Tree, id: NodeId) -> Result<LateAttrs, PageFault>
+        ensures id { IfOk result (λ late. late.id ≡ id) }
+        ensures added { IfOk result (λ late. late.added.items ≡ []) }
+    {
+        let alloc = tree.allocator();
+        Ok(LateAttrs {
+            id,
+            names: names_of(tree, id)?,
+            added: Vec::new(alloc),
+        })
+    }
+
+    /// Returns whether they are the attributes of the element with that id.
+    pub fn is_of(&self, id: NodeId) -> bool
+        ensures { result ≡ (self.now.id == id) }
+    {
+        self.id == id
+    }
+
+    /// Collects those of a tag's attributes whose names the element doesn't have yet. Fails only
+    /// when memory runs out.
+    pub fn add(&mut self, alloc: Global, tag: &Tag) -> Result<(), PageFault> {
+        for attr in tag.attrs.as_slice() {
+            if !self.names.contains(attr.name.as_str()) {
+                add_name(&mut self.names, alloc, attr.name.as_str())?;
+                self.added
+                    .push(attr_of(alloc, ElementNamespace::Html, attr)?)?;
+            }
+        }
+        Ok(())
+    }
+
+    /// Adds the collected attributes to the element, after its own. Fails only when memory runs
+    /// out.
+    pub fn put_into(self, tree: &mut Tree) -> Result<(), PageFault> {
+        let mut attrs = attrs_at(tree, self.id)?;
+        for attr in self.added {
+            attrs.push(attr)?;
+        }
+        match replace_attrs(tree, self.id, attrs) {
+            true => Ok(()),
+            false => Err(PageFault::Memory),
+        }
+    }
+}
+
+/// The attributes that later tags add to elements of a tree.
+#[derive(Drop)]
+pub struct LateTags {
+    elements: Vec<LateAttrs>,
+}
+
+impl LateTags {
+    /// Returns the state in which no element has later tags yet.
+    pub fn new(alloc: Global) -> LateTags
+        ensures { result.elements.items ≡ [] }
+    {
+        LateTags {
+            elements: Vec::new(alloc),
+        }
+    }
+
+    /// Collects the attributes of a later tag of an element. Fails only when memory runs out.
+    pub fn add(&mut self, tree: &Tree, id: NodeId, tag: &Tag) -> Result<(), PageFault> {
+        let place = self.place_of(tree, id)?;
+        match self.elements.get_mut(place) {
+            Some(late) => late.add(tree.allocator(), tag),
+            None => Ok(()),
+        }
+    }
+
+    /// Returns where an element is in the list. An element that has no place yet gets the last one.
+    fn place_of(&mut self, tree: &Tree, id: NodeId) -> Result<usize, PageFault> {
+        if let Some(place) = self.find(id) {
+            return Ok(place);
+        }
+        let place = self.elements.len();
+        self.elements.push(LateAttrs::new(tree, id)?)?;
+        Ok(place)
+    }
+
+    /// Returns where an element is in the list.
+    fn find(&self, id: NodeId) -> Option<usize>
+        ensures { result ≡ position (λ late. late.id == id) self.now.elements.items }
+    {
+        self.elements
+            .as_slice()
+            .iter()
+            .position(|late| late.is_of(id))
+    }
+
+    /// Adds the collected attributes to their elements, after those that the elements have. Fails
+    /// only when memory runs out.
+    pub fn put_into(self, tree: &mut Tree) -> Result<(), PageFault> {
+        for late in self.elements {
+            late.put_into(tree)?;
+        }
+        Ok(())
+    }
+}
+
+/// Gives an element these attributes in place of its own. Returns false where memory is refused.
+fn replace_attrs(tree: &mut Tree, id: NodeId, attrs: Attrs) -> bool {
+    if tree.try_change_of(&id, Change::RemoveAllAttrs).is_err() {
+        return false;
+    }
+    tree.add_missing_attrs_of(&id, attrs).is_ok()
+}
+
+/// Returns a copy of the attributes of an element.
+fn attrs_at(tree: &Tree, id: NodeId) -> Result<Attrs, PageFault>
+    ensures { IfOk result (λ attrs. attrs ≡ node_attrs tree.now id) }
+{
+    match NodeRef::new(id, tree).element_ref() {
+        Some(element) => Ok(element.attrs().try_clone()?),
+        None => Ok(Attrs::new(tree.allocator())),
+    }
+}
+
+/// Returns the names of the attributes of an element.
+fn names_of(tree: &Tree, id: NodeId) -> Result<BTreeSet<String>, PageFault> {
+    let alloc = tree.allocator();
+    let mut names = BTreeSet::new(alloc);
+    if let Some(node) = tree.tree_node(&id)
+        && let Some(element) = node.content.as_element()
+    {
+        for attr in element.attrs().as_slice() {
+            add_name(&mut names, alloc, attr.name.local().as_str())?;
+        }
+    }
+    Ok(names)
+}
+
+fn add_name(names: &mut BTreeSet<String>, alloc: Global, name: &str) -> Result<(), PageFault> {
+    names.insert(String::from_str(alloc, name)?)?;
+    Ok(())
+}

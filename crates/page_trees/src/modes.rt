@@ -1,0 +1,206 @@
+//! The insertion modes: which rules process a token (13.2.6.4).
+
+ghost use Rattle.std.specs.Prelude.{◌≡◌, [], string_bytes};
+ghost use Rattle.std.specs.Option.{option_map_or};
+ghost use Rattle.page_trees.specs.Modes.{is_start_kind, next_of};
+
+mod after;
+mod body;
+mod body_ends;
+pub mod groups;
+mod head;
+mod resetting;
+mod select;
+mod tables;
+mod template;
+
+use crate::builder::{Mode, Next, TreeBuilder};
+use crate::chars::Run;
+use crate::fault::PageFault;
+use crate::name::Name;
+use dom_nodes::name::LocalName;
+use dom_trees::quirks::QuirksMode;
+use page_tokens::token::{Doctype, Tag, TagKind};
+use page_tokens::tokenizer::State;
+
+/// A token as the insertion modes process it.
+#[derive(Clone, Copy, Drop)]
+pub enum Token<'a> {
+    Tag(Name, &'a Tag),
+    Run(Run, &'a str),
+    /// The end of the page.
+    End,
+}
+
+impl TreeBuilder {
+    /// Processes a tag.
+    pub fn tag(&mut self, tag: &Tag) {
+        self.skip_line_feed = false;
+        self.flush_table_text();
+        match LocalName::new(self.alloc, tag.name.as_str()) {
+            Ok(local) => self.process(Token::Tag(Name::of(&local.by_ref()), tag)),
+            Err(_) => self.keep(Err(PageFault::Memory)),
+        }
+    }
+
+    /// Processes a token, and reprocesses it as often as the rules ask for. There is a limit that
+    /// no stack of open elements reaches; past it, the rules for "in body" process the token.
+    pub fn process(&mut self, token: Token<'_>) {
+        for _ in 0..self.turns() {
+            if self.step(token) == Next::Done {
+                return;
+            }
+        }
+        self.mode = Mode::InBody;
+        self.step(token);
+    }
+
+    /// Processes a token once by the rules of the current insertion mode.
+    fn step(&mut self, token: Token<'_>) -> Next {
+        match token {
+            Token::Tag(name, tag) => self.tag_step(name, tag),
+            Token::Run(kind, text) => self.run_step(kind, text),
+            Token::End => self.end_step(),
+        }
+    }
+
+    /// Processes a token by the rules for "in body".
+    fn body_step(&mut self, token: Token<'_>) -> Next {
+        match token {
+            Token::Tag(name, tag) => self.body_tag(name, tag),
+            Token::Run(kind, text) => self.body_run(kind, text),
+            Token::End => Next::Done,
+        }
+    }
+
+    fn tag_step(&mut self, name: Name, tag: &Tag) -> Next {
+        if self.is_tag_foreign(tag.kind, name) {
+            self.foreign_tag(name, tag)
+        } else {
+            self.html_tag(name, tag)
+        }
+    }
+
+    pub fn html_tag(&mut self, name: Name, tag: &Tag) -> Next {
+        match self.mode {
+            Mode::InBody => self.body_tag(name, tag),
+            Mode::Text => self.end_in_mode(self.original),
+            Mode::InTable | Mode::InTableText => self.table_tag(name, tag),
+            Mode::InCaption => self.caption_tag(name, tag),
+            Mode::InColumnGroup => self.column_group_tag(name, tag),
+            Mode::InTableBody => self.table_body_tag(name, tag),
+            Mode::InRow => self.row_tag(name, tag),
+            Mode::InCell => self.cell_tag(name, tag),
+            Mode::InSelect => self.select_tag(name, tag),
+            Mode::InSelectInTable => self.select_in_table_tag(name, tag),
+            Mode::InTemplate => self.template_tag(name, tag),
+            _ => self.outer_tag(name, tag),
+        }
+    }
+
+    /// Processes a tag in a mode before or after the body.
+    fn outer_tag(&mut self, name: Name, tag: &Tag) -> Next {
+        match self.mode {
+            Mode::BeforeHtml => self.before_html_tag(name, tag),
+            Mode::BeforeHead => self.before_head_tag(name, tag),
+            Mode::InHead => self.head_tag(name, tag),
+            Mode::InHeadNoscript => self.noscript_tag(name, tag),
+            Mode::AfterHead => self.after_head_tag(name, tag),
+            Mode::AfterBody => self.after_body_tag(name, tag),
+            Mode::InFrameset => self.frameset_tag(name, tag),
+            Mode::AfterFrameset => self.after_frameset_tag(name, tag),
+            Mode::AfterAfterBody => self.after_after_body_tag(name, tag),
+            Mode::AfterAfterFrameset => self.after_after_frameset_tag(name, tag),
+            _ => self.leave_initial(),
+        }
+    }
+
+    /// Inserts an element whose content is text up to its end tag (13.2.6.2).
+    pub fn insert_text_element(&mut self, name: Name, tag: &Tag, state: State) -> Next {
+        self.insert(name, tag);
+        self.switch = Some(state);
+        self.original = self.mode;
+        self.done_in(Mode::Text)
+    }
+
+    pub fn comment(&mut self, text: &str) {
+        self.skip_line_feed = false;
+        self.flush_table_text();
+        let put = match self.mode {
+            _ if self.is_current_foreign() => self.tree.put_comment(self.placing, text),
+            Mode::Initial | Mode::BeforeHtml | Mode::AfterAfterBody | Mode::AfterAfterFrameset => {
+                self.tree.put_comment_at_top(text)
+            }
+            Mode::AfterBody => self.tree.put_comment_in_html(text),
+            _ => self.tree.put_comment(self.placing, text),
+        };
+        self.keep(put);
+    }
+
+    pub fn doctype(&mut self, doctype: &Doctype) {
+        self.skip_line_feed = false;
+        self.flush_table_text();
+        if self.mode != Mode::Initial {
+            return;
+        }
+        let mode = crate::quirks::mode_of(doctype);
+        self.tree.set_quirks_mode(mode);
+        self.quirks = mode == QuirksMode::Quirks;
+        let name = text_of(&doctype.name);
+        let public_id = text_of(&doctype.public_id);
+        let system_id = text_of(&doctype.system_id);
+        self.mode = Mode::BeforeHtml;
+        let put = self.tree.put_doctype([name, public_id, system_id]);
+        self.keep(put);
+    }
+
+    /// Processes the end of the page.
+    pub fn end(&mut self) {
+        self.flush_table_text();
+        self.process(Token::End);
+    }
+
+    fn end_step(&mut self) -> Next {
+        match self.mode {
+            Mode::Initial
+            | Mode::BeforeHtml
+            | Mode::BeforeHead
+            | Mode::InHead
+            | Mode::InHeadNoscript
+            | Mode::AfterHead => self.leave_mode(),
+            Mode::Text => self.leave_for(self.original),
+            Mode::AfterBody
+            | Mode::AfterAfterBody
+            | Mode::AfterAfterFrameset
+            | Mode::InFrameset
+            | Mode::AfterFrameset => Next::Done,
+            _ if !self.template_modes.is_empty() => next_if(self.close_template()),
+            Mode::InColumnGroup => self.leave_column_group(),
+            _ => Next::Done,
+        }
+    }
+}
+
+/// Returns the text, which is empty if there is none.
+fn text_of(text: &Option<String>) -> &str
+    ensures { result.now ≡ option_map_or string_bytes text.now [] }
+{
+    match text {
+        Some(text) => text.as_str(),
+        None => "",
+    }
+}
+
+/// Returns that the token is to be reprocessed, or is done.
+fn next_if(again: bool) -> Next
+    ensures { result ≡ next_of again }
+{
+    if again { Next::Again } else { Next::Done }
+}
+
+/// Returns whether the tag is a start tag.
+pub fn is_start(tag: &Tag) -> bool
+    ensures { result ≡ is_start_kind tag.now.kind }
+{
+    tag.kind == TagKind::Start
+}

@@ -1,0 +1,205 @@
+//! The modes before the body.
+
+use super::groups::is_metadata;
+use super::is_start;
+use crate::builder::{Mode, Next, TreeBuilder};
+use crate::fault::PageFault;
+use crate::name::Name;
+use dom_trees::quirks::QuirksMode;
+use page_tokens::token::Tag;
+use page_tokens::tokenizer::State;
+
+impl TreeBuilder {
+    pub fn leave_initial(&mut self) -> Next {
+        self.tree.set_quirks_mode(QuirksMode::Quirks);
+        self.quirks = true;
+        self.again_in(Mode::BeforeHtml)
+    }
+
+    pub fn imply_html(&mut self) -> Next {
+        self.imply(Name::Html, "html", Mode::BeforeHead)
+    }
+
+    pub fn before_html_tag(&mut self, name: Name, tag: &Tag) -> Next {
+        if is_start(tag) {
+            if name == Name::Html {
+                self.insert_html(tag);
+                return self.done_in(Mode::BeforeHead);
+            }
+            return self.imply_html();
+        }
+        match name {
+            Name::Head | Name::Body | Name::Html | Name::Br => self.imply_html(),
+            _ => Next::Done,
+        }
+    }
+
+    pub fn imply_head(&mut self) -> Next {
+        self.insert_implied(Name::Head, "head");
+        self.tree.set_head();
+        self.again_in(Mode::InHead)
+    }
+
+    pub fn before_head_tag(&mut self, name: Name, tag: &Tag) -> Next {
+        if is_start(tag) {
+            return match name {
+                Name::Html => self.add_html_attrs(tag),
+                Name::Head => self.start_head(tag),
+                _ => self.imply_head(),
+            };
+        }
+        match name {
+            Name::Head | Name::Body | Name::Html | Name::Br => self.imply_head(),
+            _ => Next::Done,
+        }
+    }
+
+    fn start_head(&mut self, tag: &Tag) -> Next {
+        self.insert(Name::Head, tag);
+        self.tree.set_head();
+        self.done_in(Mode::InHead)
+    }
+
+    /// Adds the attributes of a later start tag `html` to the element.
+    pub fn add_html_attrs(&mut self, tag: &Tag) -> Next {
+        if !self.tree.open().has(Name::Template) {
+            self.add_attrs(0, tag);
+        }
+        Next::Done
+    }
+
+    /// Pops the current node, and reprocesses the token in that mode.
+    pub fn leave_for(&mut self, mode: Mode) -> Next {
+        self.tree.pop();
+        self.again_in(mode)
+    }
+
+    /// Pops the current node at its end tag, and switches to that mode.
+    pub fn end_in_mode(&mut self, mode: Mode) -> Next {
+        self.tree.pop();
+        self.done_in(mode)
+    }
+
+    /// Processes the start tag of an element of the head, wherever it is.
+    pub fn head_element(&mut self, name: Name, tag: &Tag) -> Next {
+        match name {
+            Name::Title => self.insert_text_element(name, tag, State::Rcdata),
+            Name::Noframes | Name::Style | Name::Noscript => {
+                self.insert_text_element(name, tag, State::Rawtext)
+            }
+            Name::Script => self.insert_text_element(name, tag, State::Script),
+            Name::Template => self.start_template(tag),
+            _ => self.insert_void(name, tag),
+        }
+    }
+
+    fn start_template(&mut self, tag: &Tag) -> Next {
+        self.insert(Name::Template, tag);
+        self.push_marker();
+        self.frameset_ok = false;
+        self.push_template_mode(Mode::InTemplate);
+        self.done_in(Mode::InTemplate)
+    }
+
+    pub fn push_template_mode(&mut self, mode: Mode) {
+        if self.template_modes.push(mode).is_err() {
+            self.keep(Err(PageFault::Memory));
+        }
+    }
+
+    /// Closes a template, if one is open, and returns whether one was.
+    pub fn close_template(&mut self) -> bool {
+        if !self.tree.open().has(Name::Template) {
+            return false;
+        }
+        self.tree.pop_to(Name::Template);
+        self.tree.clear_to_marker();
+        let _ = self.template_modes.pop();
+        self.reset_mode();
+        true
+    }
+
+    pub fn end_template(&mut self) -> Next {
+        self.close_template();
+        Next::Done
+    }
+
+    pub fn head_tag(&mut self, name: Name, tag: &Tag) -> Next {
+        if is_start(tag) {
+            return match name {
+                Name::Html => self.add_html_attrs(tag),
+                Name::Noscript if !self.scripting => {
+                    self.insert_then(name, tag, Mode::InHeadNoscript)
+                }
+                Name::Noscript => self.head_element(name, tag),
+                _ if is_metadata(name) => self.head_element(name, tag),
+                Name::Head => Next::Done,
+                _ => self.leave_for(Mode::AfterHead),
+            };
+        }
+        match name {
+            Name::Head => self.end_in_mode(Mode::AfterHead),
+            Name::Body | Name::Html | Name::Br => self.leave_for(Mode::AfterHead),
+            Name::Template => self.end_template(),
+            _ => Next::Done,
+        }
+    }
+
+    pub fn noscript_tag(&mut self, name: Name, tag: &Tag) -> Next {
+        if is_start(tag) {
+            return match name {
+                Name::Html => self.add_html_attrs(tag),
+                Name::Basefont
+                | Name::Bgsound
+                | Name::Link
+                | Name::Meta
+                | Name::Noframes
+                | Name::Style => self.head_element(name, tag),
+                Name::Head | Name::Noscript => Next::Done,
+                _ => self.leave_for(Mode::InHead),
+            };
+        }
+        match name {
+            Name::Noscript => self.end_in_mode(Mode::InHead),
+            Name::Br => self.leave_for(Mode::InHead),
+            _ => Next::Done,
+        }
+    }
+
+    pub fn imply_body(&mut self) -> Next {
+        self.imply(Name::Body, "body", Mode::InBody)
+    }
+
+    pub fn after_head_tag(&mut self, name: Name, tag: &Tag) -> Next {
+        if is_start(tag) {
+            return match name {
+                Name::Html => self.add_html_attrs(tag),
+                Name::Body => {
+                    self.frameset_ok = false;
+                    self.insert_then(name, tag, Mode::InBody)
+                }
+                Name::Frameset => self.insert_then(name, tag, Mode::InFrameset),
+                _ if is_metadata(name) => self.in_head_again(name, tag),
+                Name::Head => Next::Done,
+                _ => self.imply_body(),
+            };
+        }
+        match name {
+            Name::Template => self.end_template(),
+            Name::Body | Name::Html | Name::Br => self.imply_body(),
+            _ => Next::Done,
+        }
+    }
+
+    /// Processes the start tag of an element of the head after the head is closed; the element is
+    /// inserted into the head.
+    fn in_head_again(&mut self, name: Name, tag: &Tag) -> Next {
+        if !self.tree.has_head() {
+            return Next::Done;
+        }
+        self.placing.in_head = true;
+        let next = self.head_element(name, tag);
+        self.placing.in_head = false;
+        next
+    }
+}

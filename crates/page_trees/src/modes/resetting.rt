@@ -1,0 +1,152 @@
+//! Resetting the insertion mode appropriately (13.2.4.1).
+
+ghost use Rattle.std.specs.Prelude.{◌≡◌};
+ghost use Rattle.page_trees.specs.Modes.{mode_for, mode_in_html, mode_in_select, mode_named};
+ghost use Rattle.page_trees.specs.Modes.{mode_of_others, mode_unless};
+
+use crate::builder::{Mode, TreeBuilder};
+use crate::name::Name;
+use crate::stack::{ElementNamespace, Open};
+
+/// The elements that determine a mode. The outermost open element always determines one.
+const ASKING: [Name; 15] = [
+    Name::Select,
+    Name::Td,
+    Name::Th,
+    Name::Tr,
+    Name::Tbody,
+    Name::Thead,
+    Name::Tfoot,
+    Name::Caption,
+    Name::Colgroup,
+    Name::Table,
+    Name::Template,
+    Name::Head,
+    Name::Body,
+    Name::Frameset,
+    Name::Html,
+];
+
+impl TreeBuilder {
+    /// Sets the insertion mode that the stack of open elements determines.
+    pub fn reset_mode(&mut self) {
+        self.mode = self.mode_of_stack();
+    }
+
+    fn mode_of_stack(&self) -> Mode {
+        if self.tree.open().len() == 0 {
+            return Mode::InBody;
+        }
+        let place = self.tree.open().topmost(&ASKING).unwrap_or(0);
+        self.mode_at(place).unwrap_or(Mode::InBody)
+    }
+
+    /// Returns the mode that the element at an index of the stack determines, if any.
+    fn mode_at(&self, place: usize) -> Option<Mode> {
+        let element = self.tree.adjusted_current_node(place)?;
+        let setting = Setting {
+            is_last: place == 0,
+            is_in_table: self.tree.open().is_in_table(),
+            has_head: self.tree.has_head(),
+            template_mode: self.template_mode(),
+        };
+        setting.mode_for(&element)
+    }
+
+    /// Returns the current template insertion mode.
+    fn template_mode(&self) -> Mode {
+        match self.template_modes.last().copied() {
+            Some(mode) => mode,
+            None => Mode::InTemplate,
+        }
+    }
+}
+
+/// What the mode depends on, besides the element that determines it.
+#[derive(Clone, Copy, Drop)]
+struct Setting {
+    /// Whether the element is the outermost one, or the context element of a fragment.
+    is_last: bool,
+    /// Whether a table was opened after the last open template.
+    is_in_table: bool,
+    /// Whether the head element pointer is set.
+    has_head: bool,
+    /// The current template insertion mode.
+    template_mode: Mode,
+}
+
+impl Setting {
+    /// Returns the mode that an element determines, if any (steps 4 to 16).
+    fn mode_for(self, element: &Open) -> Option<Mode>
+        ensures { result ≡ mode_for self element.now }
+    {
+        match element.ns {
+            ElementNamespace::Html => self.mode_named(element.name),
+            _ => self.mode_of_others(),
+        }
+    }
+
+    /// Returns the mode that an HTML element with that name determines, if any.
+    fn mode_named(self, name: Name) -> Option<Mode>
+        ensures { result ≡ mode_named self name }
+    {
+        match name {
+            Name::Select => Some(self.select_mode()),
+            Name::Td | Name::Th => Some(self.unless_last(Mode::InCell)),
+            Name::Tr => Some(Mode::InRow),
+            Name::Tbody | Name::Thead | Name::Tfoot => Some(Mode::InTableBody),
+            Name::Caption => Some(Mode::InCaption),
+            Name::Colgroup => Some(Mode::InColumnGroup),
+            Name::Table => Some(Mode::InTable),
+            Name::Template => Some(self.template_mode),
+            Name::Head => Some(self.unless_last(Mode::InHead)),
+            Name::Body => Some(Mode::InBody),
+            Name::Frameset => Some(Mode::InFrameset),
+            Name::Html => Some(self.html_mode()),
+            _ => self.mode_of_others(),
+        }
+    }
+
+    /// Returns the mode for the element `html`.
+    fn html_mode(self) -> Mode
+        ensures { result ≡ mode_in_html self.has_head }
+    {
+        if self.has_head {
+            Mode::AfterHead
+        } else {
+            Mode::BeforeHead
+        }
+    }
+
+    /// Returns the mode for an open `select`.
+    fn select_mode(self) -> Mode
+        ensures { result ≡ mode_in_select self.is_last self.is_in_table }
+    {
+        if self.is_last {
+            return Mode::InSelect;
+        }
+        if self.is_in_table {
+            Mode::InSelectInTable
+        } else {
+            Mode::InSelect
+        }
+    }
+
+    /// Returns a mode that the outermost element doesn't determine.
+    fn unless_last(self, mode: Mode) -> Mode
+        ensures { result ≡ mode_unless self.is_last mode }
+    {
+        if self.is_last { Mode::InBody } else { mode }
+    }
+
+    /// Returns the mode for an element of another name.
+    fn mode_of_others(self) -> Option<Mode>
+        ensures { result ≡ mode_of_others self.is_last }
+    {
+        if self.is_last {
+            Some(Mode::InBody)
+        } else {
+            None
+        }
+    }
+}

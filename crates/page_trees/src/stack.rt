@@ -1,0 +1,571 @@
+//! The stack of open elements (13.2.4.2). A call that returns a `Result` fails with `Memory`, or
+//! with `TooManyNodes` if there are too many names.
+
+ghost use Rattle.std.specs.Prelude.{◌≡◌, [], ◌∷◌, ◌++◌, Contains, IfNone, IfSome, OnErr, OnOk};
+ghost use Rattle.std.specs.Prelude.{◌+◌, ◌-◌, ◌<◌, ◌≤◌, ◌↔◌, ◌⊎◌, IsTrue, List, drop, false, insert};
+ghost use Rattle.std.specs.Prelude.{length, remove, reverse, slice_get, slice_set, take};
+ghost use Rattle.std.specs.Option.{option_map_or, option_to_list};
+ghost use Rattle.page_trees.specs.Popping.{first_from, up_to_last};
+ghost use Rattle.page_trees.specs.Scopes.{ends_in, has_in_scope, has_name, is_among, is_named};
+ghost use Rattle.page_trees.specs.Scopes.{is_named_like, last_place};
+ghost use Rattle.page_trees.specs.SearchIndex.{IsIndex, IsIndexed, is_sought};
+ghost use Rattle.page_trees.specs.Sets.{ends_context, ends_scope, ends_select, has_html_content};
+ghost use Rattle.page_trees.specs.Sets.{is_in_html, is_special_element};
+ghost use Rattle.page_trees.specs.declared.stack.Open.{Open as AnOpen};
+
+mod links;
+mod marks;
+mod others;
+
+use crate::fault::PageFault;
+use crate::name::Name;
+use crate::sets::{Scope, TableContext, ends_select_scope, is_special};
+use dom_nodes::node_id::NodeId;
+use marks::{Marks, Sought, key_for, key_of};
+use others::OtherNames;
+use std::alloc::Global;
+
+/// The namespace of an element.
+#[derive(Clone, Copy, PartialEq, Eq, Drop)]
+pub enum ElementNamespace {
+    Html,
+    Svg,
+    MathMl,
+}
+
+/// An element of the stack.
+#[derive(Clone, Copy, Drop)]
+pub struct Open {
+    pub id: NodeId,
+    pub ns: ElementNamespace,
+    pub name: Name,
+    /// The number that `OtherNames` gave to a name that is not in `Name`, and otherwise 0.
+    pub number: u32,
+    /// Whether it is an `annotation-xml` whose encoding is HTML.
+    pub holds_html: bool,
+}
+
+impl Open {
+    /// Returns whether the two elements have the same name and namespace.
+    pub fn is_named_like(&self, other: &Open) -> bool
+        ensures { result ≡ is_named_like self.now other.now }
+    {
+        self.ns == other.ns && self.name == other.name && self.number == other.number
+    }
+
+    /// Returns whether it is an HTML element with that name.
+    pub fn is_html(&self, name: Name) -> bool
+        ensures { result ≡ has_name name self.now }
+    {
+        self.ns == ElementNamespace::Html && self.name == name
+    }
+}
+
+const HEADINGS: [Name; 6] = [Name::H1, Name::H2, Name::H3, Name::H4, Name::H5, Name::H6];
+
+/// The stack of open elements, the outermost first, with an index (`marks`) that answers searches
+/// without a loop over the stack.
+#[derive(Drop)]
+pub struct OpenElements {
+    elements: Vec<Open>,
+    marks: Marks,
+    others: OtherNames,
+}
+
+impl OpenElements {
+    pub fn new(alloc: Global) -> OpenElements
+        ensures items { result.elements.items ≡ [] }
+        ensures index { IsIndexed result }
+    {
+        OpenElements {
+            elements: Vec::new(alloc),
+            marks: Marks::new(alloc),
+            others: OtherNames::new(alloc),
+        }
+    }
+
+    pub fn len(&self) -> usize
+        ensures { result ≡ length self.now.elements.items }
+    {
+        self.elements.as_slice().len()
+    }
+
+    pub fn as_slice(&self) -> &[Open]
+        ensures { result.now ≡ self.now.elements.items }
+    {
+        self.elements.as_slice()
+    }
+
+    /// Returns the elements before an index of the stack.
+    pub fn before(&self, place: usize) -> &[Open]
+        ensures { result.now ≡ take place self.now.elements.items }
+    {
+        if place >= self.elements.len() {
+            return self.elements.as_slice();
+        }
+        &self.elements.as_slice()[..place]
+    }
+
+    pub fn get(&self, place: usize) -> Option<Open>
+        ensures found { IfSome result (Contains self.now.elements.items) }
+        ensures value { result ≡ slice_get self.now.elements.items place }
+    {
+        self.elements.get(place).copied()
+    }
+
+    /// Returns the element after an index of the stack.
+    pub fn behind(&self, place: usize) -> Option<Open>
+        ensures { result ≡ slice_get self.now.elements.items (place + 1) }
+    {
+        if place >= self.elements.len() {
+            return None;
+        }
+        self.elements.get(place + 1).copied()
+    }
+
+    /// Returns the current node.
+    pub fn current(&self) -> Option<Open>
+        ensures found { IfSome result (Contains self.now.elements.items) }
+        ensures value { let elements = self.now.elements.items in
+            result ≡ slice_get elements (length elements - 1) }
+    {
+        self.elements.last().copied()
+    }
+
+    /// Returns whether the current node is an HTML element with that name.
+    pub fn current_is(&self, name: Name) -> bool
+        ensures { let elements = self.now.elements.items in
+            result ≡ option_map_or (has_name name) (slice_get elements (length elements - 1)) false }
+    {
+        match self.current() {
+            Some(open) => open.is_html(name),
+            None => false,
+        }
+    }
+
+    /// Returns whether the second element of the stack is the body.
+    pub fn has_body(&self) -> bool
+        ensures { result ≡
+            option_map_or (has_name Name.Body) (slice_get self.now.elements.items 1) false }
+    {
+        match self.get(1) {
+            Some(open) => open.is_html(Name::Body),
+            None => false,
+        }
+    }
+
+    /// Brings the search index up to date. It is called after elements inside the stack were
+    /// changed.
+    pub fn mark(&mut self)
+        ensures items { self.new.elements ≡ self.old.elements }
+        ensures index { IsIndexed self.old → IsIndexed self.new }
+    {
+        self.marks.fill(self.elements.as_slice());
+    }
+
+    /// Returns the number for a name that is not in `Name`, and 0 for any other.
+    pub fn number_of(&mut self, alloc: Global, name: Name, written: &str) -> Result<u32, PageFault>
+        ensures items { self.new.elements ≡ self.old.elements }
+        ensures index { IsIndexed self.old → IsIndexed self.new }
+    {
+        if name != Name::Other {
+            return Ok(0);
+        }
+        self.others.number_of(alloc, written)
+    }
+
+    /// Appends an element, which becomes the current node.
+    pub fn push(&mut self, element: &Open) -> Result<(), PageFault>
+        ensures ok { let old = self.old.elements.items in
+            OnOk result (self.new.elements.items ≡ old ++ element.now ∷ []) }
+        ensures err { OnErr result (self.new.elements.items ≡ self.old.elements.items) }
+        ensures index { IsIndexed self.old → IsIndexed self.new }
+    {
+        let count = self.elements.len().saturating_add(1);
+        self.marks.reserve(count, key_of(element))?;
+        self.elements.push(*element)?;
+        self.mark();
+        Ok(())
+    }
+
+    /// Pops the current node off the stack and returns it.
+    pub fn take(&mut self) -> Option<Open>
+        ensures items { self.old.elements.items ≡ self.new.elements.items ++ option_to_list result }
+        ensures none { IfNone result (self.old.elements.items ≡ []) }
+        ensures index { IsIndexed self.old → IsIndexed self.new }
+    {
+        let place = self.elements.len().saturating_sub(1);
+        self.marks.cut(place, self.elements.as_slice());
+        self.elements.pop()
+    }
+
+    /// Pops elements until only the first `count` are open.
+    pub fn truncate(&mut self, count: usize)
+        ensures items { self.new.elements.items ≡ take count self.old.elements.items }
+        ensures index { IsIndexed self.old → IsIndexed self.new }
+    {
+        while self.elements.len() > count {
+            let _ = self.take();
+        }
+    }
+
+    /// Returns how many elements stay when the stack is cleared back to a table context.
+    pub fn depth_of_context(&self, context: TableContext) -> usize
+        ensures { let all = self.now.elements.items in
+            take result all ≡ up_to_last (ends_context context) all }
+    {
+        let mut rest = self.elements.as_slice();
+        while let Some((open, below)) = rest.split_last() {
+            if context.ends_at(open) {
+                return rest.len();
+            }
+            rest = below;
+        }
+        0
+    }
+
+    /// Returns how many elements stay when foreign content is left: the last of them is the current
+    /// node then, and its content is HTML.
+    pub fn depth_of_html(&self) -> usize
+        ensures { let all = self.now.elements.items in
+            take result all ≡ up_to_last has_html_content all }
+    {
+        let mut rest = self.elements.as_slice();
+        while let Some((open, below)) = rest.split_last() {
+            if !open.holds_foreign() {
+                return rest.len();
+            }
+            rest = below;
+        }
+        0
+    }
+
+    /// Removes the element at an index of the stack. The caller calls `mark` afterwards.
+    pub fn remove_at(&mut self, place: usize)
+        ensures items { self.new.elements.items ≡ remove self.old.elements.items place }
+        ensures index { IsIndexed self.old → IsIndexed self.new }
+    {
+        if place < self.elements.len() {
+            self.marks.cut(place, self.elements.as_slice());
+            let _ = self.elements.remove(place);
+        }
+    }
+
+    /// Replaces the element at an index of the stack by a copy of it. The caller calls `mark`
+    /// afterwards.
+    pub fn replace(&mut self, place: usize, copy: &Open)
+        ensures items { self.new.elements.items ≡
+            slice_set self.old.elements.items place copy.now }
+        ensures index { IsIndexed self.old → IsIndexed self.new }
+    {
+        self.forget(place, copy);
+        self.put(place, copy);
+    }
+
+    /// Removes the entries of the search index that are wrong after a copy replaces the element at
+    /// an index of the stack.
+    fn forget(&mut self, place: usize, copy: &Open)
+        ensures elements { self.new.elements ≡ self.old.elements }
+        ensures index { let elements = slice_set self.old.elements.items place copy.now in
+            IsIndexed self.old → IsIndex elements self.new.marks }
+    {
+        if let Some(old) = self.get(place)
+            && old.is_named_like(copy)
+        {
+            return;
+        }
+        self.marks.cut(place, self.elements.as_slice());
+    }
+
+    /// Removes the element at an index of the stack, and inserts a copy of it after the element at
+    /// the index `last`.
+    pub fn carry(&mut self, place: usize, last: usize, copy: &Open)
+        requires order { place ≤ last }
+        requires within { last < length self.old.elements.items }
+        ensures items { let others = remove self.old.elements.items place in
+            self.new.elements.items ≡ insert others last copy.now }
+        ensures index { IsIndexed self.old → IsIndexed self.new }
+    {
+        self.replace(place, copy);
+        self.mark();
+        let mut index = place;
+        while index < last {
+            self.exchange(index);
+            index += 1;
+        }
+    }
+
+    /// Exchanges the elements at an index of the stack and at the next one.
+    fn exchange(&mut self, place: usize)
+        requires { place + 1 < length self.old.elements.items }
+        ensures items { (others : List AnOpen) (element : AnOpen) →
+            self.old.elements.items ≡ insert others place element → place < length others →
+            self.new.elements.items ≡ insert others (place + 1) element }
+        ensures index { IsIndexed self.old → IsIndexed self.new }
+    {
+        let (Some(lower), Some(upper)) = (self.get(place), self.behind(place)) else {
+            return;
+        };
+        self.reach(place);
+        self.put(place, &upper);
+        self.put(place + 1, &lower);
+        self.marks.exchange(place, self.elements.as_slice());
+    }
+
+    /// Removes the entries of the search index from an index on, unless the next element has one.
+    fn reach(&mut self, place: usize)
+        requires { place + 1 < length self.old.elements.items }
+        ensures elements { self.new.elements ≡ self.old.elements }
+        ensures index { IsIndexed self.old → IsIndexed self.new }
+        ensures rows { let count = length self.new.marks.rows.items in
+            (place + 1 < count) ⊎ (count ≤ place) }
+    {
+        if self.marks.len() > place + 1 {
+            return;
+        }
+        self.marks.cut(place, self.elements.as_slice());
+    }
+
+    /// Writes an element at an index of the stack. The caller brings the search index up to date.
+    fn put(&mut self, place: usize, element: &Open)
+        ensures items { self.new.elements.items ≡
+            slice_set self.old.elements.items place element.now }
+        ensures marks { self.new.marks ≡ self.old.marks }
+    {
+        if let Some(entry) = self.elements.get_mut(place) {
+            *entry = *element;
+        }
+    }
+
+    /// Returns one more than the index of the last element that a search looks for; 0 if there is
+    /// none. The elements that have no entry in the search index, which are the last ones, are
+    /// looked at one by one.
+    fn last(&self, sought: Sought) -> usize
+        ensures { IsIndexed self.now →
+            result ≡ last_place (is_sought sought) self.now.elements.items }
+    {
+        let mut rest = self.elements.as_slice();
+        while rest.len() > self.marks.len() {
+            let Some((element, below)) = rest.split_last() else {
+                return 0;
+            };
+            if sought.is(element) {
+                return rest.len();
+            }
+            rest = below;
+        }
+        self.marks.last(sought)
+    }
+
+    /// Returns one more than the index of the last HTML element with that name; 0 if there is none,
+    /// or for `Other`.
+    fn top(&self, name: Name) -> usize
+        ensures { IsIndexed self.now →
+            result ≡ last_place (is_named name) self.now.elements.items }
+    {
+        if name == Name::Other {
+            return 0;
+        }
+        self.last(Sought::Key(key_for(true, name, 0)))
+    }
+
+    /// Returns one more than the index of the last HTML element with one of these names, or 0.
+    fn top_among(&self, names: &[Name]) -> usize
+        ensures { IsIndexed self.now →
+            result ≡ last_place (is_among names.now) self.now.elements.items }
+    {
+        let mut rest = names;
+        let mut top = 0;
+        while let Some((name, others)) = rest.split_first() {
+            top = self.top(*name).max(top);
+            rest = others;
+        }
+        top
+    }
+
+    /// Returns the index of an element on the stack.
+    pub fn place_of(&self, element: &Open) -> Option<usize> {
+        if element.ns == ElementNamespace::Html {
+            return self.place_among(element.name, element.id);
+        }
+        for place in (0..self.elements.len()).rev() {
+            if let Some(open) = self.get(place)
+                && open.id == element.id
+            {
+                return Some(place);
+            }
+        }
+        None
+    }
+
+    /// Returns the index of the HTML element with that name and id on the stack.
+    pub fn place_among(&self, name: Name, id: NodeId) -> Option<usize> {
+        let mut top = self.top(name);
+        for _ in 0..self.elements.len() {
+            let place = top.checked_sub(1)?;
+            if self.get(place)?.id == id {
+                return Some(place);
+            }
+            top = self.marks.same(place);
+        }
+        None
+    }
+
+    /// Returns whether an HTML element with that name is open.
+    pub fn has(&self, name: Name) -> bool
+        ensures { IsIndexed self.now → IsTrue result ↔
+            (0 < last_place (is_named name) self.now.elements.items) }
+    {
+        self.top(name) > 0
+    }
+
+    /// Returns the index of the last HTML element with one of these names.
+    pub fn topmost(&self, names: &[Name]) -> Option<usize> {
+        self.top_among(names).checked_sub(1)
+    }
+
+    /// Returns whether an HTML element with that name is in scope.
+    pub fn in_scope(&self, name: Name, scope: Scope) -> bool
+        ensures { let outwards = reverse self.now.elements.items in IsIndexed self.now →
+            result ≡ has_in_scope (is_named name) (ends_in scope) outwards }
+    {
+        let top = self.top(name);
+        if top == 0 {
+            return false;
+        }
+        if top < self.scope_end(scope) {
+            return false;
+        }
+        true
+    }
+
+    /// Returns one more than the index of the last element that ends a scope, or 0.
+    fn scope_end(&self, scope: Scope) -> usize
+        ensures { IsIndexed self.now →
+            result ≡ last_place (ends_in scope) self.now.elements.items }
+    {
+        match scope {
+            Scope::Default => self.last(Sought::ScopeEnd),
+            Scope::ListItem => {
+                let ends = self.last(Sought::ScopeEnd);
+                ends.max(self.top(Name::Ol)).max(self.top(Name::Ul))
+            }
+            Scope::Button => self.last(Sought::ScopeEnd).max(self.top(Name::Button)),
+            Scope::Table => {
+                let top = self.top(Name::Html);
+                top.max(self.top(Name::Table)).max(self.top(Name::Template))
+            }
+            Scope::Select => self.select_scope_end(),
+        }
+    }
+
+    /// Returns one more than the index of the last element that ends the select scope, or 0. That
+    /// is any element but `option` and `optgroup`.
+    fn select_scope_end(&self) -> usize
+        ensures { result ≡ last_place ends_select self.now.elements.items }
+    {
+        let mut rest = self.elements.as_slice();
+        while let Some((element, below)) = rest.split_last() {
+            if ends_select_scope(element) {
+                return rest.len();
+            }
+            rest = below;
+        }
+        0
+    }
+
+    /// Returns whether the element at an index is in scope.
+    pub fn is_in_scope(&self, place: usize) -> bool
+        ensures { IsIndexed self.now → IsTrue result ↔
+            (last_place ends_scope self.now.elements.items ≤ place + 1) }
+    {
+        self.last(Sought::ScopeEnd) <= place.saturating_add(1)
+    }
+
+    /// Returns the name of the element at index `top` - 1, unless it comes before the end of a
+    /// search.
+    fn name_from(&self, end: usize, top: usize) -> Option<Name> {
+        if top < end {
+            return None;
+        }
+        let open = self.get(top.checked_sub(1)?)?;
+        Some(open.name)
+    }
+
+    /// Returns the name of the last heading, if it is in scope.
+    pub fn heading_in_scope(&self) -> Option<Name> {
+        self.name_from(self.last(Sought::ScopeEnd), self.top_among(&HEADINGS))
+    }
+
+    /// Returns the name of the open list item that a new one with that name closes.
+    pub fn item_before(&self, name: Name) -> Option<Name> {
+        let top = match name {
+            Name::Li => self.top(Name::Li),
+            _ => self.top_among(&[Name::Dd, Name::Dt]),
+        };
+        self.name_from(self.last(Sought::ItemEnd), top)
+    }
+
+    /// Returns one more than the index of the last element with that name, or 0. It is an HTML
+    /// element or a foreign one.
+    fn top_written(&self, is_html: bool, name: Name, written: &str) -> usize {
+        match (name, self.others.get(written)) {
+            (Name::Other, Some(number)) => self.last(Sought::Key(key_for(is_html, name, number))),
+            (Name::Other, None) => 0,
+            _ => self.last(Sought::Key(key_for(is_html, name, 0))),
+        }
+    }
+
+    /// Returns the index of the last HTML element with that name, unless a special element comes
+    /// after it.
+    pub fn last_named(&self, name: Name, written: &str) -> Option<usize> {
+        let top = self.top_written(true, name, written);
+        if top < self.last(Sought::Special) {
+            return None;
+        }
+        top.checked_sub(1)
+    }
+
+    /// Returns one more than the index of the last foreign element with that name, or 0.
+    pub fn top_foreign(&self, name: Name, written: &str) -> usize {
+        self.top_written(false, name, written)
+    }
+
+    /// Returns one more than the index of the last HTML element, or 0.
+    pub fn top_html(&self) -> usize
+        ensures { IsIndexed self.now →
+            result ≡ last_place (λ o. is_in_html o.ns) self.now.elements.items }
+    {
+        self.last(Sought::Html)
+    }
+
+    /// Returns the index of the first special element after an index of the stack: the furthest
+    /// block.
+    pub fn furthest_block(&self, place: usize) -> Option<usize>
+        ensures { let after = drop (place + 1) self.now.elements.items in
+            result ≡ first_from is_special_element (place + 1) after }
+    {
+        if place >= self.elements.len() {
+            return None;
+        }
+        let mut index = place + 1;
+        let mut rest = &self.elements.as_slice()[place + 1..];
+        while let Some((open, others)) = rest.split_first() {
+            if is_special(open) {
+                return Some(index);
+            }
+            index += 1;
+            rest = others;
+        }
+        None
+    }
+
+    /// Returns whether a table was opened after the last open template.
+    pub fn is_in_table(&self) -> bool
+        ensures { let elements = self.now.elements.items in IsIndexed self.now → IsTrue result ↔
+            (last_place (is_named Name.Template) elements <
+            last_place (is_named Name.Table) elements) }
+    {
+        self.top(Name::Template) < self.top(Name::Table)
+    }
+}

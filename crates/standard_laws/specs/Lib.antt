@@ -1,0 +1,13 @@
+pub mod CalmTrees
+pub mod Examples
+pub mod HtmlLaws
+pub mod Pages
+pub mod Parsing
+pub mod ParsingLaws
+pub mod ReadableTrees
+pub mod SameNames
+pub mod TokenLaws
+pub mod TreeItems
+pub mod TreeTokens
+pub mod Values
+pub mod WrittenTrees
