@@ -151,6 +151,34 @@ def flushed():
         return line, ran.wait(timeout=SECONDS)
 
 
+# Each way in which `hq` prints, with a page, a line of JSON or a record for it.
+RECORD = b"HTTP/1.1 200 OK\r\nContent-Type: text/html\r\n\r\n<p>a</p>"
+WARC = b"WARC/1.0\r\nWARC-Type: response\r\nContent-Type: application/http\r\nContent-Length: %d\r\n\r\n%s\r\n\r\n"
+WAYS = (
+    (("p",), b"<p>a</p>"),
+    (("--text", "p"), b"<p>a</p>"),
+    (("--md", "p"), b"<p>a</p>"),
+    (("--json", "p"), b"<p>a</p>"),
+    (("--csv", "table"), b"<table><tr><td>a</table>"),
+    (("--count", "p"), b"<p>a</p>"),
+    (("--tree",), b"<p>a</p>"),
+    (("--document",), b"<p>a</p>"),
+    (("--document",), PAGE),
+    (("--script", "select p", "--script", "html"), b"<p>a</p>"),
+    (("--jsonl", "p"), b'{"html":"<p>a</p>"}\n'),
+    (("--warc", "p"), WARC % (len(RECORD), RECORD)),
+)
+
+
+def ways_to_nowhere():
+    """Each way of printing into a pipe that nobody reads, which ends quietly, and onto a device that is full."""
+    for words, markup in WAYS:
+        name = f"hq {' '.join(words)}, {len(markup)} bytes"
+        yield f"{name}: a pipe that nobody reads", to_nobody(markup, ("hq", *words)), (0, b"")
+        if pathlib.Path("/dev/full").is_char_device():
+            yield f"{name}: a full device", to_device(markup, ("hq", *words)), HQ_WROTE
+
+
 def streams():
     """Returns how many endings are as they must be, and how many aren't."""
     null = subprocess.DEVNULL
@@ -172,6 +200,7 @@ def streams():
             endings.append(("a full standard error", ended(b"<p>", null, stderr=full), (3, None)))
     else:
         print("no device that is full")
+    endings += ways_to_nowhere()
     endings += in_pieces()
     endings.append(("a line that is flushed", flushed(), (b'{"count":1}\n', 0)))
     failed = [(name, got, wanted) for name, got, wanted in endings if got != wanted]

@@ -48,6 +48,7 @@ import edits  # noqa: E402
 import encodings_of_pages  # noqa: E402
 import growth  # noqa: E402
 import hostile  # noqa: E402
+import in_place  # noqa: E402
 import options  # noqa: E402
 import paths  # noqa: E402
 import reference  # noqa: E402
@@ -291,7 +292,7 @@ def main():
         counts += [clock.timed("the callers that must not compile", refused_callers)]
         counts += clock.timed("the rows and checks", lambda: [each() for each in tables])
         counts += [it.result() for it in beside]
-    alone = [("streams that fail", streams.streams), ("small address spaces", refusals.limited)]
+    alone = [("streams that fail", streams.streams), ("files written in place", in_place.in_place), ("small address spaces", refusals.limited)]
     alone += [("deep and wide trees", depth.depth), ("the growth of the work", growth.growth)]
     counts += [clock.timed(part, each) for part, each in alone]
     clock.note("all", time.monotonic() - clock.begun, used())

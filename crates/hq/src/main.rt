@@ -2,6 +2,7 @@
 #![tactic(auto)]
 
 mod archive;
+mod keeping;
 mod output;
 mod pages;
 mod rewriting;

@@ -1,8 +1,9 @@
 //! What is done with each file: it is read and changed, and then printed or written back.
 
+use crate::keeping::ErrorKeeper;
 use crate::output::print_matches;
 use crate::rewriting::{print_document, write_back};
-use dom_query::{Document, DocumentSelect, SelectionMut, clean_document, run_commands};
+use dom_query::{Document, DocumentSelect, RunFault, SelectionMut, clean_document, run_commands};
 use hq_pages::addresses::{make_absolute, make_absolute_at};
 use hq_pages::charset::{declare_utf8, report_found};
 use hq_pages::faults::Fault;
@@ -59,8 +60,12 @@ fn do_job<W: Write>(
         }
         Job::Script(commands) => {
             let alloc = page.document.tree.allocator();
-            run_commands(alloc, &mut page.document.tree, commands, out)?;
-            Ok(true)
+            let mut keeper = ErrorKeeper::new(out);
+            match run_commands(alloc, &mut page.document.tree, commands, &mut keeper) {
+                Ok(()) => Ok(true),
+                Err(RunFault::Write) => Err(keeper.into_fault()),
+                Err(fault) => Err(Fault::from(fault)),
+            }
         }
     }
 }

@@ -50,6 +50,8 @@ pub enum Fault {
     },
     /// A file can't be read.
     File(io::Error),
+    /// A file isn't written in place, for this reason.
+    InPlace(&'static str),
     /// Explicit markup is refused at this line and column. Without a kind, the bytes from there on
     /// aren't UTF-8.
     Markup {
@@ -78,6 +80,7 @@ impl fmt::Display for Fault {
             Fault::Base(fault) => write!(f, "--base: {fault}"),
             Fault::Rules { place, fault } => write!(f, "{place}: {fault}"),
             Fault::File(fault) => write!(f, "{fault}"),
+            Fault::InPlace(why) => write!(f, "not written: {why}"),
             Fault::Markup {
                 kind: Some(kind),
                 ..
@@ -94,6 +97,7 @@ impl Fault {
         matches!(
             self,
             Fault::File(_)
+                | Fault::InPlace(_)
                 | Fault::Markup { .. }
                 | Fault::TooManyNodes
                 | Fault::Edit { .. }
