@@ -5,7 +5,7 @@ use dom_nodes::fault::OutOfMemory;
 use std::alloc::Global;
 
 /// The elements that stay.
-static ELEMENTS: [&str; 74] = [
+static ELEMENTS: [&str; 75] = [
     "a",
     "abbr",
     "acronym",
@@ -71,6 +71,7 @@ static ELEMENTS: [&str; 74] = [
     "table",
     "tbody",
     "td",
+    "tfoot",
     "th",
     "thead",
     "time",

@@ -2,6 +2,7 @@
 
 pub use crate::document_md::DocumentMd;
 pub use crate::selection_md::SelectionMd;
+pub use dom_clean::{Policy, PolicyFault, Rules, clean};
 pub use dom_edits::edit::SelectionFault;
 pub use dom_edits::selection_mut::SelectionMut;
 pub use dom_links::gap::Place;

@@ -20,6 +20,8 @@ pub enum Fault {
     Memory(#[from] OutOfMemory),
     #[error("{0}")]
     Write(#[from] WriteFault),
+    #[error("policy: {0}")]
+    Policy(#[from] PolicyFault),
     #[error("csv: {0}")]
     Csv(#[from] csv::Error),
     #[error("{0}")]

@@ -16,6 +16,7 @@ mod mini;
 mod page;
 mod parens;
 mod reading;
+mod reducing;
 mod rewriter;
 mod selectors;
 mod table;
@@ -50,6 +51,7 @@ fn print_finding<W: Write>(alloc: Global, out: &mut W) -> Result<(), Fault> {
 fn print_changing<W: Write>(alloc: Global, out: &mut W) -> Result<(), Fault> {
     changing::print_changed(alloc, out)?;
     many::print_marked(alloc, out)?;
+    reducing::print_reduced(alloc, out)?;
     copying::print_copied(alloc, out)?;
     writing::print_written(alloc, out)?;
     texts::print_texts(alloc, out)?;
