@@ -51,6 +51,7 @@ import hostile  # noqa: E402
 import in_place  # noqa: E402
 import options  # noqa: E402
 import paths  # noqa: E402
+import pictures  # noqa: E402
 import reference  # noqa: E402
 import refusals  # noqa: E402
 import standard  # noqa: E402
@@ -283,7 +284,7 @@ def main():
     counts, edits_left = (None, lambda: (0, 0)) if rows_alone else gate(clock)
     tables = [rows, cleaned, followed, asked_each_way]
     tables += [c_and_python.c_and_python, documents.documents, reference.reference, options.options, standard.standard]
-    tables += [standard_rules.checked, standard_parsing.checked, wrong_bodies, coverage.coverage, entries_of_tables.tables, hostile.hostile, decoded]
+    tables += [standard_rules.checked, standard_parsing.checked, wrong_bodies, coverage.coverage, entries_of_tables.tables, hostile.hostile, decoded, pictures.checked]
     counts = [counts] if counts else []
     with ThreadPoolExecutor() as pool:
         # (what is done beside the edits neither measures the processor time of others nor changes a child before it starts)
