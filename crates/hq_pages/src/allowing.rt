@@ -67,8 +67,9 @@ fn allow_attribute(rules: &mut Rules, name: &str, text: &str) -> Result<bool, Ru
     Ok(is_name(text))
 }
 
-/// Adds to the rules that elements are removed with everything in them, whose names `--deny` lists,
-/// separated by commas. Fails if a name is missing or is none, and if memory runs out.
+/// Adds to the rules what `--deny` says: its value is a list of names, separated by commas, and
+/// elements of these names are removed with everything in them. Fails if the list has an empty item
+/// or one that can't be a name of an element, and if memory runs out.
 pub fn deny(alloc: Global, rules: &mut Rules, text: &str) -> Result<(), RuleFault> {
     for item in text.split(',') {
         let name = item.trim();

@@ -171,7 +171,7 @@ impl From<RunFault> for Fault {
             RunFault::BadScript(line) => Fault::Script(line),
             RunFault::TooManyNodes => Fault::TooManyNodes,
             RunFault::Memory => Fault::Memory,
-            // A page is read without a fault, so the writer is what is left.
+            // The page was read before, so its markup isn't at fault: the writer is.
             RunFault::Write | RunFault::BadMarkup => Fault::Output(io::Error::from(
                 ErrorKind::Other,
             )),
