@@ -47,7 +47,7 @@ def checked():
         else:
             failed.append("tests/standard/rules/names.jsonl: other trees are given for %s" % row["tokens"])
     for file, name, want in LISTS:
-        found = re.search(r"^%s = (.*)" % name, (ROOT / "crates" / "standard_rules" / "specs" / file).read_text(), re.M)
+        found = re.search(r"^%s =(.*?)(?=\n\S|\n\n|\Z)" % name, (ROOT / "crates" / "standard_rules" / "specs" / file).read_text(), re.M | re.S)
         if sorted(re.findall('codes "([^"]*)"', found[1])) == sorted(want):
             passed += 1
         else:

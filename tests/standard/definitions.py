@@ -3,8 +3,12 @@ references, and of tests/standard/texts.jsonl the examples and their proof. Run 
 makes them anew and compares."""
 import json
 import pathlib
+import sys
 
 import table
+
+sys.path.insert(0, str(pathlib.Path(__file__).resolve().parents[1] / "tools"))
+import sheets  # noqa: E402
 
 CRATE = pathlib.Path(__file__).resolve().parents[2] / "crates" / "standard_tokens"
 TEXTS = pathlib.Path(__file__).with_name("texts.jsonl")
@@ -173,6 +177,11 @@ def characters(text):
     return in_list(str(ord(c)) for c in text)
 
 
+def in_words(text):
+    """A comment that shows a text of which the definition has numbers."""
+    return [] if characters(text).startswith("codes") else [f"-- {json.dumps(text)}"]
+
+
 def maybe(text):
     return "None" if text is None else f"Some ({characters(text)})"
 
@@ -212,7 +221,7 @@ def examples_file(rows):
     ]
     for number, r in enumerate(rows):
         tokens = in_list(x for t in r["tokens"] for x in tokens_of(t))
-        lines += ["", f"abbrev pub example{number} : Example"]
+        lines += ["", *in_words(r["text"]), f"abbrev pub example{number} : Example"]
         lines.append(f"example{number} = page {str(r['foreign']).lower()} ({characters(r['text'])}) ({tokens})")
     lines += ["", "abbrev pub examples : List Example"]
     lines.append("examples = " + in_list(f"example{number}" for number in range(len(rows))))
@@ -240,13 +249,14 @@ def files():
     """The text of each file that is made, by its path in the crate."""
     states = table.states()
     rows = [json.loads(line) for line in TEXTS.read_text(encoding="utf-8").splitlines()]
-    return {
+    made = {
         "specs/States.antt": states_file(states),
         "specs/Table.antt": table_file(states),
         "specs/NamedReferences.antt": references_file(table.named_references()),
         "specs/Examples.antt": examples_file(rows),
         "proofs/ReadExamples.antt": examples_proof(rows),
     }
+    return {path: sheets.laid_out(text, sheets.WIDTH[path.partition("/")[0]]) for path, text in made.items()}
 
 
 if __name__ == "__main__":

@@ -1,6 +1,7 @@
 -- Calm pages. A page is calm if it is explicit markup (`dom_markup`) that tree construction leaves as it is, so that
 -- `Document::parse` and the HTML Standard give the same tree. The definition names sufficient conditions that are cheap to check.
-use Rattle.std.specs.Prelude.{ℕ, ◌≡◌, ◌==◌, ◌&&◌, ◌||◌, Bool, true, false, not, nat_eq, List, [], ◌∷◌, Option, None, find, codes, if◌then◌else◌}
+use Rattle.std.specs.Prelude.{ℕ, ◌≡◌, ◌==◌, ◌&&◌, ◌||◌, Bool, true, false, not, nat_eq, List, [], ◌∷◌, Option, None, find, codes}
+use Rattle.std.specs.Prelude.{if◌then◌else◌}
 use Rattle.std.specs.Char.{is_ascii_alphanumeric}
 use Rattle.std.specs.List.{list_all, starts_with}
 use Rattle.std.specs.Option.{option_map_or}
@@ -19,7 +20,8 @@ use Rattle.dom_markup.specs.ValueTrees.ValueTrees.{no_trees, text_node, comment_
 use Rattle.page_trees.specs.ElementKinds.{holds_comments, holds_doctype, holds_flow, holds_parts, kind_of, may_hold}
 use Rattle.page_trees.specs.Framed.{IsFramed}
 use Rattle.page_trees.specs.declared.element_kinds.ElementCategory.{ElementCategory}
-use Rattle.page_trees.specs.declared.element_kinds.ElementCategory.TheVariants.{Anchor, Block, Button, DescriptionList, Document, Form, Heading, Html, ItemList, Paragraph, Pre, Table, Verbatim}
+use Rattle.page_trees.specs.declared.element_kinds.ElementCategory.TheVariants.{Anchor, Block, Button, DescriptionList, Document, Form}
+use Rattle.page_trees.specs.declared.element_kinds.ElementCategory.TheVariants.{Heading, Html, ItemList, Paragraph, Pre, Table, Verbatim}
 use Rattle.calm_pages.specs.declared.nesting.Scope.{Scope}
 use Rattle.page_trees.specs.declared.reading.Options.{Options}
 
@@ -111,7 +113,8 @@ pub record IsCalmDocument (trees : ValueTrees) : Type 0 where
   pub space : List ℕ
   pub body : ValueTrees
   pub is : trees ≡ doctype_node (codes "html") [] [] (element_node (codes "html") html_attributes
-      (element_node (codes "head") head_attributes head (behind_text space (element_node (codes "body") body_attributes body no_trees))) no_trees)
+      (element_node (codes "head") head_attributes head (behind_text space (element_node (codes "body") body_attributes body no_trees)))
+          no_trees)
   pub calm : are_calm top trees ≡ true
 
 -- whether there is such a node, and it is an element

@@ -12,7 +12,8 @@ abbrev pub scope_below : Scope → NodeData → Option Scope
 scope_below scope (Text contents) = if may_hold_text scope.parent contents then Some scope else None
 scope_below scope (Comment contents) = if may_hold_comment scope.parent contents then Some scope else None
 scope_below scope (Doctype _ _ _) = if holds_doctype scope.parent then Some scope else None
-scope_below scope (AnElement element) = if admits scope (kind_of element.name.local) then Some (inside scope (kind_of element.name.local)) else None
+scope_below scope (AnElement element) = if admits scope (kind_of element.name.local) then Some (inside scope (kind_of element.name.local))
+    else None
 scope_below scope _ = None
 
 -- the scope of a child: the first child is in the scope itself, a later one in what is behind it
@@ -22,4 +23,5 @@ scope_at is_first scope = if is_first then scope else behind scope
 -- the scope of a node's children, from the node's parent and the scopes of the nodes before it; the first child has the next id
 abbrev pub next_scope : List Scope → Option ℕ → NodeData → Option Scope
 next_scope scopes parent content =
-    option_and_then (λ p. option_and_then (λ scope. scope_below (scope_at (p + 1 == length scopes) scope) content) (slice_get scopes p)) parent
+    option_and_then (λ p. option_and_then (λ scope. scope_below (scope_at (p + 1 == length scopes) scope) content) (slice_get scopes p))
+        parent

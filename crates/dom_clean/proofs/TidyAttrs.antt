@@ -16,7 +16,8 @@ use Rattle.dom_markup.specs.Markup.{has_name}
 use Rattle.dom_markup.specs.ValueTrees.{Attribute}
 use Rattle.url.specs.Parser.{parse_url}
 use Rattle.dom_clean.specs.Addresses.{scheme_of}
-use Rattle.dom_clean.specs.Fates.{allowed_address, allowed_attr, attrs_behind, cleaned_address, cleaned_attr, cleaned_attrs, cleaned_classes, cleaned_value, has_attribute, is_named, is_nowhere, joined_address, judged, kept_attr, prefixed, relative_address, spellable, unless_empty, with_name, with_words}
+use Rattle.dom_clean.specs.Fates.{allowed_address, allowed_attr, attrs_behind, cleaned_address, cleaned_attr, cleaned_attrs, cleaned_classes, cleaned_value, has_attribute, is_named, is_nowhere, joined_address, judged, kept_attr, prefixed, relative_address, spellable, unless_empty, with_name}
+use Rattle.dom_clean.specs.Fates.{with_words}
 use Rattle.dom_clean.specs.Joined.{AreTidyAttributes, IsWritable}
 use Rattle.dom_clean.specs.Policy.{Policy, Relative, address_names, attribute_names, is_class, is_class_byte, is_rel, is_simple, is_simple_byte, is_sound, is_word_byte, is_worded, link_names}
 use Rattle.dom_clean.specs.Policy.Relative.{kept, dropped, resolved}

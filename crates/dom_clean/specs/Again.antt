@@ -21,4 +21,5 @@ IsDocumentLeftBy policy tree = (forest : Forest) × (n : ℕ) × (tree ≡ docum
 
 -- what the policy leaves of any tree is left as it is when it is cleaned again, in the body of a page
 abbrev pub CleansOnce : Policy → Type 0
-CleansOnce policy = (forest : Forest) (n : ℕ) → cleaned_below policy (document_of (page_of (left_below policy forest n))) 5 ≡ left_below policy forest n
+CleansOnce policy = (forest : Forest) (n : ℕ) →
+    cleaned_below policy (document_of (page_of (left_below policy forest n))) 5 ≡ left_below policy forest n

@@ -1,5 +1,6 @@
 -- What is still to be written.
-use Rattle.std.specs.Prelude.{ℕ, ◌≡◌, ◌<◌, ◌+◌, ◌*◌, ◌&&◌, Bool, true, false, not, List, [], ◌∷◌, ◌++◌, Option, Some, None, length, slice_get, if◌then◌else◌}
+use Rattle.std.specs.Prelude.{ℕ, ◌≡◌, ◌<◌, ◌+◌, ◌*◌, ◌&&◌, Bool, true, false, not, List, [], ◌∷◌, ◌++◌, Option, Some, None, length}
+use Rattle.std.specs.Prelude.{slice_get, if◌then◌else◌}
 use Rattle.std.specs.Option.{option_map_or}
 use Rattle.dom_nodes.specs.Words.{is_among}
 use Rattle.dom_nodes.specs.declared.node_data.NodeData.{NodeData}
@@ -88,7 +89,8 @@ with_row (Some n) place entries = Row n place ∷ entries
 -- what is still to be written of a node of that fate
 abbrev pub with_below : Fate → NodeData → ℕ → Option ℕ → Place → List Entry → List Entry
 with_below Stays (AnElement element) n below place entries =
-    if is_among element.name.local void_names then entries else with_row below (place_below Stays place (AnElement element)) (End n ∷ entries)
+    if is_among element.name.local void_names then entries
+        else with_row below (place_below Stays place (AnElement element)) (End n ∷ entries)
 with_below Unwrapped content n below place entries = with_row below place entries
 with_below fate content n below place entries = entries
 
@@ -99,7 +101,8 @@ opening policy Stays in_front (AnElement element) = start_of element.name.local 
 opening policy fate in_front content = []
 
 -- The next entry was written: the text, and that of what is left, is the same as before, and less is left
-pub record Writes (policy : Policy) (forest : Forest) (entry : Entry) (old new : List Entry) (before later : List ℕ) (was is : Bool) : Type 0 where
+pub record Writes (policy : Policy) (forest : Forest) (entry : Entry) (old new : List Entry) (before later : List ℕ) (was is : Bool) : Type
+    0 where
   pub known : AreKnown forest new
   pub whole : later ++ seen is (ahead_text policy forest new) ≡ before ++ seen was (ahead_text policy forest (entry ∷ old))
   pub fewer : weight forest new < weight forest (entry ∷ old)

@@ -1,5 +1,6 @@
 -- What becomes of a node where it stands.
-use Rattle.std.specs.Prelude.{ℕ, ◌-◌, ◌==◌, ◌&&◌, ◌||◌, Bool, true, false, nat_eq, nat_lt, not, List, [], ◌∷◌, ◌++◌, filter, codes, encode_utf8, is_some, Option, Some, None, Ok, Err, if◌then◌else◌}
+use Rattle.std.specs.Prelude.{ℕ, ◌-◌, ◌==◌, ◌&&◌, ◌||◌, Bool, true, false, nat_eq, nat_lt, not, List, [], ◌∷◌, ◌++◌, filter, codes}
+use Rattle.std.specs.Prelude.{encode_utf8, is_some, Option, Some, None, Ok, Err, if◌then◌else◌}
 use Rattle.std.specs.List.{flat_map, list_all, list_any, starts_with}
 use Rattle.std.specs.Option.{option_and_then, option_map}
 use Rattle.std.specs.Str.{bytes_eq, chars}
@@ -109,7 +110,8 @@ is_data_name name = starts_with nat_eq name (codes "data-") && list_all is_simpl
 
 abbrev pub has_attribute : Policy → List ℕ → List ℕ → List ℕ → Bool
 has_attribute policy element name value =
-    is_among name policy.attributes || ((policy.data_attributes && is_data_name name) || list_any (is_own element name value) policy.own_attributes)
+    is_among name policy.attributes
+        || ((policy.data_attributes && is_data_name name) || list_any (is_own element name value) policy.own_attributes)
 
 abbrev pub with_name : List ℕ → Option (List ℕ) → List Attribute
 with_name name None = []
@@ -118,7 +120,8 @@ with_name name (Some value) = record { name = name; value = value } ∷ []
 -- an attribute with that value, where there is one and the policy has it
 abbrev pub kept_attr : Policy → List ℕ → List ℕ → Option (List ℕ) → List Attribute
 kept_attr policy element name None = []
-kept_attr policy element name (Some value) = if has_attribute policy element name value then record { name = name; value = value } ∷ [] else []
+kept_attr policy element name (Some value) = if has_attribute policy element name value then record { name = name; value = value } ∷ []
+    else []
 
 -- what is left of an attribute with that name and value: one, or none
 abbrev pub allowed_attr : Policy → List ℕ → List ℕ → List ℕ → List Attribute
@@ -156,11 +159,13 @@ is_unseen Verbatim = true
 is_unseen kind = false
 
 abbrev pub is_dropped : Policy → Element → Bool
-is_dropped policy element = is_some element.template_contents || is_unseen (kind_of element.name.local) || is_among element.name.local policy.dropped
+is_dropped policy element = is_some element.template_contents || is_unseen (kind_of element.name.local)
+    || is_among element.name.local policy.dropped
 
 abbrev pub may_stay : Policy → Place → Element → Bool
 may_stay policy place element =
-    is_html element.name.ns && is_among element.name.local policy.elements && admits place.scope (kind_of element.name.local) && nat_lt 0 place.left
+    is_html element.name.ns && is_among element.name.local policy.elements && admits place.scope (kind_of element.name.local)
+        && nat_lt 0 place.left
 
 abbrev pub text_fate : Place → List ℕ → Fate
 text_fate place contents = if may_hold_text place.scope.parent (spellable contents) then Stays else Vanishes
@@ -176,5 +181,6 @@ fate_of policy place content = Vanishes
 
 -- what the children of a node stand in; a text may stand wherever a later one may
 abbrev pub place_below : Fate → Place → NodeData → Place
-place_below Stays place (AnElement element) = record { scope = behind (inside place.scope (kind_of element.name.local)); left = place.left - 1 }
+place_below Stays place (AnElement element) =
+    record { scope = behind (inside place.scope (kind_of element.name.local)); left = place.left - 1 }
 place_below fate place content = place

@@ -1,11 +1,14 @@
 -- Why rules can't be a policy: the first of their faults, and what is reported of it.
-use Rattle.std.specs.Prelude.{◌≡◌, ℕ, Bool, true, false, not, nat_le, List, [], ◌∷◌, Option, None, Some, MatchOption, codes, string_bytes, if◌then◌else◌}
+use Rattle.std.specs.Prelude.{◌≡◌, ℕ, Bool, true, false, not, nat_le, List, [], ◌∷◌, Option, None, Some, MatchOption, codes, string_bytes}
+use Rattle.std.specs.Prelude.{if◌then◌else◌}
 use Rattle.std.specs.List.{find, list_all}
 use Rattle.std.specs.Option.{option_and_then, option_map}
 use Rattle.dom_nodes.specs.Words.{is_among}
-use Rattle.dom_clean.specs.Policy.{Policy, attribute_names, is_class, is_simple_byte, is_worded, joins_well, may_have, may_keep, may_lead, table_parts}
+use Rattle.dom_clean.specs.Policy.{Policy, attribute_names, is_class, is_simple_byte, is_worded, joins_well, may_have, may_keep, may_lead}
+use Rattle.dom_clean.specs.Policy.{table_parts}
 use Rattle.dom_clean.specs.declared.policy.PolicyFault.{PolicyFault}
-use Rattle.dom_clean.specs.declared.policy.PolicyFault.TheVariants.{Element, Table, Attribute, Scheme, Base, Rel, RelTwice, Class, Prefix, Depth, Memory}
+use Rattle.dom_clean.specs.declared.policy.PolicyFault.TheVariants.{Element, Table, Attribute, Scheme, Base, Rel, RelTwice, Class, Prefix}
+use Rattle.dom_clean.specs.declared.policy.PolicyFault.TheVariants.{Depth, Memory}
 
 pub data Fault : Type 0 where
   -- a name that can't be allowed

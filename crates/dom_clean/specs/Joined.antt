@@ -33,7 +33,8 @@ merges kind = true
 
 -- an element that is read as markup, by its own name
 abbrev pub IsMarkupName : List ℕ → Type 0
-IsMarkupName name = IsTagName name × (folded name ≡ name) × (is_among name raw_names ≡ false) × (is_among name text_names ≡ false) × (merges (kind_of name) ≡ true)
+IsMarkupName name = IsTagName name × (folded name ≡ name) × (is_among name raw_names ≡ false) × (is_among name text_names ≡ false)
+    × (merges (kind_of name) ≡ true)
 
 -- a text as a page can have it
 pub record IsWritable (text : List ℕ) : Type 0 where
@@ -44,7 +45,8 @@ pub record IsWritable (text : List ℕ) : Type 0 where
 abbrev pub AreTidyAttributes : List Attribute → Type 0
 AreTidyAttributes [] = Unit {0}
 AreTidyAttributes (attribute ∷ later) =
-    IsPlainName attribute.name × Front attribute.name × IsWritable attribute.value × (has_name attribute.name later ≡ false) × AreTidyAttributes later
+    IsPlainName attribute.name × Front attribute.name × IsWritable attribute.value × (has_name attribute.name later ≡ false)
+        × AreTidyAttributes later
 
 -- texts, and elements that are read as markup; void elements have no children
 abbrev pub AreTidy : ValueTrees → Type 0
@@ -53,4 +55,5 @@ AreTidy (text_node contents later) = (contents ≢ []) × IsWritable contents ×
 AreTidy (comment_node contents later) = ⊥
 AreTidy (doctype_node name public system later) = ⊥
 AreTidy (element_node name attributes children later) =
-    (IsMarkupName name × IsQuietName name) × AreTidyAttributes attributes × (is_among name void_names ≡ true → children ≡ no_trees) × AreTidy children × AreTidy later
+    (IsMarkupName name × IsQuietName name) × AreTidyAttributes attributes × (is_among name void_names ≡ true → children ≡ no_trees)
+        × AreTidy children × AreTidy later

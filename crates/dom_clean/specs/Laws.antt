@@ -35,7 +35,8 @@ pub record IsAllowedAttribute (policy : Policy) (element : List ℕ) (attribute 
 
 abbrev pub AreAllowedAttributes : Policy → List ℕ → List Attribute → Type 0
 AreAllowedAttributes policy element [] = Unit {0}
-AreAllowedAttributes policy element (attribute ∷ later) = IsAllowedAttribute policy element attribute × AreAllowedAttributes policy element later
+AreAllowedAttributes policy element (attribute ∷ later) = IsAllowedAttribute policy element attribute
+    × AreAllowedAttributes policy element later
 
 -- texts and allowed elements, with allowed attributes
 abbrev pub AreAllowed : Policy → ValueTrees → Type 0
@@ -44,7 +45,8 @@ AreAllowed policy (text_node contents later) = AreAllowed policy later
 AreAllowed policy (comment_node contents later) = ⊥
 AreAllowed policy (doctype_node name public system later) = ⊥
 AreAllowed policy (element_node name attributes children later) =
-    (is_among name policy.elements ≡ true) × AreAllowedAttributes policy name attributes × AreAllowed policy children × AreAllowed policy later
+    (is_among name policy.elements ≡ true) × AreAllowedAttributes policy name attributes × AreAllowed policy children
+        × AreAllowed policy later
 
 -- all that is left is allowed, and calm
 pub record IsCleaned (policy : Policy) (place : Place) (trees : ValueTrees) : Type 0 where
@@ -53,7 +55,8 @@ pub record IsCleaned (policy : Policy) (place : Place) (trees : ValueTrees) : Ty
 
 -- it is so wherever a later sibling may stand
 abbrev pub CleansWell : Policy → Type 0
-CleansWell policy = (forest : Forest) (place : Place) (ts : Trees) → behind place.scope ≡ place.scope → IsCleaned policy place (cleaned policy forest place ts)
+CleansWell policy = (forest : Forest) (place : Place) (ts : Trees) → behind place.scope ≡ place.scope →
+    IsCleaned policy place (cleaned policy forest place ts)
 
 -- ---- what is read
 
@@ -68,7 +71,8 @@ utf8_meta = element_node (codes "meta") (record { name = codes "charset"; value 
 -- the document of such a page
 abbrev pub page_of : ValueTrees → ValueTrees
 page_of body =
-    doctype_node (codes "html") [] [] (element_node (codes "html") [] (element_node (codes "head") [] utf8_meta (element_node (codes "body") [] body no_trees)) no_trees)
+    doctype_node (codes "html") [] []
+        (element_node (codes "html") [] (element_node (codes "head") [] utf8_meta (element_node (codes "body") [] body no_trees)) no_trees)
 
 -- the text is that of trees that are allowed, and the page around it is read as exactly these
 pub record IsSafe (policy : Policy) (text : List ℕ) (trees : ValueTrees) : Type 0 where

@@ -13,18 +13,21 @@ use Rattle.standard_laws.specs.Parsing.{IsFragmentOnlyOf, IsPageOnlyOf}
 use Rattle.dom_clean.specs.Laws.{IsSafe, page_around, page_of}
 use Rattle.dom_clean.specs.Policy.{Policy, is_sound}
 
--- the text is parsed as these trees and as no others: in the body of a page, and as a fragment in a `body`, `div`, `li`, `td` or `blockquote`
+-- the text is parsed as these trees and as no others: in the body of a page, and as a fragment in a `body`, `div`, `li`, `td` or
+-- `blockquote`
 pub record IsParsedAs (text : List ℕ) (trees : ValueTrees) : Type 0 where
   pub page : IsPageOnlyOf (chars (page_around text)) (nodes_of (page_of trees))
   pub fragment : (context : List ℕ) → is_among context flow_contexts ≡ true → IsFragmentOnlyOf context (chars text) (nodes_of trees)
 
 -- A text that is safe by a sound policy is parsed as the trees that are its own.
 abbrev pub CleanedTextsAreParsed : Type 0
-CleanedTextsAreParsed = (policy : Policy) → is_sound policy ≡ true → (text : List ℕ) (trees : ValueTrees) → IsUtf8 text → IsSafe policy text trees → IsParsedAs text trees
+CleanedTextsAreParsed = (policy : Policy) → is_sound policy ≡ true → (text : List ℕ) (trees : ValueTrees) → IsUtf8 text →
+    IsSafe policy text trees → IsParsedAs text trees
 
 -- So is a page with such a text in its body.
 abbrev pub CleanedPagesAreParsed : Type 0
-CleanedPagesAreParsed = (policy : Policy) → is_sound policy ≡ true → (text : List ℕ) (trees : ValueTrees) → IsUtf8 (page_around text) → IsSafe policy text trees →
+CleanedPagesAreParsed = (policy : Policy) → is_sound policy ≡ true → (text : List ℕ) (trees : ValueTrees) → IsUtf8 (page_around text) →
+    IsSafe policy text trees →
     IsPageOnlyOf (chars (page_around text)) (nodes_of (page_of trees))
 
 -- ---- what is cleaned

@@ -9,7 +9,8 @@ use Rattle.dom_clean.specs.declared.lists.Relative.{Relative as RelativeRule}
 use Rattle.dom_clean.specs.declared.lists.Relative.TheVariants.{Kept, Dropped, Resolved}
 
 abbrev pub own_of : OwnLists → OwnAttribute
-own_of own = record { element = string_bytes own.element; attribute = string_bytes own.attribute; values = map string_bytes own.values.items }
+own_of own =
+    record { element = string_bytes own.element; attribute = string_bytes own.attribute; values = map string_bytes own.values.items }
 
 abbrev pub relative_of : RelativeRule → Relative
 relative_of Kept = kept

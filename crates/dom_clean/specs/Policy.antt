@@ -1,5 +1,6 @@
 -- What a policy allows, and which policies can be kept safely.
-use Rattle.std.specs.Prelude.{◌&&◌, ◌||◌, ◌==◌, ℕ, Bool, true, false, not, nat_eq, nat_le, nat_lt, List, [], ◌∷◌, ◌++◌, map, Option, None, codes, filter}
+use Rattle.std.specs.Prelude.{◌&&◌, ◌||◌, ◌==◌, ℕ, Bool, true, false, not, nat_eq, nat_le, nat_lt, List, [], ◌∷◌, ◌++◌, map, Option, None}
+use Rattle.std.specs.Prelude.{codes, filter}
 use Rattle.std.specs.List.{list_all, starts_with}
 use Rattle.std.specs.Option.{option_map_or}
 use Rattle.std.specs.Str.{bytes_eq}
@@ -21,7 +22,8 @@ pub record OwnAttribute : Type 0 where
 
 -- with that value, or any
 abbrev pub own_attribute : List ℕ → List ℕ → Option (List ℕ) → OwnAttribute
-own_attribute element attribute value = record { element = element; attribute = attribute; values = option_map_or (λ one. one ∷ []) value [] }
+own_attribute element attribute value =
+    record { element = element; attribute = attribute; values = option_map_or (λ one. one ∷ []) value [] }
 
 pub record Policy : Type 0 where
   -- the elements that stay, and those that vanish with all that is below them; any other is unwrapped
@@ -74,15 +76,29 @@ no_rules = record {
 
 -- the attributes whose values are addresses
 unfoldable pub address_names : List (List ℕ)
-address_names = codes "action" ∷ codes "background" ∷ codes "cite" ∷ codes "classid" ∷ codes "codebase" ∷ codes "data" ∷ codes "dynsrc" ∷ codes "formaction" ∷ codes "href" ∷ codes "icon" ∷ codes "longdesc" ∷ codes "lowsrc" ∷ codes "manifest" ∷ codes "poster" ∷ codes "profile" ∷ codes "src" ∷ codes "usemap" ∷ []
+address_names = codes "action" ∷ codes "background" ∷ codes "cite" ∷ codes "classid" ∷ codes "codebase" ∷ codes "data" ∷ codes "dynsrc"
+    ∷ codes "formaction" ∷ codes "href" ∷ codes "icon" ∷ codes "longdesc" ∷ codes "lowsrc" ∷ codes "manifest" ∷ codes "poster"
+    ∷ codes "profile" ∷ codes "src" ∷ codes "usemap" ∷ []
 
 -- the attributes that hold scripts, styles, markup, or several addresses
 unfoldable pub refused_attributes : List (List ℕ)
-refused_attributes = codes "archive" ∷ codes "attributionsrc" ∷ codes "http-equiv" ∷ codes "imagesrcset" ∷ codes "is" ∷ codes "nonce" ∷ codes "ping" ∷ codes "srcdoc" ∷ codes "srcset" ∷ codes "style" ∷ codes "xmlns" ∷ []
+refused_attributes = codes "archive" ∷ codes "attributionsrc" ∷ codes "http-equiv" ∷ codes "imagesrcset" ∷ codes "is" ∷ codes "nonce"
+    ∷ codes "ping" ∷ codes "srcdoc" ∷ codes "srcset" ∷ codes "style" ∷ codes "xmlns" ∷ []
 
 -- the elements that can be kept: they stand in a body, are read as markup, and bring in no other document
 unfoldable pub keepable_names : List (List ℕ)
-keepable_names = codes "a" ∷ codes "abbr" ∷ codes "acronym" ∷ codes "address" ∷ codes "area" ∷ codes "article" ∷ codes "aside" ∷ codes "audio" ∷ codes "b" ∷ codes "bdi" ∷ codes "bdo" ∷ codes "big" ∷ codes "blockquote" ∷ codes "br" ∷ codes "button" ∷ codes "canvas" ∷ codes "caption" ∷ codes "center" ∷ codes "cite" ∷ codes "code" ∷ codes "col" ∷ codes "colgroup" ∷ codes "data" ∷ codes "datalist" ∷ codes "dd" ∷ codes "del" ∷ codes "details" ∷ codes "dfn" ∷ codes "dialog" ∷ codes "dir" ∷ codes "div" ∷ codes "dl" ∷ codes "dt" ∷ codes "em" ∷ codes "fieldset" ∷ codes "figcaption" ∷ codes "figure" ∷ codes "font" ∷ codes "footer" ∷ codes "form" ∷ codes "h1" ∷ codes "h2" ∷ codes "h3" ∷ codes "h4" ∷ codes "h5" ∷ codes "h6" ∷ codes "header" ∷ codes "hgroup" ∷ codes "hr" ∷ codes "i" ∷ codes "img" ∷ codes "input" ∷ codes "ins" ∷ codes "kbd" ∷ codes "label" ∷ codes "legend" ∷ codes "li" ∷ codes "main" ∷ codes "map" ∷ codes "mark" ∷ codes "menu" ∷ codes "meter" ∷ codes "nav" ∷ codes "ol" ∷ codes "output" ∷ codes "p" ∷ codes "picture" ∷ codes "pre" ∷ codes "progress" ∷ codes "q" ∷ codes "rp" ∷ codes "rt" ∷ codes "ruby" ∷ codes "s" ∷ codes "samp" ∷ codes "search" ∷ codes "section" ∷ codes "slot" ∷ codes "small" ∷ codes "source" ∷ codes "span" ∷ codes "strike" ∷ codes "strong" ∷ codes "sub" ∷ codes "summary" ∷ codes "sup" ∷ codes "table" ∷ codes "tbody" ∷ codes "td" ∷ codes "tfoot" ∷ codes "th" ∷ codes "thead" ∷ codes "time" ∷ codes "tr" ∷ codes "track" ∷ codes "tt" ∷ codes "u" ∷ codes "ul" ∷ codes "var" ∷ codes "video" ∷ codes "wbr" ∷ []
+keepable_names = codes "a" ∷ codes "abbr" ∷ codes "acronym" ∷ codes "address" ∷ codes "area" ∷ codes "article" ∷ codes "aside"
+    ∷ codes "audio" ∷ codes "b" ∷ codes "bdi" ∷ codes "bdo" ∷ codes "big" ∷ codes "blockquote" ∷ codes "br" ∷ codes "button"
+    ∷ codes "canvas" ∷ codes "caption" ∷ codes "center" ∷ codes "cite" ∷ codes "code" ∷ codes "col" ∷ codes "colgroup" ∷ codes "data"
+    ∷ codes "datalist" ∷ codes "dd" ∷ codes "del" ∷ codes "details" ∷ codes "dfn" ∷ codes "dialog" ∷ codes "dir" ∷ codes "div" ∷ codes "dl"
+    ∷ codes "dt" ∷ codes "em" ∷ codes "fieldset" ∷ codes "figcaption" ∷ codes "figure" ∷ codes "font" ∷ codes "footer" ∷ codes "form"
+    ∷ codes "h1" ∷ codes "h2" ∷ codes "h3" ∷ codes "h4" ∷ codes "h5" ∷ codes "h6" ∷ codes "header" ∷ codes "hgroup" ∷ codes "hr" ∷ codes "i"
+    ∷ codes "img" ∷ codes "input" ∷ codes "ins" ∷ codes "kbd" ∷ codes "label" ∷ codes "legend" ∷ codes "li" ∷ codes "main" ∷ codes "map"
+    ∷ codes "mark" ∷ codes "menu" ∷ codes "meter" ∷ codes "nav" ∷ codes "ol" ∷ codes "output" ∷ codes "p" ∷ codes "picture" ∷ codes "pre"
+    ∷ codes "progress" ∷ codes "q" ∷ codes "rp" ∷ codes "rt" ∷ codes "ruby" ∷ codes "s" ∷ codes "samp" ∷ codes "search" ∷ codes "section"
+    ∷ codes "slot" ∷ codes "small" ∷ codes "source" ∷ codes "span" ∷ codes "strike" ∷ codes "strong" ∷ codes "sub" ∷ codes "summary"
+    ∷ codes "sup" ∷ codes "table" ∷ codes "tbody" ∷ codes "td" ∷ codes "tfoot" ∷ codes "th" ∷ codes "thead" ∷ codes "time" ∷ codes "tr"
+    ∷ codes "track" ∷ codes "tt" ∷ codes "u" ∷ codes "ul" ∷ codes "var" ∷ codes "video" ∷ codes "wbr" ∷ []
 
 -- the schemes that run scripts, or hold documents
 unfoldable pub refused_schemes : List (List ℕ)

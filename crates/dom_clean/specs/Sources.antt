@@ -14,7 +14,8 @@ use Rattle.dom_clean.specs.Written.{text_of}
 -- tree, and of the fragment's own tree where the page with the fragment in its body is calm. What is such a text already stays as it is
 pub record IsCleanOf (policy : Policy) (source text : List ℕ) : Type 0 where
   pub cleaned : IsCleanedText policy text
-  pub calm : (body : ValueTrees) → IsCalmPage (page_around source) (page_of body) → text ≡ text_of (cleaned_below policy (document_of (page_of body)) 5)
+  pub calm : (body : ValueTrees) → IsCalmPage (page_around source) (page_of body) →
+      text ≡ text_of (cleaned_below policy (document_of (page_of body)) 5)
   pub left : IsLeftBy policy text
   pub again : IsLeftBy policy source → text ≡ source
 

@@ -33,4 +33,5 @@ IsSpellable no_trees = Unit {0}
 IsSpellable (text_node contents later) = AreSpelled (chars contents) × IsSpellable later
 IsSpellable (comment_node contents later) = ⊥
 IsSpellable (doctype_node name public system later) = ⊥
-IsSpellable (element_node name attributes children later) = IsQuietName name × AreQuiet attributes × IsSpellable children × IsSpellable later
+IsSpellable (element_node name attributes children later) = IsQuietName name × AreQuiet attributes × IsSpellable children
+    × IsSpellable later

@@ -19,7 +19,8 @@ use Rattle.calm_pages.specs.Calm.{IsCalmDocument, admits, are_calm, bars, behind
 use Rattle.calm_pages.specs.declared.nesting.Scope.{Scope}
 use Rattle.page_trees.specs.ElementKinds.{holds_doctype, kind_of, may_hold}
 use Rattle.page_trees.specs.declared.element_kinds.ElementCategory.{ElementCategory}
-use Rattle.page_trees.specs.declared.element_kinds.ElementCategory.TheVariants.{Document, Html, Head, Body, Metadata, Verbatim, Phrase, Anchor, Button, Paragraph, Block, Heading, Form, Pre, ItemList, Item, DescriptionList, Description, Ruby, RubyText, Table, Caption, ColumnGroup, Column, RowGroup, TableRow, Cell, Other}
+use Rattle.page_trees.specs.declared.element_kinds.ElementCategory.TheVariants.{Document, Html, Head, Body, Metadata, Verbatim, Phrase, Anchor, Button, Paragraph, Block, Heading, Form, Pre, ItemList, Item, DescriptionList, Description, Ruby, RubyText, Table, Caption, ColumnGroup, Column, RowGroup}
+use Rattle.page_trees.specs.declared.element_kinds.ElementCategory.TheVariants.{TableRow, Cell, Other}
 use Rattle.standard_tokens.specs.PlainMarkup.{Piece}
 use Rattle.standard_laws.proofs.CategoryPlaces.{is_inner}
 use Rattle.standard_laws.proofs.CalmPlain.{inner_behind}

@@ -5,13 +5,16 @@ use Rattle.std.specs.Str.{chars}
 use Rattle.dom_markup.specs.ValueTrees.{Attribute, ValueTrees}
 use Rattle.dom_markup.specs.ValueTrees.ValueTrees.{no_trees, text_node, comment_node, doctype_node, element_node}
 use Rattle.page_trees.specs.declared.element_kinds.ElementCategory.{ElementCategory}
-use Rattle.page_trees.specs.declared.element_kinds.ElementCategory.TheVariants.{Heading, ItemList, DescriptionList, Ruby, Table, ColumnGroup, RowGroup, TableRow, Head}
+use Rattle.page_trees.specs.declared.element_kinds.ElementCategory.TheVariants.{Heading, ItemList, DescriptionList, Ruby, Table}
+use Rattle.page_trees.specs.declared.element_kinds.ElementCategory.TheVariants.{ColumnGroup, RowGroup, TableRow, Head}
 use Rattle.calm_pages.specs.Calm.{top}
 use Rattle.page_trees.specs.ElementKinds.{kind_of}
 use Rattle.calm_pages.specs.declared.nesting.Scope.{Scope}
-use Rattle.standard_rules.specs.PlainTrees.{Place, FlowPlace, HeadingPlace, ListPlace, DescriptionListPlace, RubyPlace, TablePlace, ColumnGroupPlace, RowGroupPlace, RowPlace, HeadPlace, Within}
+use Rattle.standard_rules.specs.PlainTrees.{Place, FlowPlace, HeadingPlace, ListPlace, DescriptionListPlace, RubyPlace, TablePlace}
+use Rattle.standard_rules.specs.PlainTrees.{ColumnGroupPlace, RowGroupPlace, RowPlace, HeadPlace, Within}
 use Rattle.standard_tokens.specs.Tokens.{Attr}
-use Rattle.standard_rules.specs.TreeTokens.{Trees, no_trees as no_nodes, text_node as text, comment_node as comment, doctype_node as doctype, element_node as element}
+use Rattle.standard_rules.specs.TreeTokens.{Trees, no_trees as no_nodes, text_node as text, comment_node as comment}
+use Rattle.standard_rules.specs.TreeTokens.{doctype_node as doctype, element_node as element}
 
 abbrev pub attrs_of : List Attribute → List Attr
 attrs_of attributes = map (λ a. record { name = chars a.name; value = chars a.value }) attributes
@@ -46,7 +49,10 @@ place_in Head = HeadPlace
 place_in category = FlowPlace
 
 abbrev pub within : Scope → Within
-within scope = record { place = place_in scope.parent; paragraph = scope.in_paragraph; anchor = scope.in_anchor; button = scope.in_button; form = scope.in_form }
+within scope =
+    record
+    { place = place_in scope.parent; paragraph = scope.in_paragraph; anchor = scope.in_anchor; button = scope.in_button; form =
+    scope.in_form }
 
 -- the scope of the nodes of a fragment in a context element of that name
 abbrev pub scope_in : List ℕ → Scope

@@ -20,5 +20,7 @@ HtmlIsRead = (forest : Forest) → IsForest forest → (plain : IsPlain forest) 
 
 -- and no others
 abbrev pub HtmlIsReadOneWay : Type 0
-HtmlIsReadOneWay = (forest : Forest) → IsForest forest → (plain : IsPlain forest) → AreReadable plain.trees → (f : Feedback) → IsFeedback f →
-    AreAnswered f [] (items_of value_piece plain.trees) → (found : List Token) → ReadsPage f (chars (html_of forest 0)) found → found ≡ page_in plain.trees
+HtmlIsReadOneWay = (forest : Forest) → IsForest forest → (plain : IsPlain forest) → AreReadable plain.trees → (f : Feedback) →
+    IsFeedback f →
+    AreAnswered f [] (items_of value_piece plain.trees) → (found : List Token) → ReadsPage f (chars (html_of forest 0)) found →
+        found ≡ page_in plain.trees

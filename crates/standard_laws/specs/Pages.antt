@@ -32,7 +32,8 @@ pub record IsParsedPage (text : List ℕ) (forest : Forest) : Type 0 where
 
 -- a calm page that is written so is parsed as its document and as no other
 abbrev pub WrittenPagesAreParsed : Type 0
-WrittenPagesAreParsed = (text : List ℕ) (trees : ValueTrees) → IsUtf8 text → IsCalmPage text trees → IsWrittenOf text trees → IsPageOnlyOf (chars text) (nodes_of trees)
+WrittenPagesAreParsed = (text : List ℕ) (trees : ValueTrees) → IsUtf8 text → IsCalmPage text trees → IsWrittenOf text trees →
+    IsPageOnlyOf (chars text) (nodes_of trees)
 
 -- the HTML of a plain and calm document is such a page
 abbrev pub CalmHtmlIsWritten : Type 0

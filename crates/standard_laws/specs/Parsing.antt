@@ -1,4 +1,5 @@
--- Parsing (13.2): the tokenizer and tree construction together. Tree construction takes the tokens of each step of the tokenizer. Behind a start tag
+-- Parsing (13.2): the tokenizer and tree construction together. Tree construction takes the tokens of each step of the tokenizer. Behind a
+-- start tag
 -- with which it begins to read a text, it switches the tokenizer to another state.
 use Rattle.std.specs.Prelude.{◌≡◌, ℕ, zero, suc, true, false, List, Option, None, Some, unwrap_or}
 use Rattle.std.specs.Option.{option_and_then}
@@ -10,7 +11,8 @@ use Rattle.standard_tokens.specs.Reading.{switch_at, switch_behind, switched}
 use Rattle.standard_tokens.specs.States.{State, Data}
 use Rattle.standard_tokens.specs.Tokens.{Token}
 
--- the state to which tree construction switches the tokenizer behind these tokens, after which it is in that mode (13.2.6.2, and for `script` 13.2.6.4.4):
+-- the state to which tree construction switches the tokenizer behind these tokens, after which it is in that mode (13.2.6.2, and for
+-- `script` 13.2.6.4.4):
 -- where it now reads the text of an element, the state for the element's name
 abbrev pub switch_in : Mode → List Token → Option State
 switch_in Text tokens = switch_behind tokens
@@ -48,7 +50,11 @@ first_state context = unwrap_or (switch_at context) Data
 -- the text is parsed as a fragment in a context element of that name, and these are the nodes (13.4)
 abbrev pub IsFragmentOf : List ℕ → List ℕ → Trees → Type 0
 IsFragmentOf context text nodes =
-    (steps : ℕ) × (children_of (option_and_then (λ b. parsed steps (parser (start_in (first_state context)) (normalized text) b)) (fragment_start context)) ≡ Some nodes)
+    (steps : ℕ)
+        ×
+        (children_of
+        (option_and_then (λ b. parsed steps (parser (start_in (first_state context)) (normalized text) b)) (fragment_start context)) ≡ Some
+        nodes)
 
 -- the text is parsed as a page, as this document and as no other
 pub record IsPageOnlyOf (text : List ℕ) (document : Trees) : Type 0 where

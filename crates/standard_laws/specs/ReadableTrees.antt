@@ -20,7 +20,8 @@ kind_of name = if bytes_eq name (codes "script") then Script else Rawtext
 
 -- a raw text does not contain `</NAME`, and a script does not contain `<!--`; nothing ends a `plaintext`
 abbrev pub EndsByTag : Mode → ValueTrees → Type 0
-EndsByTag (raw_text_of name) (text_node contents no_trees) = (bytes_eq name (codes "plaintext") ≡ false) × (lacks_end (kind_of name) (chars name) (chars contents) ≡ true)
+EndsByTag (raw_text_of name) (text_node contents no_trees) = (bytes_eq name (codes "plaintext") ≡ false)
+    × (lacks_end (kind_of name) (chars name) (chars contents) ≡ true)
 EndsByTag (raw_text_of name) _ = bytes_eq name (codes "plaintext") ≡ false
 EndsByTag _ children = Unit {0}
 

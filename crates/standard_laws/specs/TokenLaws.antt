@@ -17,20 +17,25 @@ use Rattle.standard_laws.specs.WrittenTrees.{ValueChar, text_by}
 abbrev pub page_in : ValueTrees → List Token
 page_in trees = tokens_in trees ++ AnEof ∷ []
 
--- What is written of plain trees is read, from the data state to the data state, as their tokens, wherever it is in a page and whatever follows it.
+-- What is written of plain trees is read, from the data state to the data state, as their tokens, wherever it is in a page and whatever
+-- follows it.
 abbrev pub TreesAreReadAnywhere : ValueChar → (ℕ → Piece) → Type 0
-TreesAreReadAnywhere by piece = (f : Feedback) → IsFeedback f → (top : Bool) (trees : ValueTrees) → IsPlainTrees top trees → AreReadable trees → (seen : List Token) →
+TreesAreReadAnywhere by piece = (f : Feedback) → IsFeedback f → (top : Bool) (trees : ValueTrees) → IsPlainTrees top trees →
+    AreReadable trees → (seen : List Token) →
     AreAnswered f seen (items_of piece trees) → IsReadAnywhere f seen (chars (text_by by false trees)) (tokens_in trees)
 
 -- as a page it is read as their tokens
 abbrev pub TreesAreReadAsPages : ValueChar → (ℕ → Piece) → Type 0
-TreesAreReadAsPages by piece = (f : Feedback) → IsFeedback f → (top : Bool) (trees : ValueTrees) → IsPlainTrees top trees → AreReadable trees →
+TreesAreReadAsPages by piece = (f : Feedback) → IsFeedback f → (top : Bool) (trees : ValueTrees) → IsPlainTrees top trees →
+    AreReadable trees →
     AreAnswered f [] (items_of piece trees) → ReadsPage f (chars (text_by by false trees)) (page_in trees)
 
 -- and as no others
 abbrev pub TreesAreReadOneWay : ValueChar → (ℕ → Piece) → Type 0
-TreesAreReadOneWay by piece = (f : Feedback) → IsFeedback f → (top : Bool) (trees : ValueTrees) → IsPlainTrees top trees → AreReadable trees →
-    AreAnswered f [] (items_of piece trees) → (found : List Token) → ReadsPage f (chars (text_by by false trees)) found → found ≡ page_in trees
+TreesAreReadOneWay by piece = (f : Feedback) → IsFeedback f → (top : Bool) (trees : ValueTrees) → IsPlainTrees top trees →
+    AreReadable trees →
+    AreAnswered f [] (items_of piece trees) → (found : List Token) → ReadsPage f (chars (text_by by false trees)) found →
+        found ≡ page_in trees
 
 -- ---- tree construction that leaves every element in the HTML namespace, with scripting disabled
 

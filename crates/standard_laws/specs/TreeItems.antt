@@ -5,7 +5,8 @@ use Rattle.dom_nodes.specs.Words.{is_among}
 use Rattle.dom_markup.specs.Names.{Mode, markup, text_of, raw_text_of, mode_in, void_names}
 use Rattle.dom_markup.specs.ValueTrees.{Attribute, ValueTrees}
 use Rattle.dom_markup.specs.ValueTrees.ValueTrees.{no_trees, text_node, comment_node, doctype_node, element_node}
-use Rattle.standard_tokens.specs.PlainMarkup.{Piece, Itself, Amp, Lt, Gt, Quot, Nbsp, PlainAttr, Item, CharItem, StartTag, EndTag, CommentItem, DoctypeItem, TextElement, RawElement}
+use Rattle.standard_tokens.specs.PlainMarkup.{Piece, Itself, Amp, Lt, Gt, Quot, Nbsp, PlainAttr, Item, CharItem, StartTag, EndTag}
+use Rattle.standard_tokens.specs.PlainMarkup.{CommentItem, DoctypeItem, TextElement, RawElement}
 use Rattle.standard_laws.specs.ReadableTrees.{kind_of}
 
 -- how a character of a text is written
@@ -24,8 +25,10 @@ own_text _ = []
 abbrev pub element_items : (ℕ → Piece) → Mode → List ℕ → List Attribute → ValueTrees → List Item → List Item
 element_items piece markup name attributes children inner =
     StartTag (chars name) (map (plain_attr piece) attributes) ∷ (if is_among name void_names then [] else inner ++ EndTag (chars name) ∷ [])
-element_items piece (text_of own) name attributes children inner = TextElement (chars name) (map (plain_attr piece) attributes) (map text_piece (own_text children)) ∷ []
-element_items piece (raw_text_of own) name attributes children inner = RawElement (kind_of name) (chars name) (map (plain_attr piece) attributes) (own_text children) ∷ []
+element_items piece (text_of own) name attributes children inner =
+    TextElement (chars name) (map (plain_attr piece) attributes) (map text_piece (own_text children)) ∷ []
+element_items piece (raw_text_of own) name attributes children inner =
+    RawElement (kind_of name) (chars name) (map (plain_attr piece) attributes) (own_text children) ∷ []
 
 -- `piece` is how a character of a value is written
 abbrev pub items_of : (ℕ → Piece) → ValueTrees → List Item
@@ -33,4 +36,5 @@ items_of piece no_trees = []
 items_of piece (text_node contents later) = map CharItem (map text_piece (chars contents)) ++ items_of piece later
 items_of piece (comment_node contents later) = CommentItem (chars contents) ∷ items_of piece later
 items_of piece (doctype_node name public system later) = DoctypeItem (chars name) ∷ items_of piece later
-items_of piece (element_node name attributes children later) = element_items piece (mode_in name) name attributes children (items_of piece children) ++ items_of piece later
+items_of piece (element_node name attributes children later) =
+    element_items piece (mode_in name) name attributes children (items_of piece children) ++ items_of piece later

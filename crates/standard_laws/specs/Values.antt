@@ -3,7 +3,8 @@ use Rattle.std.specs.Prelude.{◌≡◌, ℕ, ◌==◌, true, List, [], ◌∷�
 use Rattle.std.specs.Str.{all_scalars, encode_utf8_all}
 use Rattle.dom_nodes.specs.Ascii.{double_quote}
 use Rattle.dom_markup.specs.Escaping.{text_char}
-use Rattle.standard_tokens.specs.PlainMarkup.{Piece, Itself, Amp, Quot, Nbsp, character, is_plain_piece, is_raw_char, is_value_char, written_piece}
+use Rattle.standard_tokens.specs.PlainMarkup.{Piece, Itself, Amp, Quot, Nbsp, character, is_plain_piece, is_raw_char, is_value_char}
+use Rattle.standard_tokens.specs.PlainMarkup.{written_piece}
 use Rattle.standard_laws.specs.TreeItems.{text_piece}
 use Rattle.standard_laws.specs.WrittenTrees.{ValueChar}
 

@@ -192,7 +192,9 @@ element_built name attrs children v b o os x ends unswitched start steady inner 
     (λ d kept r. finish d (kept ∙ start.kept) r) in
     record {
       after = f.after;
-      steps = step_on (with_stack b (o ∷ os)) (with_stack c (open_of b.next name attrs no_trees ∷ o ∷ os)) (with_stack f.after (grown o name attrs children ∷ os)) (AStart name attrs false) (tokens children ++ end_of name) (plain_start name attrs (with_stack c (open_of b.next name attrs no_trees ∷ o ∷ os)) unswitched) start.step f.steps;
+      steps =
+          step_on (with_stack b (o ∷ os)) (with_stack c (open_of b.next name attrs no_trees ∷ o ∷ os)) (with_stack f.after (grown o name attrs children ∷ os)) (AStart name attrs false) (tokens children ++ end_of name)
+          (plain_start name attrs (with_stack c (open_of b.next name attrs no_trees ∷ o ∷ os)) unswitched) start.step f.steps;
       ready = f.ready;
       kept = f.kept;
     }

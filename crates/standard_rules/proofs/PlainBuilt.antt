@@ -4,7 +4,8 @@ use Rattle.std.proofs.lemmas.Bool.{and_parts, true≢false}
 use Rattle.std.proofs.lemmas.List.{append_assoc}
 use mathlib.Core.Path.{◌∙◌, sym, ap, subst}
 use Rattle.standard_rules.specs.Building.{Building, Open, with_stack}
-use Rattle.standard_rules.specs.PlainTrees.{Class, ABlock, AList, ADescriptionList, AHeading, AParagraph, APhrase, AFormatting, AnAnchor, AVoid, AnItem, ADescription, AButton, ABreak, ASource, AnInput, AForm, APre, ARuby, ARubyText, ARawText, AMetadata, ATable, ACaption, AColumnGroup, AColumn, ARowGroup, ARow, ACell, Another, Within, admits, are_plain, begins_text, class_among, class_of, classes, inside, may_be_text, names_of}
+use Rattle.standard_rules.specs.PlainTrees.{Class, ABlock, AList, ADescriptionList, AHeading, AParagraph, APhrase, AFormatting, AnAnchor, AVoid, AnItem, ADescription, AButton, ABreak, ASource, AnInput, AForm, APre, ARuby, ARubyText, ARawText, AMetadata, ATable, ACaption, AColumnGroup, AColumn}
+use Rattle.standard_rules.specs.PlainTrees.{ARowGroup, ARow, ACell, Another, Within, admits, are_plain, begins_text, class_among, class_of, classes, inside, may_be_text, names_of}
 use Rattle.standard_tokens.specs.Tokens.{Token, AChar, AComment, AStart}
 use Rattle.standard_rules.specs.TreeTokens.{Trees, no_trees, text_node, comment_node, doctype_node, element_node, end_of, is_among, joined, tokens}
 use Rattle.standard_rules.proofs.ElementSteps.{IsBuilt, no_and, one, then_built}

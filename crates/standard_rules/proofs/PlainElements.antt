@@ -4,14 +4,18 @@ use Rattle.std.proofs.lemmas.Bool.{and_parts, true≢false}
 use mathlib.Core.Path.{sym, ap, subst}
 use Rattle.standard_rules.specs.Building.{Building, Open, closed_item, closed_p, tree_step, with_stack}
 use Rattle.standard_rules.specs.ElementNames.{scope_of}
-use Rattle.standard_rules.specs.PlainTrees.{Class, ABlock, AList, ADescriptionList, AHeading, AParagraph, APhrase, AFormatting, AnAnchor, AVoid, AnItem, ADescription, AButton, ABreak, ASource, AnInput, ARuby, ARubyText, FlowPlace, HeadingPlace, ListPlace, DescriptionListPlace, RubyPlace, Within, admits, are_plain, holds_blocks, inside, is_flow, is_heading, is_none, names_of}
+use Rattle.standard_rules.specs.PlainTrees.{Class, ABlock, AList, ADescriptionList, AHeading, AParagraph, APhrase, AFormatting, AnAnchor, AVoid, AnItem, ADescription, AButton, ABreak, ASource, AnInput, ARuby, ARubyText, FlowPlace, HeadingPlace, ListPlace, DescriptionListPlace, RubyPlace, Within}
+use Rattle.standard_rules.specs.PlainTrees.{admits, are_plain, holds_blocks, inside, is_flow, is_heading, is_none, names_of}
 use Rattle.standard_rules.specs.RuleWords.{Scope}
 use Rattle.standard_rules.specs.TreeRules.{headings}
 use Rattle.standard_tokens.specs.Reading.{switch_at}
 use Rattle.standard_tokens.specs.Tokens.{Attr, Token, AStart}
 use Rattle.standard_rules.specs.TreeTokens.{Trees, no_trees, text_node, comment_node, doctype_node, element_node, end_of, is_among, tokens}
 use Rattle.standard_rules.proofs.ElementSteps.{Begun, Ended, IsBuilt, begun, begun_formatting, begun_plainly, element_built, ended, ended_formatting, one}
-use Rattle.standard_rules.proofs.RuleFacts.{block_opens, block_ordinary, block_no_heading, block_barless, list_opens, list_ordinary, list_no_heading, list_barless, list_holds, description_list_opens, description_list_ordinary, description_list_no_heading, description_list_barless, description_list_holds, paragraph_opens, paragraph_ordinary, paragraph_no_heading, heading_opens, heading_ordinary, heading_barless, phrase_opens, phrase_ordinary, phrase_no_heading, phrase_barless, ruby_opens, ruby_ordinary, ruby_no_heading, ruby_barless, ruby_text_opens, ruby_text_ordinary, ruby_text_no_heading, ruby_text_barless, item_opens, item_ordinary, item_no_heading, item_barless, description_opens, description_ordinary, description_no_heading, description_barless, button_ordinary, button_no_heading, formatting_opens, formatting_is, formatting_no_heading, formatting_barless, anchor_is, anchor_no_heading, void_is, break_is, source_is}
+use Rattle.standard_rules.proofs.RuleFacts.{block_opens, block_ordinary, block_no_heading, block_barless, list_opens, list_ordinary, list_no_heading, list_barless, list_holds, description_list_opens, description_list_ordinary, description_list_no_heading, description_list_barless}
+use Rattle.standard_rules.proofs.RuleFacts.{description_list_holds, paragraph_opens, paragraph_ordinary, paragraph_no_heading, heading_opens, heading_ordinary, heading_barless, phrase_opens, phrase_ordinary, phrase_no_heading, phrase_barless, ruby_opens, ruby_ordinary, ruby_no_heading, ruby_barless}
+use Rattle.standard_rules.proofs.RuleFacts.{ruby_text_opens, ruby_text_ordinary, ruby_text_no_heading, ruby_text_barless, item_opens, item_ordinary, item_no_heading, item_barless, description_opens, description_ordinary, description_no_heading, description_barless, button_ordinary}
+use Rattle.standard_rules.proofs.RuleFacts.{button_no_heading, formatting_opens, formatting_is, formatting_no_heading, formatting_barless, anchor_is, anchor_no_heading, void_is, break_is, source_is}
 use Rattle.standard_rules.proofs.RuleShapes.{Formatting, HoldsItems, IsBreak, IsSource, IsVoid, OpensBlock, OpensFormatting, OpensHeading, OpensItem, OpensPhrase, OpensRubyText, Ordinary, Runs, with_leaf}
 use Rattle.standard_rules.proofs.StackKeys.{At, Barless, InFlow, Key, Outer, Passes, Ready, Steady, below_more, description_list_at, flow_of, into_flow, key, key_of, keys, lacking, lacks, lacks_more, list_at, none_needed, not_heading_at, outer, ruby_at, steady_in, top_key_is, unlisted_name}
 use Rattle.standard_rules.proofs.TextSteps.{Built, anchor_opens, button_opens, input_made, nothing_to_close, step_by_rules}

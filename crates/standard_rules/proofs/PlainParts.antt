@@ -6,16 +6,19 @@ use Rattle.std.proofs.lemmas.Bool.{and_parts, true≢false}
 use Rattle.std.proofs.lemmas.List.{append-nil}
 use mathlib.Core.Path.{◌∙◌, sym, ap, subst}
 use Rattle.standard_rules.specs.Building.{Building, Marker, Open, act, cleared, form_ended, is_line_feed, is_space, mode_of, names_of_stack, run, taken, tree_step, with_stack}
-use Rattle.standard_rules.specs.PlainTrees.{AForm, APre, ARawText, AMetadata, ATable, ACaption, AColumnGroup, AColumn, ARowGroup, ARow, ACell, Place, FlowPlace, HeadingPlace, ListPlace, DescriptionListPlace, RubyPlace, TablePlace, ColumnGroupPlace, RowGroupPlace, RowPlace, HeadPlace, Within, are_plain, begins_feed, holds_blocks, inside, is_column_group, is_flow, is_head, is_none, is_raw, is_text, may_be_text, names_of}
+use Rattle.standard_rules.specs.PlainTrees.{AForm, APre, ARawText, AMetadata, ATable, ACaption, AColumnGroup, AColumn, ARowGroup, ARow, ACell, Place, FlowPlace, HeadingPlace, ListPlace, DescriptionListPlace, RubyPlace, TablePlace, ColumnGroupPlace, RowGroupPlace, RowPlace, HeadPlace, Within}
+use Rattle.standard_rules.specs.PlainTrees.{are_plain, begins_feed, holds_blocks, inside, is_column_group, is_flow, is_head, is_none, is_raw, is_text, may_be_text, names_of}
 use Rattle.standard_rules.specs.RuleWords.{Mode, InCaption, InCell, InColumnGroup, InHead, InRow, InTable, InTableBody, Text}
 use Rattle.standard_rules.specs.TreeRules.{headings, rules}
 use Rattle.standard_tokens.specs.Tokens.{Attr, Token, AChar, AStart, AnEnd}
 use Rattle.standard_rules.specs.TreeTokens.{Trees, no_trees, text_node, comment_node, doctype_node, element_node, end_of, is_among, tokens, with_char}
 use Rattle.standard_rules.proofs.ElementSteps.{Filled, IsBuilt, element_built, filled, less_numbers, more_numbers, one}
 use Rattle.standard_rules.proofs.PlainElements.{ElementBuilt, Spot, flow_at, leaf, not_so, spot}
-use Rattle.standard_rules.proofs.RuleFacts.{caption_barless, caption_is, caption_no_heading, cell_barless, cell_is, cell_no_heading, column_group_barless, column_group_is, column_group_space, column_is, form_is, form_no_heading, metadata_is, pre_barless, pre_no_heading, pre_opens, pre_ordinary, raw_text_is, row_barless, row_group_barless, row_group_is, row_group_space, row_is, row_space, table_barless, table_is, table_space}
+use Rattle.standard_rules.proofs.RuleFacts.{caption_barless, caption_is, caption_no_heading, cell_barless, cell_is, cell_no_heading, column_group_barless, column_group_is, column_group_space, column_is, form_is, form_no_heading, metadata_is, pre_barless, pre_no_heading, pre_opens, pre_ordinary}
+use Rattle.standard_rules.proofs.RuleFacts.{raw_text_is, row_barless, row_group_barless, row_group_is, row_group_space, row_is, row_space, table_barless, table_is, table_space}
 use Rattle.standard_rules.proofs.RuleShapes.{IsForm, IsLeafIn, IsMarkedPart, IsPart, IsRawText, IsTable, KeepsSpace, RunsIn, grown, in_text, open_of, with_leaf, with_one}
-use Rattle.standard_rules.proofs.StackKeys.{At, Barless, InFlow, Key, Outer, Ready, Steady, caption, cell, column_group_at, fits_below, fits_cleared, flow_of, head_at, below_more, is_deep, key, key_names, key_of, keys, lacks_more, mark, outer, pass, row_at, row_group_at, same_names, same_number, steady_in, table_at}
+use Rattle.standard_rules.proofs.StackKeys.{At, Barless, InFlow, Key, Outer, Ready, Steady, caption, cell, column_group_at, fits_below, fits_cleared, flow_of, head_at, below_more, is_deep, key, key_names, key_of, keys, lacks_more, mark, outer, pass, row_at, row_group_at, same_names, same_number}
+use Rattle.standard_rules.proofs.StackKeys.{steady_in, table_at}
 use Rattle.standard_rules.proofs.TextSteps.{Built, fixed_text, raw_built, step_by_rules, step_in, text_built}
 use Rattle.standard_rules.proofs.TreeLists.{Steps, each_space, ends_text, switched_steps, if_switched, of_each, step_on, steps_on, text_start}
 

@@ -5,7 +5,8 @@ use Rattle.std.specs.Cmp.Derive.{both_true}
 use mathlib.Core.Path.{◌∙◌, sym, ap}
 use native.Mathlib.Omega.{arith}
 use Rattle.standard_rules.specs.Building.{cleared, Building, Open, Entry, Marker, Listed, in_scope, is_open, is_listed, mode_of, names_of_stack, needs_none, last_listed, without_third, same_attrs}
-use Rattle.standard_rules.specs.PlainTrees.{AList, ADescriptionList, ARuby, ATable, AColumnGroup, ARowGroup, ARow, Place, FlowPlace, HeadingPlace, ListPlace, DescriptionListPlace, RubyPlace, TablePlace, ColumnGroupPlace, RowGroupPlace, RowPlace, HeadPlace, Within, is_column_group, is_description_list, is_flow, is_head, is_heading, is_list, is_row, is_row_group, is_ruby, is_table, names_of}
+use Rattle.standard_rules.specs.PlainTrees.{AList, ADescriptionList, ARuby, ATable, AColumnGroup, ARowGroup, ARow, Place, FlowPlace, HeadingPlace, ListPlace, DescriptionListPlace, RubyPlace, TablePlace, ColumnGroupPlace, RowGroupPlace, RowPlace, HeadPlace, Within, is_column_group}
+use Rattle.standard_rules.specs.PlainTrees.{is_description_list, is_flow, is_head, is_heading, is_list, is_row, is_row_group, is_ruby, is_table, names_of}
 use Rattle.standard_rules.specs.TreeRules.{formatting, headings}
 use Rattle.standard_tokens.specs.Tokens.{Attr}
 use Rattle.standard_rules.specs.TreeTokens.{Trees, is_among}

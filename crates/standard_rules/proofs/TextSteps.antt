@@ -10,7 +10,8 @@ use Rattle.standard_rules.specs.PlainTrees.{Place, FlowPlace, HeadingPlace, List
 use Rattle.standard_rules.specs.TreeRules.{rules}
 use Rattle.standard_tokens.specs.Tokens.{Attr, Token, AChar, AComment, AStart}
 use Rattle.standard_rules.specs.TreeTokens.{Trees, no_trees, text_node, comment_node, joined, with_char}
-use Rattle.standard_rules.specs.RuleWords.{Hidden, ImpliedEndTags, InScope, Pop, PopUntil, Scope, Action, InsertCharacter, Always, ButtonScope, Character, Condition, ListElement, FramesetNotOk, Next, InBody, InCaption, InCell, InColumnGroup, InHead, InRow, InTable, InTableBody, InsertElement, Mode, NoListed, Null, Pattern, Reconstruct, Rule, WhiteSpace, StartOf, Stay, Text, These, rule}
+use Rattle.standard_rules.specs.RuleWords.{Hidden, ImpliedEndTags, InScope, Pop, PopUntil, Scope, Action, InsertCharacter, Always, ButtonScope, Character, Condition, ListElement, FramesetNotOk, Next, InBody, InCaption, InCell, InColumnGroup, InHead, InRow, InTable, InTableBody, InsertElement, Mode}
+use Rattle.standard_rules.specs.RuleWords.{NoListed, Null, Pattern, Reconstruct, Rule, WhiteSpace, StartOf, Stay, Text, These, rule}
 use Rattle.standard_rules.proofs.TreeLists.{Steps, ends_text, more_char, new_char, step_on}
 use Rattle.standard_rules.proofs.RuleShapes.{OpensAnchor, grown, inserted_plainly, Runs, RunsIn, marked, pick}
 use Rattle.standard_rules.proofs.StackKeys.{At, FlowMode, body, caption, cell, InFlow, Key, Outer, Ready, Steady, key, keys, lacking, lacks, mode_at, none_needed, outer}

@@ -1,6 +1,7 @@
 -- Tree construction (13.2.6): the state of a tree under construction, and what the rules do to it.
 -- A step gives None where the token is outside of what the rules describe.
-use Rattle.std.specs.Prelude.{ℕ, zero, suc, Bool, true, false, not, cond, ◌&&◌, ◌||◌, ◌==◌, nat_eq, List, [], ◌∷◌, ◌++◌, map, Option, None, Some, unwrap_or, bytes_eq, codes}
+use Rattle.std.specs.Prelude.{ℕ, zero, suc, Bool, true, false, not, cond, ◌&&◌, ◌||◌, ◌==◌, nat_eq, List, [], ◌∷◌, ◌++◌, map, Option, None}
+use Rattle.std.specs.Prelude.{Some, unwrap_or, bytes_eq, codes}
 use Rattle.std.specs.Char.{to_ascii_lowercase}
 use Rattle.std.specs.List.{list_any, list_all}
 use Rattle.std.specs.Option.{option_and_then}
@@ -8,7 +9,15 @@ use Rattle.standard_rules.specs.ElementNames.{implied_names, scope_of, special_n
 use Rattle.standard_rules.specs.TreeRules.{rules, cells, groups}
 use Rattle.standard_tokens.specs.Tokens.{Attr, Doctype as DoctypeToken, Token, AChar, AComment, ADoctype, AStart, AnEnd, AnEof}
 use Rattle.standard_rules.specs.TreeTokens.{Trees, no_trees, comment_node, doctype_node, element_node, joined, with_char, is_among}
-use Rattle.standard_rules.specs.RuleWords.{Mode, Initial, InBody, Text, InTable, InCaption, InColumnGroup, InTableBody, InRow, InCell, Names, Own, These, Pattern, WhiteSpace, Null, Character, Comment, Doctype, EndOfFile, AnythingElse, AnyStart, AnyEnd, DoctypeOf, StartOf, EndOf, ButtonScope, Condition, Always, NoForm, Hidden, NoListed, CurrentNode, InScope, Action, InsertCharacter, InsertComment, AppendDoctype, InsertElement, InsertNamed, Pop, FramesetNotOk, Reconstruct, CloseP, ImpliedEndTags, ImpliedEndTagsBut, ListElement, ListMarker, ClearToMarker, AdoptionAgency, SetForm, EndForm, AnyOtherEndTag, DropLineFeed, PopIf, PopUntil, CloseItems, ClearStackTo, Next, Stay, SwitchTo, ReprocessIn, UseRulesFor, ReadText, SwitchBack, ResetMode, ResetAndReprocess, Stop, NoRule, Rule, rule}
+use Rattle.standard_rules.specs.RuleWords.{Mode, Initial, InBody, Text, InTable, InCaption, InColumnGroup, InTableBody, InRow, InCell}
+use Rattle.standard_rules.specs.RuleWords.{Names, Own, These, Pattern, WhiteSpace, Null, Character, Comment, Doctype, EndOfFile}
+use Rattle.standard_rules.specs.RuleWords.{AnythingElse, AnyStart, AnyEnd, DoctypeOf, StartOf, EndOf, ButtonScope, Condition, Always}
+use Rattle.standard_rules.specs.RuleWords.{NoForm, Hidden, NoListed, CurrentNode, InScope, Action, InsertCharacter, InsertComment}
+use Rattle.standard_rules.specs.RuleWords.{AppendDoctype, InsertElement, InsertNamed, Pop, FramesetNotOk, Reconstruct, CloseP}
+use Rattle.standard_rules.specs.RuleWords.{ImpliedEndTags, ImpliedEndTagsBut, ListElement, ListMarker, ClearToMarker, AdoptionAgency}
+use Rattle.standard_rules.specs.RuleWords.{SetForm, EndForm, AnyOtherEndTag, DropLineFeed, PopIf, PopUntil, CloseItems, ClearStackTo, Next}
+use Rattle.standard_rules.specs.RuleWords.{Stay, SwitchTo, ReprocessIn, UseRulesFor, ReadText, SwitchBack, ResetMode, ResetAndReprocess}
+use Rattle.standard_rules.specs.RuleWords.{Stop, NoRule, Rule, rule}
 
 -- an open element, and the nodes that have been finished in it; the number tells elements apart
 pub record Open : Type 0 where
@@ -73,7 +82,8 @@ popped (o ∷ p ∷ os) = Some (holding p o ∷ os)
 
 abbrev pub popped_until_from : List (List ℕ) → Open → List Open → Option (List Open)
 popped_until_from names o [] = None
-popped_until_from names o (p ∷ os) = elim (is_among o.name names) [ true ↦ Some (holding p o ∷ os) | false ↦ popped_until_from names (holding p o) os ]
+popped_until_from names o (p ∷ os) =
+    elim (is_among o.name names) [ true ↦ Some (holding p o ∷ os) | false ↦ popped_until_from names (holding p o) os ]
 
 -- pop elements until one of these has been popped
 abbrev pub popped_until : List (List ℕ) → List Open → Option (List Open)
@@ -107,7 +117,9 @@ open_item names [] = None
 open_item names (o ∷ os) =
     elim (is_among o.name names) [
       | true ↦ Some o.name
-      | false ↦ elim (is_among o.name special_names && not (is_among o.name (codes "address" ∷ codes "div" ∷ codes "p" ∷ []))) [ true ↦ None | false ↦ open_item names os ]
+      | false ↦
+          elim (is_among o.name special_names && not (is_among o.name (codes "address" ∷ codes "div" ∷ codes "p" ∷ [])))
+          [ true ↦ None | false ↦ open_item names os ]
     ]
 
 abbrev pub closed_item : Option (List ℕ) → List Open → Option (List Open)
@@ -184,14 +196,16 @@ needs_none (Listed n m bs ∷ es) os = is_open n os
 
 -- changes the children of the current node; where no element is open, of the document
 abbrev pub at_top : (Trees → Trees) → Building → Building
-at_top f b = elim b.stack [ [] ↦ record b { document = f b.document } | o ∷ os ↦ record b { stack = record o { children = f o.children } ∷ os } ]
+at_top f b =
+    elim b.stack [ [] ↦ record b { document = f b.document } | o ∷ os ↦ record b { stack = record o { children = f o.children } ∷ os } ]
 
 abbrev pub with_stack : Building → List Open → Building
 with_stack b os = record b { stack = os }
 
 -- insert an HTML element
 abbrev pub inserted : List ℕ → List Attr → Building → Building
-inserted name attrs b = record b { stack = record { number = b.next; name = name; attrs = attrs; children = no_trees } ∷ b.stack; next = suc b.next }
+inserted name attrs b =
+    record b { stack = record { number = b.next; name = name; attrs = attrs; children = no_trees } ∷ b.stack; next = suc b.next }
 
 abbrev pub top_number : List Open → Option ℕ
 top_number [] = None
@@ -208,7 +222,8 @@ on_stack b (Some os) = Some (with_stack b os)
 -- the adoption agency for an element that is listed under this number: only where it is the current node
 abbrev pub adopted_by : List ℕ → Option ℕ → Building → Option Building
 adopted_by name None b = on_stack b (ended_other name b.stack)
-adopted_by name (Some n) b = elim (is_number (top_number b.stack) n) [ true ↦ on_stack (record b { listed = unlisted n b.listed }) (popped b.stack) | false ↦ None ]
+adopted_by name (Some n) b =
+    elim (is_number (top_number b.stack) n) [ true ↦ on_stack (record b { listed = unlisted n b.listed }) (popped b.stack) | false ↦ None ]
 
 -- the current node is not in the list of active formatting elements
 abbrev pub top_unlisted : Building → Bool
@@ -217,12 +232,14 @@ top_unlisted b = elim b.stack [ [] ↦ false | o ∷ os ↦ not (is_listed o.num
 -- the adoption agency: a current node of that name that is not listed is popped, and nothing else is done
 abbrev pub adopted : List ℕ → Building → Option Building
 adopted name b =
-    elim (top_is (name ∷ []) b.stack && top_unlisted b) [ true ↦ on_stack b (popped b.stack) | false ↦ adopted_by name (last_listed (name ∷ []) b.listed) b ]
+    elim (top_is (name ∷ []) b.stack && top_unlisted b)
+        [ true ↦ on_stack b (popped b.stack) | false ↦ adopted_by name (last_listed (name ∷ []) b.listed) b ]
 
 -- the end tag of `form`: only where the form is the current node
 abbrev pub form_ended : Option ℕ → Building → Option Building
 form_ended None b = Some b
-form_ended (Some n) b = elim (is_number (top_number b.stack) n) [ true ↦ on_stack (record b { form = None }) (popped b.stack) | false ↦ None ]
+form_ended (Some n) b =
+    elim (is_number (top_number b.stack) n) [ true ↦ on_stack (record b { form = None }) (popped b.stack) | false ↦ None ]
 
 abbrev pub with_text_char : Token → Trees → Trees
 with_text_char (AChar c) ts = with_char ts c
@@ -259,7 +276,8 @@ act DropLineFeed token b = Some (record b { skip = true })
 act (PopIf names) token b = elim (top_is names b.stack) [ true ↦ on_stack b (popped b.stack) | false ↦ Some b ]
 act (PopUntil names) token b = on_stack b (popped_until (names_for names token) b.stack)
 act (CloseItems names) token b = on_stack b (closed_item (open_item names b.stack) b.stack)
-act (ClearStackTo names) token b = Some (with_stack b (popped_while (λ name. not (is_among name (codes "html" ∷ codes "template" ∷ names))) b.stack))
+act (ClearStackTo names) token b =
+    Some (with_stack b (popped_while (λ name. not (is_among name (codes "html" ∷ codes "template" ∷ names))) b.stack))
 
 abbrev pub all_acts : List Action → Token → Building → Option Building
 all_acts [] token b = Some b
@@ -281,7 +299,8 @@ is_word word (Some text) = bytes_eq text word
 
 -- a doctype of that name without identifiers, for which the document stays in no-quirks mode
 abbrev pub is_plain_doctype : List ℕ → DoctypeToken → Bool
-is_plain_doctype word doctype = is_word word doctype.name && is_missing doctype.public_id && is_missing doctype.system_id && not doctype.force_quirks
+is_plain_doctype word doctype = is_word word doctype.name && is_missing doctype.public_id && is_missing doctype.system_id
+    && not doctype.force_quirks
 
 abbrev pub fits : Pattern → Token → Bool
 fits AnythingElse token = true
@@ -321,7 +340,9 @@ pub record Taken : Type 0 where
 unfoldable pub taken : Token → Building → List Rule → Taken
 taken token b [] = record { acts = []; goes = NoRule }
 taken token b (rule pattern condition acts goes ∷ rs) =
-    elim (fits pattern token) [ true ↦ elim (holds condition token b) [ true ↦ record { acts = acts; goes = goes } | false ↦ taken token b rs ] | false ↦ taken token b rs ]
+    elim (fits pattern token)
+        [ true ↦ elim (holds condition token b) [ true ↦ record { acts = acts; goes = goes } | false ↦ taken token b rs ] | false ↦
+        taken token b rs ]
 
 -- ---- reset the insertion mode appropriately (13.2.4.1)
 
@@ -346,7 +367,8 @@ verdict last name =
 abbrev pub mode_of : Option (List ℕ) → List (List ℕ) → Option Mode
 mode_of context [] = None
 mode_of context (name ∷ []) = elim (verdict true (unwrap_or context name)) [ Gives mode ↦ Some mode | Below ↦ Some InBody | Outside ↦ None ]
-mode_of context (name ∷ below ∷ names) = elim (verdict false name) [ Gives mode ↦ Some mode | Below ↦ mode_of context (below ∷ names) | Outside ↦ None ]
+mode_of context (name ∷ below ∷ names) =
+    elim (verdict false name) [ Gives mode ↦ Some mode | Below ↦ mode_of context (below ∷ names) | Outside ↦ None ]
 
 abbrev pub names_of_stack : List Open → List (List ℕ)
 names_of_stack [] = []
@@ -405,11 +427,17 @@ tree_steps b (token ∷ more) = option_and_then (λ after. tree_steps after more
 -- ---- pages and fragments
 
 abbrev pub start : Building
-start = record { document = no_trees; stack = []; listed = []; mode = Initial; original = Initial; form = None; frameset_ok = true; skip = false; next = 0; context = None }
+start =
+    record
+    { document = no_trees; stack = []; listed = []; mode = Initial; original = Initial; form = None; frameset_ok = true; skip = false;
+    next = 0; context = None }
 
 -- the HTML fragment parsing algorithm (13.4), by the name of the context element: an element `html` is open, and the mode is reset
 abbrev pub fragment_start : List ℕ → Option Building
-fragment_start name = reset (record start { stack = record { number = 0; name = codes "html"; attrs = []; children = no_trees } ∷ []; next = 1; context = Some name })
+fragment_start name =
+    reset
+    (record start
+    { stack = record { number = 0; name = codes "html"; attrs = []; children = no_trees } ∷ []; next = 1; context = Some name })
 
 -- the document, once all open elements have been popped
 abbrev pub finished_from : Trees → Open → List Open → Trees

@@ -11,7 +11,8 @@ use Rattle.standard_rules.specs.TreeTokens.{Trees, no_trees, text_node, comment_
 
 -- the elements that the rules treat alike
 pub data Class : Type 0 where
-  AList ADescriptionList ABlock AHeading AParagraph APhrase AFormatting AnAnchor AVoid AnItem ADescription AButton ABreak ASource AnInput : Class
+  AList ADescriptionList ABlock AHeading AParagraph APhrase AFormatting AnAnchor AVoid AnItem ADescription AButton ABreak ASource AnInput :
+      Class
   AForm APre ARuby ARubyText ARawText AMetadata ATable ACaption AColumnGroup AColumn ARowGroup ARow ACell Another : Class
 
 abbrev pub names_of : Class → List (List ℕ)
@@ -20,8 +21,12 @@ names_of ADescriptionList = codes "dl" ∷ []
 names_of ABlock = blocks
 names_of AHeading = headings
 names_of AParagraph = codes "p" ∷ []
-names_of APhrase = codes "abbr" ∷ codes "acronym" ∷ codes "audio" ∷ codes "bdi" ∷ codes "bdo" ∷ codes "canvas" ∷ codes "cite" ∷ codes "data" ∷ codes "datalist" ∷ codes "del" ∷ codes "dfn" ∷ codes "ins" ∷ codes "kbd" ∷ codes "label" ∷ codes "legend" ∷ codes "map" ∷ codes "mark" ∷ codes "meter" ∷ codes "output" ∷ codes "picture" ∷ codes "progress" ∷ codes "q" ∷ codes "samp" ∷ codes "slot" ∷ codes "span" ∷ codes "sub" ∷ codes "sup" ∷ codes "time" ∷ codes "var" ∷ codes "video" ∷ []
-names_of AFormatting = codes "b" ∷ codes "big" ∷ codes "code" ∷ codes "em" ∷ codes "font" ∷ codes "i" ∷ codes "s" ∷ codes "small" ∷ codes "strike" ∷ codes "strong" ∷ codes "tt" ∷ codes "u" ∷ []
+names_of APhrase = codes "abbr" ∷ codes "acronym" ∷ codes "audio" ∷ codes "bdi" ∷ codes "bdo" ∷ codes "canvas" ∷ codes "cite" ∷ codes "data"
+    ∷ codes "datalist" ∷ codes "del" ∷ codes "dfn" ∷ codes "ins" ∷ codes "kbd" ∷ codes "label" ∷ codes "legend" ∷ codes "map" ∷ codes "mark"
+    ∷ codes "meter" ∷ codes "output" ∷ codes "picture" ∷ codes "progress" ∷ codes "q" ∷ codes "samp" ∷ codes "slot" ∷ codes "span"
+    ∷ codes "sub" ∷ codes "sup" ∷ codes "time" ∷ codes "var" ∷ codes "video" ∷ []
+names_of AFormatting = codes "b" ∷ codes "big" ∷ codes "code" ∷ codes "em" ∷ codes "font" ∷ codes "i" ∷ codes "s" ∷ codes "small"
+    ∷ codes "strike" ∷ codes "strong" ∷ codes "tt" ∷ codes "u" ∷ []
 names_of AnAnchor = codes "a" ∷ []
 names_of AVoid = codes "area" ∷ codes "br" ∷ codes "embed" ∷ codes "img" ∷ codes "wbr" ∷ []
 names_of AnItem = codes "li" ∷ []
@@ -46,7 +51,8 @@ names_of ACell = cells
 names_of Another = []
 
 abbrev pub classes : List Class
-classes = AList ∷ ADescriptionList ∷ ABlock ∷ AHeading ∷ AParagraph ∷ APhrase ∷ AFormatting ∷ AnAnchor ∷ AVoid ∷ AnItem ∷ ADescription ∷ AButton ∷ ABreak ∷ ASource ∷ AnInput
+classes = AList ∷ ADescriptionList ∷ ABlock ∷ AHeading ∷ AParagraph ∷ APhrase ∷ AFormatting ∷ AnAnchor ∷ AVoid ∷ AnItem ∷ ADescription
+    ∷ AButton ∷ ABreak ∷ ASource ∷ AnInput
     ∷ AForm ∷ APre ∷ ARuby ∷ ARubyText ∷ ARawText ∷ AMetadata ∷ ATable ∷ ACaption ∷ AColumnGroup ∷ AColumn ∷ ARowGroup ∷ ARow ∷ ACell ∷ []
 
 -- the first of the classes that has the name
@@ -211,7 +217,8 @@ are_plain w no_trees = true
 are_plain w (text_node contents later) = (may_be_text w.place contents && not (begins_text later)) && are_plain w later
 are_plain w (comment_node contents later) = are_plain w later
 are_plain w (doctype_node name later) = false
-are_plain w (element_node name attrs children later) = (admits w (class_of name) children && are_plain (inside w (class_of name)) children) && are_plain w later
+are_plain w (element_node name attrs children later) = (admits w (class_of name) children && are_plain (inside w (class_of name)) children)
+    && are_plain w later
 
 -- ---- pages
 
@@ -230,7 +237,8 @@ pub record Page : Type 0 where
 
 abbrev pub page_trees : Page → Trees
 page_trees page = doctype_node (codes "html") (element_node (codes "html") page.html
-    (element_node (codes "head") page.head page.metadata (space_node page.space (element_node (codes "body") page.body page.contents no_trees))) no_trees)
+    (element_node (codes "head") page.head page.metadata
+        (space_node page.space (element_node (codes "body") page.body page.contents no_trees))) no_trees)
 
 -- a page whose head and body hold plain trees
 pub record IsPlainPage (page : Page) : Type 0 where

@@ -3,7 +3,8 @@ use Rattle.std.specs.Prelude.{ℕ, List}
 
 -- the insertion modes (13.2.4.1) that the rules cover
 pub data Mode : Type 0 where
-  Initial BeforeHtml BeforeHead InHead AfterHead InBody Text InTable InCaption InColumnGroup InTableBody InRow InCell AfterBody AfterAfterBody : Mode
+  Initial BeforeHtml BeforeHead InHead AfterHead InBody Text InTable InCaption InColumnGroup InTableBody InRow InCell AfterBody
+      AfterAfterBody : Mode
 
 -- names: that of the token's tag, or these
 pub data Names : Type 0 where

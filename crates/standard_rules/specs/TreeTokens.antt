@@ -29,7 +29,8 @@ with_char (text_node contents no_trees) c = text_node (contents ++ c ∷ []) no_
 with_char (text_node contents (text_node more later)) c = text_node contents (with_char (text_node more later) c)
 with_char (text_node contents (comment_node more later)) c = text_node contents (with_char (comment_node more later) c)
 with_char (text_node contents (doctype_node name later)) c = text_node contents (with_char (doctype_node name later) c)
-with_char (text_node contents (element_node name attrs children later)) c = text_node contents (with_char (element_node name attrs children later) c)
+with_char (text_node contents (element_node name attrs children later)) c =
+    text_node contents (with_char (element_node name attrs children later) c)
 with_char (comment_node contents later) c = comment_node contents (with_char later c)
 with_char (doctype_node name later) c = doctype_node name (with_char later c)
 with_char (element_node name attrs children later) c = element_node name attrs children (with_char later c)
@@ -40,7 +41,8 @@ doctype_named name = record { name = Some name; public_id = None; system_id = No
 
 -- the void elements (13.1.2)
 abbrev pub void_names : List (List ℕ)
-void_names = codes "area" ∷ codes "base" ∷ codes "br" ∷ codes "col" ∷ codes "embed" ∷ codes "hr" ∷ codes "img" ∷ codes "input" ∷ codes "link" ∷ codes "meta" ∷ codes "source" ∷ codes "track" ∷ codes "wbr" ∷ []
+void_names = codes "area" ∷ codes "base" ∷ codes "br" ∷ codes "col" ∷ codes "embed" ∷ codes "hr" ∷ codes "img" ∷ codes "input"
+    ∷ codes "link" ∷ codes "meta" ∷ codes "source" ∷ codes "track" ∷ codes "wbr" ∷ []
 
 -- the end tag of an element, unless it is void
 abbrev pub end_of : List ℕ → List Token

@@ -17,7 +17,8 @@ use Rattle.standard_tokens.proofs.Steps.{go_on}
 use Rattle.standard_tokens.proofs.WordFacts.{from_not}
 use Rattle.standard_tokens.specs.Laws.{AnyFeedbackStays, IsReadAnywhere, PagesAreReadOneWay, PlainMarkupIsRead, PlainPagesAreRead, PlainPagesAreReadOneWay, never_switches, page_of}
 use Rattle.standard_tokens.specs.Machine.{Machine, at_state, normalized, start, step, taken}
-use Rattle.standard_tokens.specs.PlainMarkup.{IsAnswered, TextKind, Rcdata, Rawtext, Script, Item, CharItem, StartTag, EndTag, CommentItem, DoctypeItem, TextElement, RawElement, Piece, Itself, Amp, Lt, Gt, Quot, Nbsp, PlainAttr, character, is_letter_name, is_name, is_name_char, is_own_char, is_plain_attr, is_plain_item, is_plain_piece, is_raw_char, is_tag_name, is_text_char, is_value_char, lacks_end, start_token, state_of, tokens, written, written_attr, written_end, written_piece, written_start}
+use Rattle.standard_tokens.specs.PlainMarkup.{IsAnswered, TextKind, Rcdata, Rawtext, Script, Item, CharItem, StartTag, EndTag, CommentItem, DoctypeItem, TextElement, RawElement, Piece, Itself, Amp, Lt, Gt, Quot, Nbsp, PlainAttr, character, is_letter_name, is_name, is_name_char, is_own_char}
+use Rattle.standard_tokens.specs.PlainMarkup.{is_plain_attr, is_plain_item, is_plain_piece, is_raw_char, is_tag_name, is_text_char, is_value_char, lacks_end, start_token, state_of, tokens, written, written_attr, written_end, written_piece, written_start}
 use Rattle.standard_tokens.specs.Reading.{Feedback, IsFeedback, Reader, Reads, here, next, after, is_switching, reader, step_at}
 use Rattle.standard_tokens.specs.States.{State, Data, RCDATA}
 use Rattle.standard_tokens.specs.Table.{entries}

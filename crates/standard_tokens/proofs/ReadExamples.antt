@@ -1,6 +1,9 @@
 -- That the examples are read so, by computing. Made from tests/standard/texts.jsonl by tests/standard/definitions.py.
 use Rattle.std.specs.Prelude.{refl}
-use Rattle.standard_tokens.specs.Examples.{example0, example1, example2, example3, example4, example5, example6, example7, example8, example9, example10, example11, example12, example13, example14, example15, example16, example17, example18, example19, example20, example21, example22, example23, example24, example25, example26, example27, example28, example29, example30, example31, example32, example33, example34, example35, example36, example37, example38, example39, example40, example41, example42, example43, example44, example45, example46, example47, example48, example49, example50, example51, example52, example53, example54, example55, example56, example57, example58, example59, example60, example61, example62, example63, example64, example65, example66, example67, example68, example69, example70, example71, example72, example73, example74, example75, example76, example77, example78, example79, example80, example81}
+use Rattle.standard_tokens.specs.Examples.{example0, example1, example2, example3, example4, example5, example6, example7, example8, example9, example10, example11, example12, example13, example14, example15, example16, example17, example18, example19, example20, example21, example22, example23}
+use Rattle.standard_tokens.specs.Examples.{example24, example25, example26, example27, example28, example29, example30, example31, example32, example33, example34, example35, example36, example37, example38, example39, example40, example41, example42, example43, example44, example45, example46}
+use Rattle.standard_tokens.specs.Examples.{example47, example48, example49, example50, example51, example52, example53, example54, example55, example56, example57, example58, example59, example60, example61, example62, example63, example64, example65, example66, example67, example68, example69}
+use Rattle.standard_tokens.specs.Examples.{example70, example71, example72, example73, example74, example75, example76, example77, example78, example79, example80, example81}
 use Rattle.standard_tokens.specs.Laws.{ExamplesAreRead, IsExampleRead}
 use Rattle.standard_tokens.specs.Machine.{longest_name, value_of}
 use Rattle.standard_tokens.specs.Reading.{run}
@@ -336,4 +339,63 @@ read81 = by_running 300 example81 refl
 
 pub all_read : ExamplesAreRead
 all_read =
-    (read0, (read1, (read2, (read3, (read4, (read5, (read6, (read7, (read8, (read9, (read10, (read11, (read12, (read13, (read14, (read15, (read16, (read17, (read18, (read19, (read20, (read21, (read22, (read23, (read24, (read25, (read26, (read27, (read28, (read29, (read30, (read31, (read32, (read33, (read34, (read35, (read36, (read37, (read38, (read39, (read40, (read41, (read42, (read43, (read44, (read45, (read46, (read47, (read48, (read49, (read50, (read51, (read52, (read53, (read54, (read55, (read56, (read57, (read58, (read59, (read60, (read61, (read62, (read63, (read64, (read65, (read66, (read67, (read68, (read69, (read70, (read71, (read72, (read73, (read74, (read75, (read76, (read77, (read78, (read79, (read80, (read81, tt))))))))))))))))))))))))))))))))))))))))))))))))))))))))))))))))))))))))))))))))))
+    (read0,
+        (read1,
+        (read2,
+        (read3,
+        (read4,
+        (read5,
+        (read6,
+        (read7,
+        (read8,
+        (read9,
+        (read10,
+        (read11,
+        (read12,
+        (read13,
+        (read14,
+        (read15,
+        (read16,
+        (read17,
+        (read18,
+        (read19,
+        (read20,
+        (read21,
+        (read22,
+        (read23,
+        (read24,
+        (read25,
+        (read26,
+        (read27,
+        (read28,
+        (read29,
+        (read30,
+        (read31,
+        (read32,
+        (read33,
+        (read34,
+        (read35,
+        (read36,
+        (read37,
+        (read38,
+        (read39,
+        (read40,
+        (read41,
+        (read42,
+        (read43,
+        (read44,
+        (read45,
+        (read46,
+        (read47,
+        (read48,
+        (read49,
+        (read50,
+        (read51,
+        (read52,
+        (read53,
+        (read54,
+        (read55,
+        (read56,
+        (read57,
+        (read58,
+        (read59, (read60, (read61, (read62, (read63, (read64, (read65, (read66, (read67, (read68, (read69, (read70, (read71, (read72, (read73, (read74, (read75, (read76, (read77, (read78, (read79, (read80, (read81, tt))))))))))))))))))))))))))))))))))))))))))))))))))))))))))))))))))))))))))))))))))

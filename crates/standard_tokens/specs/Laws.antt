@@ -30,7 +30,8 @@ PlainPagesAreRead = (f : Feedback) → IsFeedback f → (items : List Item) → 
 
 -- and as no others
 abbrev pub PlainPagesAreReadOneWay : Type 0
-PlainPagesAreReadOneWay = (f : Feedback) → IsFeedback f → (items : List Item) → list_all is_plain_item items ≡ true → AreAnswered f [] items →
+PlainPagesAreReadOneWay = (f : Feedback) → IsFeedback f → (items : List Item) → list_all is_plain_item items ≡ true →
+    AreAnswered f [] items →
     (all : List Token) → ReadsPage f (flat_map written items) all → all ≡ page_of items
 
 -- a page has one list of tokens
@@ -48,7 +49,8 @@ never_switches _ = true
 
 -- so any tree construction leaves the tokenizer in the data state
 abbrev pub AnyFeedbackStays : Type 0
-AnyFeedbackStays = (f : Feedback) → IsFeedback f → (seen : List Token) (items : List Item) → list_all never_switches items ≡ true → AreAnswered f seen items
+AnyFeedbackStays = (f : Feedback) → IsFeedback f → (seen : List Token) (items : List Item) → list_all never_switches items ≡ true →
+    AreAnswered f seen items
 
 -- ---- examples
 

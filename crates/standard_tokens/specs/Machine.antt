@@ -1,9 +1,16 @@
 -- The tokenizer (13.2.5): a machine, and what it does at the front of the text that is left. A character is its code point.
-use Rattle.std.specs.Prelude.{ℕ, eqb, ◌+◌, ◌-◌, ◌*◌, Bool, true, false, not, cond, ◌&&◌, ◌||◌, ◌==◌, nat_le, nat_lt, List, [], ◌∷◌, ◌++◌, map, reverse, length, take, drop, Option, None, Some, unwrap_or, bytes_eq, codes, find, option_map}
+use Rattle.std.specs.Prelude.{ℕ, eqb, ◌+◌, ◌-◌, ◌*◌, Bool, true, false, not, cond, ◌&&◌, ◌||◌, ◌==◌, nat_le, nat_lt, List, [], ◌∷◌, ◌++◌}
+use Rattle.std.specs.Prelude.{map, reverse, length, take, drop, Option, None, Some, unwrap_or, bytes_eq, codes, find, option_map}
 use Rattle.std.specs.Option.{option_map_or}
 use Rattle.std.specs.Char.{to_ascii_lowercase, is_ascii_alphanumeric, char_set_contains}
 use Rattle.std.specs.List.{list_any, starts_with}
-use Rattle.standard_tokens.specs.Entries.{Mark, OneOf, Range, End, On, Next, Word, AnyCase, Name, Else, Guard, Always, Appropriate, IsScript, InForeign, InAttribute, Historical, What, Current, Lower, TheBuffer, These, Place, TheTagName, AttrName, AttrValue, Comment, DoctypeName, PublicId, SystemId, Buffer, TagKind, Starting, Ending, Act, Emit, EmitTag, EmitComment, EmitDoctype, EmitEndOfFile, NewTag, NewAttr, NewComment, NewDoctype, SelfClosing, ForceQuirks, Add, SetEmpty, ReturnTo, CodeZero, CodeDigit, BufferNumber, BufferName, Flush, Then, Stay, Switch, Reconsume, SwitchBack, ReconsumeBack, Stop, Entry, entry}
+use Rattle.standard_tokens.specs.Entries.{Mark, OneOf, Range, End, On, Next, Word, AnyCase, Name, Else, Guard, Always, Appropriate}
+use Rattle.standard_tokens.specs.Entries.{IsScript, InForeign, InAttribute, Historical, What, Current, Lower, TheBuffer, These, Place}
+use Rattle.standard_tokens.specs.Entries.{TheTagName, AttrName, AttrValue, Comment, DoctypeName, PublicId, SystemId, Buffer, TagKind}
+use Rattle.standard_tokens.specs.Entries.{Starting, Ending, Act, Emit, EmitTag, EmitComment, EmitDoctype, EmitEndOfFile, NewTag, NewAttr}
+use Rattle.standard_tokens.specs.Entries.{NewComment, NewDoctype, SelfClosing, ForceQuirks, Add, SetEmpty, ReturnTo, CodeZero, CodeDigit}
+use Rattle.standard_tokens.specs.Entries.{BufferNumber, BufferName, Flush, Then, Stay, Switch, Reconsume, SwitchBack, ReconsumeBack, Stop}
+use Rattle.standard_tokens.specs.Entries.{Entry, entry}
 use Rattle.standard_tokens.specs.NamedReferences.{NamedReference, named_references}
 use Rattle.standard_tokens.specs.Numbers.{character_of}
 use Rattle.standard_tokens.specs.States.{State, Data, AttributeValueDoubleQuoted, AttributeValueSingleQuoted, AttributeValueUnquoted}
@@ -52,7 +59,8 @@ value_of name = option_map_or (λ one. one.characters) (find (λ one. bytes_eq o
 abbrev pub normalized_behind : Bool → List ℕ → List ℕ
 normalized_behind behind [] = []
 normalized_behind behind (c ∷ text) =
-    cond (c == 13) (10 ∷ normalized_behind true text) (cond (behind && c == 10) (normalized_behind false text) (c ∷ normalized_behind false text))
+    cond (c == 13) (10 ∷ normalized_behind true text)
+        (cond (behind && c == 10) (normalized_behind false text) (c ∷ normalized_behind false text))
 
 abbrev pub normalized : List ℕ → List ℕ
 normalized text = normalized_behind false text
@@ -256,7 +264,9 @@ at_state m state = record m { state = state }
 abbrev pub step_by : Machine → List ℕ → Taken → Step
 step_by m text t =
     let after : Machine = all_done t.current t.acts m in
-    record { machine = at_state after (state_behind t.goes after); rest = rest_behind t.goes t.current text; tokens = all_emitted t.current t.acts m; stopped = stops t.goes }
+    record
+        { machine = at_state after (state_behind t.goes after); rest = rest_behind t.goes t.current text; tokens =
+        all_emitted t.current t.acts m; stopped = stops t.goes }
 
 -- a step of the machine at the front of the text that is left; the end of the text is the end of the file
 unfoldable pub step : Bool → Machine → List ℕ → Step
@@ -268,7 +278,9 @@ empty_tag = record { kind = Starting; name = []; attrs = []; self_closing = fals
 
 -- the machine at the beginning of a page, and of a fragment, in whose context the first state is another
 abbrev pub start_in : State → Machine
-start_in state = record { state = state; return_state = Data; tag = empty_tag; comment = []; doctype = no_doctype; buffer = []; last_start = None; code = 0 }
+start_in state =
+    record
+    { state = state; return_state = Data; tag = empty_tag; comment = []; doctype = no_doctype; buffer = []; last_start = None; code = 0 }
 
 abbrev pub start : Machine
 start = start_in Data

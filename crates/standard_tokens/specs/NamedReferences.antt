@@ -1,4 +1,5 @@
--- The named character references (13.5): the names without their ampersand, and the one or two characters of each. Made from docs/standard/named_references.txt by tests/standard/definitions.py.
+-- The named character references (13.5): the names without their ampersand, and the one or two characters of each. Made from
+-- docs/standard/named_references.txt by tests/standard/definitions.py.
 use Rattle.std.specs.Prelude.{ℕ, List, [], ◌∷◌, codes}
 use Prim.Native.String.{String}
 

@@ -1,5 +1,6 @@
 -- Plain markup, as a careful writer writes it, and the tokens that it represents. A character is its code point.
-use Rattle.std.specs.Prelude.{◌≡◌, ℕ, Bool, true, false, not, eqb, ◌==◌, ◌&&◌, ◌||◌, nat_le, List, [], ◌∷◌, ◌++◌, map, flat_map, None, Some, codes}
+use Rattle.std.specs.Prelude.{◌≡◌, ℕ, Bool, true, false, not, eqb, ◌==◌, ◌&&◌, ◌||◌, nat_le, List, [], ◌∷◌, ◌++◌, map, flat_map, None, Some}
+use Rattle.std.specs.Prelude.{codes}
 use Rattle.std.specs.Char.{is_ascii_lowercase}
 use Rattle.std.specs.List.{list_all}
 use Rattle.standard_tokens.specs.Machine.{distinct, same_case_less}
@@ -59,7 +60,10 @@ is_raw_char c = not (0 == c || 13 == c)
 
 -- what names are made of: any character but white space, null, `"`, `'`, `/`, `<`, `=`, `>` and A to Z
 abbrev pub is_name_char : ℕ → Bool
-is_name_char c = not (0 == c || 9 == c || 10 == c || 12 == c || 13 == c || 32 == c || 34 == c || 39 == c || 47 == c || 60 == c || 61 == c || 62 == c || (nat_le 65 c && nat_le c 90))
+is_name_char c =
+    not
+    (0 == c || 9 == c || 10 == c || 12 == c || 13 == c || 32 == c || 34 == c || 39 == c || 47 == c || 60 == c || 61 == c || 62 == c
+    || (nat_le 65 c && nat_le c 90))
 
 abbrev pub is_name : List ℕ → Bool
 is_name [] = false
@@ -91,7 +95,9 @@ contains_word same word (c ∷ text) = begins_with same word (c ∷ text) || con
 -- no comment ends in it: it does not begin with `>` or `->`, and does not contain `-->` or `--!>`
 abbrev pub is_comment_text : List ℕ → Bool
 is_comment_text text = list_all is_raw_char text
-    && not (begins_with eqb (codes ">") text || begins_with eqb (codes "->") text || contains_word eqb (codes "-->") text || contains_word eqb (codes "--!>") text)
+    && not
+        (begins_with eqb (codes ">") text || begins_with eqb (codes "->") text || contains_word eqb (codes "-->") text
+        || contains_word eqb (codes "--!>") text)
 
 -- how the text of an element is read that has a state of its own: with references, as it is, or as a script
 pub data TextKind : Type 0 where
@@ -173,8 +179,10 @@ is_plain_item (StartTag name attrs) = is_tag_name name && list_all is_plain_attr
 is_plain_item (EndTag name) = is_tag_name name
 is_plain_item (CommentItem text) = is_comment_text text
 is_plain_item (DoctypeItem name) = is_name name
-is_plain_item (TextElement name attrs text) = is_letter_name name && (list_all is_plain_attr attrs && list_all (is_plain_piece is_text_char) text)
-is_plain_item (RawElement kind name attrs text) = is_letter_name name && (list_all is_plain_attr attrs && (list_all (is_own_char kind) text && lacks_end kind name text))
+is_plain_item (TextElement name attrs text) = is_letter_name name
+    && (list_all is_plain_attr attrs && list_all (is_plain_piece is_text_char) text)
+is_plain_item (RawElement kind name attrs text) = is_letter_name name
+    && (list_all is_plain_attr attrs && (list_all (is_own_char kind) text && lacks_end kind name text))
 
 -- ---- what tree construction answers
 

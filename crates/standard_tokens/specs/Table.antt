@@ -1,7 +1,34 @@
 -- What each state of the tokenizer does (13.2.5.1 to 13.2.5.80). Made from docs/standard/tokenizer.txt by tests/standard/definitions.py.
 use Rattle.std.specs.Prelude.{List, [], ◌∷◌, codes}
-use Rattle.standard_tokens.specs.States.{State, Data, RCDATA, RAWTEXT, ScriptData, PLAINTEXT, TagOpen, EndTagOpen, TagName, RCDATALessThanSign, RCDATAEndTagOpen, RCDATAEndTagName, RAWTEXTLessThanSign, RAWTEXTEndTagOpen, RAWTEXTEndTagName, ScriptDataLessThanSign, ScriptDataEndTagOpen, ScriptDataEndTagName, ScriptDataEscapeStart, ScriptDataEscapeStartDash, ScriptDataEscaped, ScriptDataEscapedDash, ScriptDataEscapedDashDash, ScriptDataEscapedLessThanSign, ScriptDataEscapedEndTagOpen, ScriptDataEscapedEndTagName, ScriptDataDoubleEscapeStart, ScriptDataDoubleEscaped, ScriptDataDoubleEscapedDash, ScriptDataDoubleEscapedDashDash, ScriptDataDoubleEscapedLessThanSign, ScriptDataDoubleEscapeEnd, BeforeAttributeName, AttributeName, AfterAttributeName, BeforeAttributeValue, AttributeValueDoubleQuoted, AttributeValueSingleQuoted, AttributeValueUnquoted, AfterAttributeValueQuoted, SelfClosingStartTag, BogusComment, MarkupDeclarationOpen, CommentStart, CommentStartDash, CommentState, CommentLessThanSign, CommentLessThanSignBang, CommentLessThanSignBangDash, CommentLessThanSignBangDashDash, CommentEndDash, CommentEnd, CommentEndBang, DOCTYPEState, BeforeDOCTYPEName, DOCTYPEName, AfterDOCTYPEName, AfterDOCTYPEPublicKeyword, BeforeDOCTYPEPublicIdentifier, DOCTYPEPublicIdentifierDoubleQuoted, DOCTYPEPublicIdentifierSingleQuoted, AfterDOCTYPEPublicIdentifier, BetweenDOCTYPEPublicAndSystemIdentifiers, AfterDOCTYPESystemKeyword, BeforeDOCTYPESystemIdentifier, DOCTYPESystemIdentifierDoubleQuoted, DOCTYPESystemIdentifierSingleQuoted, AfterDOCTYPESystemIdentifier, BogusDOCTYPE, CDATASection, CDATASectionBracket, CDATASectionEnd, CharacterReference, NamedCharacterReference, AmbiguousAmpersand, NumericCharacterReference, HexadecimalCharacterReferenceStart, DecimalCharacterReferenceStart, HexadecimalCharacterReference, DecimalCharacterReference, NumericCharacterReferenceEnd}
-use Rattle.standard_tokens.specs.Entries.{Entry, entry, Next, Word, AnyCase, Name, Else, End, chars, space, null, upper, lower, digit, upper_hex, lower_hex, Always, Appropriate, IsScript, InForeign, InAttribute, Historical, Current, Lower, TheBuffer, These, replacement, TheTagName, AttrName, AttrValue, Comment, DoctypeName, PublicId, SystemId, Buffer, Starting, Ending, Emit, EmitTag, EmitComment, EmitDoctype, EmitEndOfFile, NewTag, NewAttr, NewComment, NewDoctype, SelfClosing, ForceQuirks, Add, SetEmpty, ReturnTo, CodeZero, CodeDigit, BufferNumber, BufferName, Flush, Stay, Switch, Reconsume, SwitchBack, ReconsumeBack, Stop}
+use Rattle.standard_tokens.specs.States.{State, Data, RCDATA, RAWTEXT, ScriptData, PLAINTEXT, TagOpen, EndTagOpen, TagName}
+use Rattle.standard_tokens.specs.States.{RCDATALessThanSign, RCDATAEndTagOpen, RCDATAEndTagName, RAWTEXTLessThanSign, RAWTEXTEndTagOpen}
+use Rattle.standard_tokens.specs.States.{RAWTEXTEndTagName, ScriptDataLessThanSign, ScriptDataEndTagOpen, ScriptDataEndTagName}
+use Rattle.standard_tokens.specs.States.{ScriptDataEscapeStart, ScriptDataEscapeStartDash, ScriptDataEscaped, ScriptDataEscapedDash}
+use Rattle.standard_tokens.specs.States.{ScriptDataEscapedDashDash, ScriptDataEscapedLessThanSign, ScriptDataEscapedEndTagOpen}
+use Rattle.standard_tokens.specs.States.{ScriptDataEscapedEndTagName, ScriptDataDoubleEscapeStart, ScriptDataDoubleEscaped}
+use Rattle.standard_tokens.specs.States.{ScriptDataDoubleEscapedDash, ScriptDataDoubleEscapedDashDash, ScriptDataDoubleEscapedLessThanSign}
+use Rattle.standard_tokens.specs.States.{ScriptDataDoubleEscapeEnd, BeforeAttributeName, AttributeName, AfterAttributeName}
+use Rattle.standard_tokens.specs.States.{BeforeAttributeValue, AttributeValueDoubleQuoted, AttributeValueSingleQuoted}
+use Rattle.standard_tokens.specs.States.{AttributeValueUnquoted, AfterAttributeValueQuoted, SelfClosingStartTag, BogusComment}
+use Rattle.standard_tokens.specs.States.{MarkupDeclarationOpen, CommentStart, CommentStartDash, CommentState, CommentLessThanSign}
+use Rattle.standard_tokens.specs.States.{CommentLessThanSignBang, CommentLessThanSignBangDash, CommentLessThanSignBangDashDash}
+use Rattle.standard_tokens.specs.States.{CommentEndDash, CommentEnd, CommentEndBang, DOCTYPEState, BeforeDOCTYPEName, DOCTYPEName}
+use Rattle.standard_tokens.specs.States.{AfterDOCTYPEName, AfterDOCTYPEPublicKeyword, BeforeDOCTYPEPublicIdentifier}
+use Rattle.standard_tokens.specs.States.{DOCTYPEPublicIdentifierDoubleQuoted, DOCTYPEPublicIdentifierSingleQuoted}
+use Rattle.standard_tokens.specs.States.{AfterDOCTYPEPublicIdentifier, BetweenDOCTYPEPublicAndSystemIdentifiers, AfterDOCTYPESystemKeyword}
+use Rattle.standard_tokens.specs.States.{BeforeDOCTYPESystemIdentifier, DOCTYPESystemIdentifierDoubleQuoted}
+use Rattle.standard_tokens.specs.States.{DOCTYPESystemIdentifierSingleQuoted, AfterDOCTYPESystemIdentifier, BogusDOCTYPE, CDATASection}
+use Rattle.standard_tokens.specs.States.{CDATASectionBracket, CDATASectionEnd, CharacterReference, NamedCharacterReference}
+use Rattle.standard_tokens.specs.States.{AmbiguousAmpersand, NumericCharacterReference, HexadecimalCharacterReferenceStart}
+use Rattle.standard_tokens.specs.States.{DecimalCharacterReferenceStart, HexadecimalCharacterReference, DecimalCharacterReference}
+use Rattle.standard_tokens.specs.States.{NumericCharacterReferenceEnd}
+use Rattle.standard_tokens.specs.Entries.{Entry, entry, Next, Word, AnyCase, Name, Else, End, chars, space, null, upper, lower, digit}
+use Rattle.standard_tokens.specs.Entries.{upper_hex, lower_hex, Always, Appropriate, IsScript, InForeign, InAttribute, Historical, Current}
+use Rattle.standard_tokens.specs.Entries.{Lower, TheBuffer, These, replacement, TheTagName, AttrName, AttrValue, Comment, DoctypeName}
+use Rattle.standard_tokens.specs.Entries.{PublicId, SystemId, Buffer, Starting, Ending, Emit, EmitTag, EmitComment, EmitDoctype}
+use Rattle.standard_tokens.specs.Entries.{EmitEndOfFile, NewTag, NewAttr, NewComment, NewDoctype, SelfClosing, ForceQuirks, Add, SetEmpty}
+use Rattle.standard_tokens.specs.Entries.{ReturnTo, CodeZero, CodeDigit, BufferNumber, BufferName, Flush, Stay, Switch, Reconsume}
+use Rattle.standard_tokens.specs.Entries.{SwitchBack, ReconsumeBack, Stop}
 
 -- the entries of each state; the first that fits is taken
 unfoldable pub entries : State → List Entry
@@ -528,8 +555,10 @@ entries CDATASectionEnd =
     ∷ []
 -- 13.2.5.72
 entries CharacterReference =
-    entry (Next (digit ∷ upper ∷ lower ∷ [])) Always (SetEmpty Buffer ∷ Add Buffer (These (codes "&")) ∷ []) (Reconsume NamedCharacterReference)
-    ∷ entry (Next (chars "#" ∷ [])) Always (SetEmpty Buffer ∷ Add Buffer (These (codes "&")) ∷ Add Buffer Current ∷ []) (Switch NumericCharacterReference)
+    entry (Next (digit ∷ upper ∷ lower ∷ [])) Always (SetEmpty Buffer ∷ Add Buffer (These (codes "&")) ∷ [])
+        (Reconsume NamedCharacterReference)
+    ∷ entry (Next (chars "#" ∷ [])) Always (SetEmpty Buffer ∷ Add Buffer (These (codes "&")) ∷ Add Buffer Current ∷ [])
+        (Switch NumericCharacterReference)
     ∷ entry Else Always (SetEmpty Buffer ∷ Add Buffer (These (codes "&")) ∷ Flush ∷ []) ReconsumeBack
     ∷ []
 -- 13.2.5.73

@@ -2,11 +2,14 @@
 prover computes the trees of rows.jsonl, from those rows; proofs/RuleFacts.antt is what it computes for each name."""
 import json
 import pathlib
+import sys
 
 from name_facts import rule_facts
 from read_rules import MODES, SETS
 
 HERE = pathlib.Path(__file__).resolve().parent
+sys.path.insert(0, str(HERE.parents[1] / "tools"))
+import sheets  # noqa: E402
 
 WORDS = {"white space": "WhiteSpace", "null": "Null", "character": "Character", "comment": "Comment", "doctype": "Doctype",
          "end of file": "EndOfFile", "anything else": "AnythingElse", "any start tag": "AnyStart", "any end tag": "AnyEnd",
@@ -132,8 +135,9 @@ def agreement():
 
 def targets(crate):
     """The files that are made, and the text that each must have."""
-    return {crate / "specs" / "TreeRules.antt": tree_rules(), crate / "proofs" / "TreeAgreement.antt": agreement(),
+    made = {crate / "specs" / "TreeRules.antt": tree_rules(), crate / "proofs" / "TreeAgreement.antt": agreement(),
             crate / "proofs" / "RuleFacts.antt": rule_facts(crate)}
+    return {path: sheets.laid_out(text, sheets.WIDTH[path.parent.name]) for path, text in made.items()}
 
 
 if __name__ == "__main__":
