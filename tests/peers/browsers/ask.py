@@ -44,9 +44,14 @@ class Handler(http.server.BaseHTTPRequestHandler):
         pass
 
 
+class Server(http.server.ThreadingHTTPServer):
+    def handle_error(self, request, address):
+        """Says nothing of a browser that was ended while it asked for something."""
+
+
 def ask(browser, cases, seconds=300):
-    """The trees that a browser makes of a list of [text, context or None]."""
-    server = http.server.ThreadingHTTPServer(("127.0.0.1", 0), Handler)
+    """What a browser makes of a list of [text, context or None]: a list of [tree, HTML]."""
+    server = Server(("127.0.0.1", 0), Handler)
     server.cases, server.trees, server.done = json.dumps(cases).encode("ascii"), None, threading.Event()
     threading.Thread(target=server.serve_forever, daemon=True).start()
     try:
