@@ -2,7 +2,6 @@
 
 - the step of the adoption agency that standard/mend_parse5.py adds;
 - "in row", an end tag `tbody`, `tfoot` or `thead` is ignored unless that element is in table scope;
-- "in select", a start tag `hr` closes an open `option` and `optgroup`, and is inserted;
 - a CDATA section may begin wherever the adjusted current node isn't an HTML element, integration points included;
 - "any other end tag" looks for an HTML element of that name;
 - "in body", the content of `noframes` is text;
@@ -12,7 +11,8 @@
 - in foreign content, each null character is replaced by one U+FFFD, also where several are side by side;
 - in foreign content of a fragment, an end tag for which only the topmost element is left is processed by the current insertion mode.
 
-table_rows.py knows of one more: parse5 7.1.2 doesn't know the element `search`."""
+table_rows.py knows of two more: parse5 7.1.2 doesn't know the element `search`, and has the rules of `select` that the Standard had until
+2025, so the browsers are asked for pages with a `select` (browsers/ask.py)."""
 import pathlib
 import subprocess
 import sys
@@ -23,14 +23,6 @@ CHANGES = {
         (
             "p.openElements.hasInTableScope(token.tagID) || p.openElements.hasInTableScope(html_js_1.TAG_ID.TR)",
             "p.openElements.hasInTableScope(token.tagID) && p.openElements.hasInTableScope(html_js_1.TAG_ID.TR)",
-        ),
-        (
-            "        case html_js_1.TAG_ID.INPUT:\n        case html_js_1.TAG_ID.KEYGEN:\n        case html_js_1.TAG_ID.TEXTAREA:\n        case html_js_1.TAG_ID.SELECT: {\n",
-            "        case html_js_1.TAG_ID.HR: {\n"
-            "            if (p.openElements.currentTagId === html_js_1.TAG_ID.OPTION) p.openElements.pop();\n"
-            "            if (p.openElements.currentTagId === html_js_1.TAG_ID.OPTGROUP) p.openElements.pop();\n"
-            "            p._appendElement(token, html_js_1.NS.HTML);\n            break;\n        }\n"
-            "        case html_js_1.TAG_ID.INPUT:\n        case html_js_1.TAG_ID.KEYGEN:\n        case html_js_1.TAG_ID.TEXTAREA:\n        case html_js_1.TAG_ID.SELECT: {\n",
         ),
         (
             "    for (let i = p.openElements.stackTop; i > 0; i--) {\n        const element = p.openElements.items[i];\n        if (p.treeAdapter.getNamespaceURI",

@@ -35,9 +35,6 @@ FUNCTIONS = {
     "takes_svg": ["text point"],
     "ends_foreign": ["in svg"],
     "foreign_end": ["in svg"],
-    # growing/popping.rt
-    "pop_options": ["in select"],
-    "end_optgroup": ["in select"],
     # modes
     "imply_html": ["before html"],
     "before_html_tag": ["before html"],
@@ -58,11 +55,6 @@ FUNCTIONS = {
     "end_frameset": ["in frameset"],
     "after_frameset_tag": ["after frameset"],
     "after_after_frameset_tag": ["after after frameset"],
-    "select_tag": ["in select"],
-    "select_start": ["in select"],
-    "end_select": ["in select"],
-    "leaves_select": ["in select in table"],
-    "select_in_table_tag": ["in select in table"],
     "template_tag": ["in template"],
     "is_table_part": [*TABLE, "in caption", "in cell"],
     "is_section": ["in table body", "in row", "in cell"],
@@ -99,9 +91,12 @@ FUNCTIONS = {
     "start_a": ["in body"],
     "start_nobr": ["in body"],
     "start_table": ["in p"],
-    "start_input": ["in body"],
-    "start_select": ["in body"],
-    "start_option": ["in body"],
+    "start_select": ["in body", "in a select"],
+    "start_input": ["in body", "in a select"],
+    "start_option": ["in body", "in a select"],
+    "start_hr": ["in a select"],
+    "close_select": ["in a select"],
+    "imply_ends_in_select": ["in a select"],
     "start_ruby": ["in body"],
     "body_end": ["in body"],
     "end_html": ["in body"],
@@ -114,7 +109,6 @@ FUNCTIONS = {
     # sets.rt, stack.rt
     "is_heading": ["in heading"],
     "ends_default_scope": ["scope"],
-    "ends_select_scope": ["in select"],
     "ends_at": ["table context"],
     "is_special_name": ["special"],
     "is_crossed_by_items": ["in li", "in dd"],
@@ -123,7 +117,6 @@ FUNCTIONS = {
     "has_body": ["frameset behind"],
     "scope_end": ["button scope", "item scope"],
     "item_before": ["in li", "in dd"],
-    "is_in_table": ["in select in table"],
 }
 # The arrays of names that are checked like functions.
 NAME_ARRAYS = {"ASKING": ["fragment"], "HEADINGS": ["in heading"]}

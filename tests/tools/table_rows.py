@@ -4,7 +4,9 @@ character in every insertion mode.
 
 The trees are those of parse5 7.1.2 (Debian's node-parse5) in the copy that tests/peers/mend_trees.py makes, in which it follows
 the HTML Standard; NODE_PATH names the folder of that copy. For an element that parse5 is too old to know, MENDED names one that every
-rule treats alike. Run it by hand after a table has changed; the test command reads the rows alone."""
+rule treats alike. parse5 has the rules of `select` that the Standard had until 2025, so the trees of pages with a `select` are those
+that Chromium and Firefox make (tests/peers/browsers/ask.py says which packages they are); where the two differ, DIFFERING says why, and
+the tree is Firefox's. Run it by hand after a table has changed; the test command reads the rows alone."""
 import json
 import os
 import re
@@ -16,13 +18,16 @@ import source_tables
 import state_pages
 from rows import ROOT
 
+sys.path.insert(0, str(ROOT / "tests" / "peers" / "browsers"))
+import ask  # noqa: E402
+
 PEER = ROOT / "tests" / "peers" / "trees_parse5.js"
 ROWS = ROOT / "tests" / "rows"
 RAW = "title style script textarea xmp iframe noembed noframes noscript".split()
 # Names that stand for all that a mode doesn't mention.
 SAMPLE = "a b body div frame frameset head html input li link p rt span svg td textarea title x-y".split()
 
-# For each insertion mode: what comes before a tag, and what comes behind it and shows the mode.
+# For each insertion mode, for a `select` and for foreign content: what comes before a tag, and what comes behind it and shows the mode.
 MODES = {
     "initial": ("", "<p>z"),
     "before html": ("<!doctype html>", "<p>z"),
@@ -37,19 +42,20 @@ MODES = {
     "in table body": ("<!doctype html><table><tbody>", "<td>z"),
     "in row": ("<!doctype html><table><tr>", "<td>z"),
     "in cell": ("<!doctype html><table><td>", "<td>z"),
-    "in select": ("<!doctype html><select><optgroup><option>", "<option>z<p>"),
-    "in select in table": ("<!doctype html><table><td><select><option>", "<option>z<td>"),
     "in template": ("<!doctype html><template>", "<td>z"),
     "after body": ("<!doctype html><p>1</body>", "<p>z"),
     "in frameset": ("<!doctype html><frameset>", "<frame>"),
     "after frameset": ("<!doctype html><frameset></frameset>", "<frame><noframes>z"),
     "after after body": ("<!doctype html><p>1</body></html>", "<p>z"),
     "after after frameset": ("<!doctype html><frameset></frameset></html>", "<frame><noframes>z"),
+    "in a select": ("<!doctype html><select><optgroup><option>", "<option>z<p>"),
+    "in a select in a table": ("<!doctype html><table><select><option>", "<option>z<td>"),
+    "in a select in a table's cell": ("<!doctype html><table><td><select><option>", "<option>z<td>"),
     "in svg": ("<!doctype html><svg>", "z"),
     "in math": ("<!doctype html><math>", "z"),
 }
 # The modes in which every name has rows; in the others those that the mode mentions, and SAMPLE.
-WHOLE = ("in body", "in table", "in select", "in template", "in svg", "in math")
+WHOLE = ("in body", "in table", "in a select", "in template", "in svg", "in math")
 # Questions about every name, each with a page in which {} is the name.
 QUESTIONS = {
     "in p": "<!doctype html><p>1<{}>2",
@@ -133,6 +139,8 @@ FOREIGN_CONTEXTS = [
 ]
 # Where parse5 7.1.2 is older than the standard: an element that it doesn't know, and one that every rule treats alike.
 MENDED = {"search": "section"}
+# The texts in contexts that Chromium and Firefox read in two ways, and why Firefox's way is the Standard's.
+DIFFERING = {("1<input>2<option>3", "select"): "where the context is a select, the Standard ignores a start tag input; Chromium inserts it"}
 
 
 class Pages:
@@ -145,26 +153,48 @@ class Pages:
         self.asked.append((entry, text, context, scripting))
 
     def answers(self):
-        """The pages with the peer's trees and quirks modes."""
-        words, behind = [], []
-        for entry, text, context, scripting in self.asked:
-            name = next((it for it in MENDED if f"<{it}" in text or f"</{it}" in text or context == it), None)
-            behind.append(name)
-            if name:
-                text = text.replace(name, MENDED[name])
-                context = MENDED[name] if context == name else context
-            words.append([text, context, scripting])
-        ran = subprocess.run(["node", PEER], input=json.dumps(words), capture_output=True, text=True, check=True, env=node())
-        for (entry, text, context, scripting), name, (tree, mode, html) in zip(self.asked, behind, json.loads(ran.stdout)):
-            if name:
-                tree = re.sub(rf"(?<=[< ]){MENDED[name]}(?=>)", name, tree)
-            yield entry, text, context, scripting, tree, mode, html
-
+        """The pages with the trees, quirks modes and HTML of the peers; those with a `select` have no mode."""
+        others = by_parse5([it for it in self.asked if not has_select(it)])
+        selects = by_browsers([it for it in self.asked if has_select(it)])
+        return (next(selects if has_select(it) else others) for it in self.asked)
     def rows(self):
         """The rows, with the peer's trees."""
         for entry, text, context, scripting, tree, _, _ in self.answers():
             args = ["--tree", *(["--context", context] if context else []), *(["--scripting"] if scripting else [])]
             yield {"entry": entry, "args": args, "markup": text, "output": tree}
+
+
+def has_select(page):
+    """Whether a page has a `select`, and is read without scripting, as the browsers read it."""
+    _, text, context, scripting = page
+    return not scripting and (context == "select" or re.search(r"</?select\b", text) is not None)
+
+
+def by_parse5(asked):
+    """The pages with parse5's answers."""
+    words, behind = [], []
+    for _, text, context, scripting in asked:
+        name = next((it for it in MENDED if f"<{it}" in text or f"</{it}" in text or context == it), None)
+        behind.append(name)
+        if name:
+            text = text.replace(name, MENDED[name])
+            context = MENDED[name] if context == name else context
+        words.append([text, context, scripting])
+    ran = subprocess.run(["node", PEER], input=json.dumps(words), capture_output=True, text=True, check=True, env=node())
+    for (entry, text, context, scripting), name, (tree, mode, html) in zip(asked, behind, json.loads(ran.stdout)):
+        if name:
+            tree = re.sub(rf"(?<=[< ]){MENDED[name]}(?=>)", name, tree)
+        yield entry, text, context, scripting, tree, mode, html
+
+
+def by_browsers(asked):
+    """The pages with the answers of the browsers."""
+    cases = [[text, context] for _, text, context, _ in asked]
+    chromium, firefox = (ask.ask(it, cases) for it in ask.BROWSERS)
+    for (entry, text, context, scripting), one, (tree, html) in zip(asked, chromium, firefox):
+        if one[0] != tree and (text, context) not in DIFFERING:
+            sys.exit(f"the browsers differ: {entry}: {json.dumps(text)} in {context}\n{one[0]}\n{tree}")
+        yield entry, text, context, scripting, tree, None, html
 
 
 def node():
@@ -319,13 +349,13 @@ NOT_CALM = {
     "body": "body head html col frame",
     "head": "p head body",
     "title": "b",
-    "option": "option p",
+    "option": "option optgroup",
     "nobr": "nobr",
     "ruby": "rb rtc",
     "rp": "rt",
     "rt": "rp rt",
     "span": "rt",
-    "select": "p",
+    "select": "select",
 }
 
 

@@ -29,7 +29,7 @@ rare_group Name.Iframe = Group.Iframe
 rare_group Name.Noembed = Group.Noembed
 rare_group Name.Noscript = Group.Noscript
 rare_group Name.Select = Group.Select
-rare_group Name.Optgroup = Group.Option
+rare_group Name.Optgroup = Group.Optgroup
 rare_group Name.Option = Group.Option
 rare_group Name.Rb = Group.RubyBase
 rare_group Name.Rtc = Group.RubyBase
@@ -152,7 +152,6 @@ spoils_frameset Group.Hr = true
 spoils_frameset Group.Textarea = true
 spoils_frameset Group.Xmp = true
 spoils_frameset Group.Iframe = true
-spoils_frameset Group.Select = true
 spoils_frameset _ = false
 
 -- "Reconstruct the active formatting elements, if any", before the element is inserted: for each tag of these groups
@@ -160,9 +159,7 @@ abbrev pub reconstructs : Group → Bool
 reconstructs Group.Object = true
 reconstructs Group.Void = true
 reconstructs Group.Image = true
-reconstructs Group.Input = true
 reconstructs Group.Xmp = true
-reconstructs Group.Select = true
 reconstructs Group.Math = true
 reconstructs Group.Svg = true
 reconstructs _ = false
@@ -196,18 +193,6 @@ is_dropped_end_name Name.Col = true
 is_dropped_end_name Name.Colgroup = true
 is_dropped_end_name Name.Html = true
 is_dropped_end_name _ = false
-
--- "in select in table": the tags that close the `select`
-abbrev pub leaves_select_name : Name → Bool
-leaves_select_name Name.Caption = true
-leaves_select_name Name.Table = true
-leaves_select_name Name.Tbody = true
-leaves_select_name Name.Tfoot = true
-leaves_select_name Name.Thead = true
-leaves_select_name Name.Tr = true
-leaves_select_name Name.Td = true
-leaves_select_name Name.Th = true
-leaves_select_name _ = false
 
 -- the start tags that every mode processes by the rules for "in head"
 abbrev pub is_metadata_name : Name → Bool

@@ -48,10 +48,6 @@ holds_table_text o = is_a_template o || fosters o
 
 -- ---- "reset the insertion mode appropriately"
 
--- for a `select`
-abbrev pub mode_in_select : Bool → Bool → Mode
-mode_in_select last in_table = if last then Mode.InSelect else if in_table then Mode.InSelectInTable else Mode.InSelect
-
 -- for the element `html`
 abbrev pub mode_in_html : Bool → Mode
 mode_in_html has_head = if has_head then Mode.AfterHead else Mode.BeforeHead
@@ -66,7 +62,6 @@ mode_of_others last = if last then Some Mode.InBody else None
 
 -- the mode that an HTML element determines, by its name
 abbrev pub mode_named : Setting → Name → Option Mode
-mode_named s Name.Select = Some (mode_in_select s.is_last s.is_in_table)
 mode_named s Name.Td = Some (mode_unless s.is_last Mode.InCell)
 mode_named s Name.Th = Some (mode_unless s.is_last Mode.InCell)
 mode_named s Name.Tr = Some Mode.InRow

@@ -2,12 +2,12 @@
 use Rattle.std.specs.Prelude.{ℕ, Bool, true, false, ◌&&◌, ◌||◌, not, eqb, List, [], ◌∷◌, length}
 use denote.Enum.Declared.{tag_of}
 use Rattle.page_trees.specs.Popping.{up_to_last}
-use Rattle.page_trees.specs.Sets.{ends_scope, ends_select, is_crossed, is_in_html, is_special_element}
+use Rattle.page_trees.specs.Sets.{ends_scope, is_crossed, is_in_html, is_special_element}
 use Rattle.page_trees.specs.contracts.name.Name.{the_type}
 use Rattle.page_trees.specs.contracts.stack.ElementNamespace.{the_type as the_space}
 use Rattle.page_trees.specs.declared.name.Name.{Name}
 use Rattle.page_trees.specs.declared.sets.Scope.{Scope}
-use Rattle.page_trees.specs.declared.sets.Scope.TheVariants.{Default, ListItem, Button, Table, Select}
+use Rattle.page_trees.specs.declared.sets.Scope.TheVariants.{Default, ListItem, Button, Table}
 use Rattle.page_trees.specs.declared.stack.Open.{Open}
 
 -- "has an element in the specific scope": the elements from the current node outwards
@@ -45,7 +45,6 @@ ends_in Default o = ends_scope o
 ends_in ListItem o = ends_scope o || is_named Name.Ol o || is_named Name.Ul o
 ends_in Button o = ends_scope o || is_named Name.Button o
 ends_in Table o = is_named Name.Html o || is_named Name.Table o || is_named Name.Template o
-ends_in Select o = ends_select o
 
 -- the special elements that end the search for an open list item
 abbrev pub ends_items : Open → Bool

@@ -11,7 +11,7 @@ abbrev pub is_in_html : ElementNamespace → Bool
 is_in_html Html = true
 is_in_html _ = false
 
--- the HTML elements that end every scope but those of tables and of select elements
+-- the HTML elements that end every scope but that of tables
 abbrev pub is_scope_name : Name → Bool
 is_scope_name Name.Applet = true
 is_scope_name Name.Caption = true
@@ -21,6 +21,7 @@ is_scope_name Name.Td = true
 is_scope_name Name.Th = true
 is_scope_name Name.Marquee = true
 is_scope_name Name.Object = true
+is_scope_name Name.Select = true
 is_scope_name Name.Template = true
 is_scope_name _ = false
 
@@ -152,15 +153,6 @@ is_implied_name _ = false
 
 abbrev pub is_implied : Open → Bool
 is_implied o = is_in_html o.ns && is_implied_name o.name
-
--- the HTML elements that do not end the scope of select elements
-abbrev pub is_option_name : Name → Bool
-is_option_name Name.Optgroup = true
-is_option_name Name.Option = true
-is_option_name _ = false
-
-abbrev pub ends_select : Open → Bool
-ends_select o = not (is_in_html o.ns && is_option_name o.name)
 
 -- headings
 abbrev pub is_heading_name : Name → Bool

@@ -196,7 +196,7 @@ impl TreeBuilder {
             Mode::InBody | Mode::InCaption | Mode::InCell | Mode::InTemplate => {
                 self.body_run(Run::Letters, text)
             }
-            Mode::Text | Mode::InSelect | Mode::InSelectInTable => self.put_run(text),
+            Mode::Text => self.put_run(text),
             Mode::InTable | Mode::InTableBody | Mode::InRow => self.table_run(Run::Letters, text),
             Mode::InTableText => self.pending_run(Run::Letters, text),
             _ => self.leave_mode(),
@@ -205,13 +205,8 @@ impl TreeBuilder {
 
     fn nulls(&mut self, text: &str) -> Next {
         match self.mode {
-            Mode::InBody
-            | Mode::InCaption
-            | Mode::InCell
-            | Mode::InTemplate
-            | Mode::InTableText
-            | Mode::InSelect
-            | Mode::InSelectInTable => Next::Done,
+            Mode::InBody | Mode::InCaption | Mode::InCell | Mode::InTemplate | Mode::InTableText =>
+                Next::Done,
             Mode::InTable | Mode::InTableBody | Mode::InRow => self.table_run(Run::Nulls, text),
             _ => self.leave_mode(),
         }

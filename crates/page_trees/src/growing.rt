@@ -143,6 +143,14 @@ impl GrowingTree {
         self.context
     }
 
+    /// Returns whether the context element of a fragment is an HTML element with that name.
+    pub fn is_context(&self, name: Name) -> bool {
+        match self.context {
+            Some(context) => context.is_html(name),
+            None => false,
+        }
+    }
+
     /// Returns the element at an index of the stack; in a fragment, the context element replaces
     /// the outermost one.
     pub fn adjusted_current_node(&self, place: usize) -> Option<Open> {

@@ -10,7 +10,7 @@ mod body_ends;
 pub mod groups;
 mod head;
 mod resetting;
-mod select;
+mod select_tags;
 mod tables;
 mod template;
 
@@ -91,8 +91,6 @@ impl TreeBuilder {
             Mode::InTableBody => self.table_body_tag(name, tag),
             Mode::InRow => self.row_tag(name, tag),
             Mode::InCell => self.cell_tag(name, tag),
-            Mode::InSelect => self.select_tag(name, tag),
-            Mode::InSelectInTable => self.select_in_table_tag(name, tag),
             Mode::InTemplate => self.template_tag(name, tag),
             _ => self.outer_tag(name, tag),
         }

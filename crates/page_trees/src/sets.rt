@@ -2,8 +2,7 @@
 
 ghost use Rattle.std.specs.Prelude.{◌≡◌};
 ghost use Rattle.page_trees.specs.Foreign.{ends_foreign_name};
-ghost use Rattle.page_trees.specs.Sets.{ends_context, ends_scope};
-ghost use Rattle.page_trees.specs.Sets.{ends_select, is_a_heading, is_crossed};
+ghost use Rattle.page_trees.specs.Sets.{ends_context, ends_scope, is_a_heading, is_crossed};
 ghost use Rattle.page_trees.specs.Sets.{is_implied, is_special_element, is_special_name_of_html};
 
 use crate::name::Name;
@@ -16,7 +15,6 @@ pub enum Scope {
     ListItem,
     Button,
     Table,
-    Select,
 }
 
 pub fn is_heading(element: &Open) -> bool
@@ -43,6 +41,7 @@ pub fn ends_default_scope(element: &Open) -> bool
                 | Name::Th
                 | Name::Marquee
                 | Name::Object
+                | Name::Select
                 | Name::Template
         ),
         ElementNamespace::MathMl => matches!(
@@ -54,13 +53,6 @@ pub fn ends_default_scope(element: &Open) -> bool
             Name::Foreignobject | Name::Desc | Name::Title
         ),
     }
-}
-
-/// Returns whether the element ends the select scope.
-pub fn ends_select_scope(element: &Open) -> bool
-    ensures { result ≡ ends_select element.now }
-{
-    !(element.ns == ElementNamespace::Html && matches!(element.name, Name::Optgroup | Name::Option))
 }
 
 /// The contexts to which the stack is cleared in a table: a table, a table section or a row. A

@@ -9,7 +9,7 @@ ghost use Rattle.page_trees.specs.Popping.{first_from, up_to_last};
 ghost use Rattle.page_trees.specs.Scopes.{ends_in, has_in_scope, has_name, is_among, is_named};
 ghost use Rattle.page_trees.specs.Scopes.{is_named_like, last_place};
 ghost use Rattle.page_trees.specs.SearchIndex.{IsIndex, IsIndexed, is_sought};
-ghost use Rattle.page_trees.specs.Sets.{ends_context, ends_scope, ends_select, has_html_content};
+ghost use Rattle.page_trees.specs.Sets.{ends_context, ends_scope, has_html_content};
 ghost use Rattle.page_trees.specs.Sets.{is_in_html, is_special_element};
 ghost use Rattle.page_trees.specs.declared.stack.Open.{Open as AnOpen};
 
@@ -19,7 +19,7 @@ mod others;
 
 use crate::fault::PageFault;
 use crate::name::Name;
-use crate::sets::{Scope, TableContext, ends_select_scope, is_special};
+use crate::sets::{Scope, TableContext, is_special};
 use dom_nodes::node_id::NodeId;
 use marks::{Marks, Sought, key_for, key_of};
 use others::OtherNames;
@@ -455,23 +455,7 @@ impl OpenElements {
                 let top = self.top(Name::Html);
                 top.max(self.top(Name::Table)).max(self.top(Name::Template))
             }
-            Scope::Select => self.select_scope_end(),
         }
-    }
-
-    /// Returns one more than the index of the last element that ends the select scope, or 0. That
-    /// is any element but `option` and `optgroup`.
-    fn select_scope_end(&self) -> usize
-        ensures { result ≡ last_place ends_select self.now.elements.items }
-    {
-        let mut rest = self.elements.as_slice();
-        while let Some((element, below)) = rest.split_last() {
-            if ends_select_scope(element) {
-                return rest.len();
-            }
-            rest = below;
-        }
-        0
     }
 
     /// Returns whether the element at an index is in scope.
@@ -558,14 +542,5 @@ impl OpenElements {
             rest = others;
         }
         None
-    }
-
-    /// Returns whether a table was opened after the last open template.
-    pub fn is_in_table(&self) -> bool
-        ensures { let elements = self.now.elements.items in IsIndexed self.now → IsTrue result ↔
-            (last_place (is_named Name.Template) elements <
-            last_place (is_named Name.Table) elements) }
-    {
-        self.top(Name::Template) < self.top(Name::Table)
     }
 }

@@ -1,7 +1,7 @@
 // hostile.js PROGRAM COUNT SEED: random hostile fragments are cleaned by the program (or, where PROGRAM is "model", by the
 // model alone). Each text has to be the model's, and parse5 has to read it as itself: as a page, and in a div, body, td and li,
 // with scripts on and off. NODE_PATH has to name a folder with parse5 7.1.2 as ../mend_trees.py mends it, and /usr/share/nodejs
-// for what it uses: without the mending, parse5 drops an `hr` in a `select`, and reads a `noframes` in a body as markup.
+// for what it uses: without the mending, parse5 reads a `noframes` in a body as markup.
 "use strict";
 const { spawnSync } = require("child_process");
 const parse5 = require("parse5");

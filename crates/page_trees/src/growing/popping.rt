@@ -40,23 +40,6 @@ impl GrowingTree {
         }
     }
 
-    /// Closes the open `option` and `optgroup`.
-    pub fn pop_options(&mut self) {
-        self.pop_if(Name::Option);
-        self.pop_if(Name::Optgroup);
-    }
-
-    /// Closes the open `optgroup`, and an `option` in it.
-    pub fn end_optgroup(&mut self) {
-        if self.stack.current_is(Name::Option)
-            && let Some(open) = self.stack.get(self.stack.len().saturating_sub(2))
-            && open.is_html(Name::Optgroup)
-        {
-            self.pop();
-        }
-        self.pop_if(Name::Optgroup);
-    }
-
     /// Returns which element an end tag in foreign content closes.
     pub fn foreign_end(&self, name: Name, written: &str) -> ForeignEnd {
         let html = self.stack.top_html();

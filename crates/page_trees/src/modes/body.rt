@@ -2,7 +2,6 @@
 
 use super::groups::{Group, group_of};
 use super::is_start;
-use crate::attributes::is_hidden;
 use crate::builder::{Mode, Next, TreeBuilder};
 use crate::name::Name;
 use crate::sets::{Scope, is_heading};
@@ -59,11 +58,13 @@ impl TreeBuilder {
                 Next::Done
             }
             Group::Table => self.start_table(tag),
-            Group::Void | Group::Param | Group::Hr => self.insert_void(name, tag),
+            Group::Void | Group::Param => self.insert_void(name, tag),
+            Group::Hr => self.start_hr(tag),
             Group::Image => self.insert_void(Name::Img, tag),
             Group::Input => self.start_input(tag),
             Group::Select => self.start_select(tag),
-            Group::Option => self.start_option(name, tag),
+            Group::Optgroup => self.start_option(name, tag, None),
+            Group::Option => self.start_option(name, tag, Some(Name::Optgroup)),
             Group::RubyBase => self.start_ruby(name, tag, None),
             Group::RubyText => self.start_ruby(name, tag, Some(Name::Rtc)),
             Group::Math => self.insert_foreign(ElementNamespace::MathMl, name, tag),
@@ -176,28 +177,6 @@ impl TreeBuilder {
             self.tree.close(Name::P, Scope::Button);
         }
         self.insert_then(Name::Table, tag, Mode::InTable)
-    }
-
-    fn start_input(&mut self, tag: &Tag) -> Next {
-        if !is_hidden(tag) {
-            self.frameset_ok = false;
-        }
-        self.insert_void(Name::Input, tag)
-    }
-
-    fn start_select(&mut self, tag: &Tag) -> Next {
-        let mode = match self.mode {
-            Mode::InTable | Mode::InCaption | Mode::InTableBody | Mode::InRow | Mode::InCell => {
-                Mode::InSelectInTable
-            }
-            _ => Mode::InSelect,
-        };
-        self.insert_then(Name::Select, tag, mode)
-    }
-
-    fn start_option(&mut self, name: Name, tag: &Tag) -> Next {
-        self.tree.pop_if(Name::Option);
-        self.insert_inline(name, tag)
     }
 
     fn start_ruby(&mut self, name: Name, tag: &Tag, except: Option<Name>) -> Next {

@@ -17,9 +17,8 @@ impl TreeBuilder {
                 Next::Done
             }
             Group::Html => self.end_html(),
-            Group::Block | Group::Button | Group::Pre | Group::Description => {
-                self.end_in(Scope::Default, name)
-            }
+            Group::Block | Group::Button | Group::Pre | Group::Description | Group::Select =>
+                self.end_in(Scope::Default, name),
             Group::Form => self.end_form(),
             Group::P => self.end_p(),
             Group::Li => self.end_in(Scope::ListItem, name),

@@ -43,6 +43,7 @@ pub enum Group {
     Noembed,
     Noscript,
     Select,
+    Optgroup,
     Option,
     RubyBase,
     RubyText,
@@ -88,7 +89,6 @@ impl Group {
                 | Group::Textarea
                 | Group::Xmp
                 | Group::Iframe
-                | Group::Select
         )
     }
 
@@ -99,14 +99,7 @@ impl Group {
     {
         matches!(
             self,
-            Group::Object
-                | Group::Void
-                | Group::Image
-                | Group::Input
-                | Group::Xmp
-                | Group::Select
-                | Group::Math
-                | Group::Svg
+            Group::Object | Group::Void | Group::Image | Group::Xmp | Group::Math | Group::Svg
         )
     }
 }
@@ -183,7 +176,8 @@ fn rare_group_of(name: Name) -> Group
         Name::Noembed => Group::Noembed,
         Name::Noscript => Group::Noscript,
         Name::Select => Group::Select,
-        Name::Optgroup | Name::Option => Group::Option,
+        Name::Optgroup => Group::Optgroup,
+        Name::Option => Group::Option,
         Name::Rb | Name::Rtc => Group::RubyBase,
         Name::Rp | Name::Rt => Group::RubyText,
         Name::Math => Group::Math,

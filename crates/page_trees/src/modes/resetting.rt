@@ -1,7 +1,7 @@
 //! Resetting the insertion mode appropriately (13.2.4.1).
 
 ghost use Rattle.std.specs.Prelude.{◌≡◌};
-ghost use Rattle.page_trees.specs.Modes.{mode_for, mode_in_html, mode_in_select, mode_named};
+ghost use Rattle.page_trees.specs.Modes.{mode_for, mode_in_html, mode_named};
 ghost use Rattle.page_trees.specs.Modes.{mode_of_others, mode_unless};
 
 use crate::builder::{Mode, TreeBuilder};
@@ -9,8 +9,7 @@ use crate::name::Name;
 use crate::stack::{ElementNamespace, Open};
 
 /// The elements that determine a mode. The outermost open element always determines one.
-const ASKING: [Name; 15] = [
-    Name::Select,
+const ASKING: [Name; 14] = [
     Name::Td,
     Name::Th,
     Name::Tr,
@@ -46,7 +45,6 @@ impl TreeBuilder {
         let element = self.tree.adjusted_current_node(place)?;
         let setting = Setting {
             is_last: place == 0,
-            is_in_table: self.tree.open().is_in_table(),
             has_head: self.tree.has_head(),
             template_mode: self.template_mode(),
         };
@@ -67,8 +65,6 @@ impl TreeBuilder {
 struct Setting {
     /// Whether the element is the outermost one, or the context element of a fragment.
     is_last: bool,
-    /// Whether a table was opened after the last open template.
-    is_in_table: bool,
     /// Whether the head element pointer is set.
     has_head: bool,
     /// The current template insertion mode.
@@ -76,7 +72,7 @@ struct Setting {
 }
 
 impl Setting {
-    /// Returns the mode that an element determines, if any (steps 4 to 16).
+    /// Returns the mode that an element determines, if any (steps 4 to 15).
     fn mode_for(self, element: &Open) -> Option<Mode>
         ensures { result ≡ mode_for self element.now }
     {
@@ -91,7 +87,6 @@ impl Setting {
         ensures { result ≡ mode_named self name }
     {
         match name {
-            Name::Select => Some(self.select_mode()),
             Name::Td | Name::Th => Some(self.unless_last(Mode::InCell)),
             Name::Tr => Some(Mode::InRow),
             Name::Tbody | Name::Thead | Name::Tfoot => Some(Mode::InTableBody),
@@ -115,20 +110,6 @@ impl Setting {
             Mode::AfterHead
         } else {
             Mode::BeforeHead
-        }
-    }
-
-    /// Returns the mode for an open `select`.
-    fn select_mode(self) -> Mode
-        ensures { result ≡ mode_in_select self.is_last self.is_in_table }
-    {
-        if self.is_last {
-            return Mode::InSelect;
-        }
-        if self.is_in_table {
-            Mode::InSelectInTable
-        } else {
-            Mode::InSelect
         }
     }
 

@@ -31,6 +31,3 @@ returns-in-Table c is =
     let two : last_place (ends_in Table) all ≡ max (last_place (λ o. is_named Name.Html o || is_named Name.Table o) all) (last_place (is_named Name.Template) all) = last_place_or (λ o. is_named Name.Html o || is_named Name.Table o) (is_named Name.Template) all in
     let one : last_place (λ o. is_named Name.Html o || is_named Name.Table o) all ≡ max (last_place (is_named Name.Html) all) (last_place (is_named Name.Table) all) = last_place_or (is_named Name.Html) (is_named Name.Table) all in
     omega (arith, scope, two, one, c.top-top.ensures is, c.top-in-Table.ensures is, c.top-in-Table-2.ensures is, c.max-in-Table.ensures, c.max-in-Table-2.ensures)
-
-pub returns-in-Select : goal.returns-in-Select
-returns-in-Select c is = c.select_scope_end.ensures ∙ ap (λ s. last_place (ends_in s) c.args.self.now.elements.items) (sym c.in-Select.is)
