@@ -9,7 +9,7 @@ import sys
 sys.dont_write_bytecode = True
 import edits  # noqa: E402
 
-FIRST = {"dom_nodes", "dom_links", "dom_trees", "page_trees", "dom_clean", "hq_pages"}
+FIRST = {"dom_nodes", "dom_links", "dom_trees", "page_tokens", "page_trees", "dom_clean", "hq_pages"}
 
 
 def has(owner, call, *names):
