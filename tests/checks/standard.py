@@ -21,7 +21,7 @@ KINDS = ("start", "end", "comment", "doctype")
 def stale(path, text):
     """Whether the file of the crate isn't the one that is made from the tables."""
     file = definitions.CRATE / path
-    return f"{file.relative_to(ROOT)} isn't what tests/standard/definitions.py makes" if file.read_text(encoding="utf-8") != text else None
+    return f"{file.relative_to(ROOT)} isn't what tests/standard/definitions.py makes" if not definitions.sheets.same(text, file) else None
 
 
 def rows():

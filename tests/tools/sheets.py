@@ -3,7 +3,8 @@
     sheets.py FILE ..   lays the files out anew
 
 A line is broken where its parentheses are nested least: before an operator, after an arrow, an equals sign or a semicolon, or else at a
-space. What follows is indented by four columns more. A list of imports becomes several. The generators of definitions call `laid_out`."""
+space. What follows is indented by four columns more. A list of imports becomes several. Run `rt fmt` afterwards. The generators of
+definitions call `laid_out`, and their checks `same`."""
 import pathlib
 import re
 import sys
@@ -83,6 +84,17 @@ def laid_out(text, width):
         else:
             made += in_lines(line, width)
     return "\n".join(made)
+
+
+def same(made, file):
+    """Whether the file has what was made, whatever the layout that `rt fmt` has given it: it may indent otherwise, break more lines and
+    end a list in parentheses with a comma."""
+    return squeezed(made) == squeezed(file.read_text(encoding="utf-8"))
+
+
+def squeezed(text):
+    """A text without white space and without commas before a closing parenthesis."""
+    return re.sub(r",(?=[)\]])", "", "".join(text.split()))
 
 
 def main():

@@ -114,7 +114,7 @@ pub record IsCalmDocument (trees : ValueTrees) : Type 0 where
   pub body : ValueTrees
   pub is : trees ≡ doctype_node (codes "html") [] [] (element_node (codes "html") html_attributes
       (element_node (codes "head") head_attributes head (behind_text space (element_node (codes "body") body_attributes body no_trees)))
-          no_trees)
+      no_trees)
   pub calm : are_calm top trees ≡ true
 
 -- whether there is such a node, and it is an element

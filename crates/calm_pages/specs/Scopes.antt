@@ -24,4 +24,4 @@ scope_at is_first scope = if is_first then scope else behind scope
 abbrev pub next_scope : List Scope → Option ℕ → NodeData → Option Scope
 next_scope scopes parent content =
     option_and_then (λ p. option_and_then (λ scope. scope_below (scope_at (p + 1 == length scopes) scope) content) (slice_get scopes p))
-        parent
+    parent

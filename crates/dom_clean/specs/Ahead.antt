@@ -90,7 +90,7 @@ with_row (Some n) place entries = Row n place ∷ entries
 abbrev pub with_below : Fate → NodeData → ℕ → Option ℕ → Place → List Entry → List Entry
 with_below Stays (AnElement element) n below place entries =
     if is_among element.name.local void_names then entries
-        else with_row below (place_below Stays place (AnElement element)) (End n ∷ entries)
+    else with_row below (place_below Stays place (AnElement element)) (End n ∷ entries)
 with_below Unwrapped content n below place entries = with_row below place entries
 with_below fate content n below place entries = entries
 

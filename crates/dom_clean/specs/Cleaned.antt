@@ -54,7 +54,7 @@ abbrev pub left_of : Policy → Fate → NodeData → ValueTrees → ValueTrees
 left_of policy Stays (Text contents) below = behind_text (spellable contents) no_trees
 left_of policy Stays (AnElement element) below =
     element_node element.name.local (cleaned_attrs policy element)
-        (if is_among element.name.local void_names then no_trees else held_by (kind_of element.name.local) below) no_trees
+    (if is_among element.name.local void_names then no_trees else held_by (kind_of element.name.local) below) no_trees
 left_of policy Unwrapped content below = below
 left_of policy fate content below = no_trees
 

@@ -111,7 +111,7 @@ is_data_name name = starts_with nat_eq name (codes "data-") && list_all is_simpl
 abbrev pub has_attribute : Policy → List ℕ → List ℕ → List ℕ → Bool
 has_attribute policy element name value =
     is_among name policy.attributes
-        || ((policy.data_attributes && is_data_name name) || list_any (is_own element name value) policy.own_attributes)
+    || ((policy.data_attributes && is_data_name name) || list_any (is_own element name value) policy.own_attributes)
 
 abbrev pub with_name : List ℕ → Option (List ℕ) → List Attribute
 with_name name None = []
@@ -165,7 +165,7 @@ is_dropped policy element = is_some element.template_contents || is_unseen (kind
 abbrev pub may_stay : Policy → Place → Element → Bool
 may_stay policy place element =
     is_html element.name.ns && is_among element.name.local policy.elements && admits place.scope (kind_of element.name.local)
-        && nat_lt 0 place.left
+    && nat_lt 0 place.left
 
 abbrev pub text_fate : Place → List ℕ → Fate
 text_fate place contents = if may_hold_text place.scope.parent (spellable contents) then Stays else Vanishes

@@ -46,7 +46,7 @@ abbrev pub AreTidyAttributes : List Attribute → Type 0
 AreTidyAttributes [] = Unit {0}
 AreTidyAttributes (attribute ∷ later) =
     IsPlainName attribute.name × Front attribute.name × IsWritable attribute.value × (has_name attribute.name later ≡ false)
-        × AreTidyAttributes later
+    × AreTidyAttributes later
 
 -- texts, and elements that are read as markup; void elements have no children
 abbrev pub AreTidy : ValueTrees → Type 0
@@ -56,4 +56,4 @@ AreTidy (comment_node contents later) = ⊥
 AreTidy (doctype_node name public system later) = ⊥
 AreTidy (element_node name attributes children later) =
     (IsMarkupName name × IsQuietName name) × AreTidyAttributes attributes × (is_among name void_names ≡ true → children ≡ no_trees)
-        × AreTidy children × AreTidy later
+    × AreTidy children × AreTidy later

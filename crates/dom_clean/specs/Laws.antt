@@ -46,7 +46,7 @@ AreAllowed policy (comment_node contents later) = ⊥
 AreAllowed policy (doctype_node name public system later) = ⊥
 AreAllowed policy (element_node name attributes children later) =
     (is_among name policy.elements ≡ true) × AreAllowedAttributes policy name attributes × AreAllowed policy children
-        × AreAllowed policy later
+    × AreAllowed policy later
 
 -- all that is left is allowed, and calm
 pub record IsCleaned (policy : Policy) (place : Place) (trees : ValueTrees) : Type 0 where
@@ -72,7 +72,7 @@ utf8_meta = element_node (codes "meta") (record { name = codes "charset"; value 
 abbrev pub page_of : ValueTrees → ValueTrees
 page_of body =
     doctype_node (codes "html") [] []
-        (element_node (codes "html") [] (element_node (codes "head") [] utf8_meta (element_node (codes "body") [] body no_trees)) no_trees)
+    (element_node (codes "html") [] (element_node (codes "head") [] utf8_meta (element_node (codes "body") [] body no_trees)) no_trees)
 
 -- the text is that of trees that are allowed, and the page around it is read as exactly these
 pub record IsSafe (policy : Policy) (text : List ℕ) (trees : ValueTrees) : Type 0 where

@@ -252,51 +252,136 @@ verbatim_names = (as_raw (codes "script") refl (raw_text (codes "script")), (as_
 
 phrase_names : Each (Meets Phrase) (names_of Phrase)
 unfolding names_of void_names raw_names text_names
-phrase_names =
-    (as_phrase (codes "abbr") refl,
-    (as_phrase (codes "acronym") refl,
-    (as_void (codes "area") refl refl,
-    (as_phrase (codes "audio") refl,
-    (as_formatting (codes "b") refl,
-    (as_phrase (codes "bdi") refl,
-    (as_phrase (codes "bdo") refl,
-    (as_formatting (codes "big") refl,
-    (as_void (codes "br") refl refl,
-    (as_phrase (codes "canvas") refl,
-    (as_phrase (codes "cite") refl,
-    (as_formatting (codes "code") refl,
-    (as_phrase (codes "data") refl,
-    (as_phrase (codes "datalist") refl,
-    (as_phrase (codes "del") refl,
-    (as_phrase (codes "dfn") refl,
-    (as_formatting (codes "em") refl,
-    (as_void (codes "embed") refl refl,
-    (as_formatting (codes "font") refl,
-    (as_formatting (codes "i") refl,
-    (as_void (codes "img") refl refl,
-    (as_input (codes "input") refl refl,
-    (as_phrase (codes "ins") refl,
-    (as_phrase (codes "kbd") refl,
-    (as_phrase (codes "label") refl,
-    (as_phrase (codes "legend") refl,
-    (as_phrase (codes "map") refl,
-    (as_phrase (codes "mark") refl,
-    (as_phrase (codes "meter") refl,
-    (as_phrase (codes "output") refl,
-    (as_phrase (codes "picture") refl,
-    (as_phrase (codes "progress") refl,
-    (as_phrase (codes "q") refl,
-    (as_formatting (codes "s") refl,
-    (as_phrase (codes "samp") refl,
-    (as_phrase (codes "slot") refl,
-    (as_formatting (codes "small") refl,
-    (as_source (codes "source") refl refl,
-    (as_phrase (codes "span") refl,
-    (as_formatting (codes "strike") refl,
-    (as_formatting (codes "strong") refl,
-    (as_phrase (codes "sub") refl,
-    (as_phrase (codes "sup") refl,
-    (as_phrase (codes "time") refl, (as_source (codes "track") refl refl, (as_formatting (codes "tt") refl, (as_formatting (codes "u") refl, (as_phrase (codes "var") refl, (as_phrase (codes "video") refl, (as_void (codes "wbr") refl refl, tt))))))))))))))))))))))))))))))))))))))))))))))))))
+phrase_names = (
+  as_phrase (codes "abbr") refl,
+  (
+    as_phrase (codes "acronym") refl,
+    (
+      as_void (codes "area") refl refl,
+      (
+        as_phrase (codes "audio") refl,
+        (
+          as_formatting (codes "b") refl,
+          (
+            as_phrase (codes "bdi") refl,
+            (
+              as_phrase (codes "bdo") refl,
+              (
+                as_formatting (codes "big") refl,
+                (
+                  as_void (codes "br") refl refl,
+                  (
+                    as_phrase (codes "canvas") refl,
+                    (
+                      as_phrase (codes "cite") refl,
+                      (
+                        as_formatting (codes "code") refl,
+                        (
+                          as_phrase (codes "data") refl,
+                          (
+                            as_phrase (codes "datalist") refl,
+                            (
+                              as_phrase (codes "del") refl,
+                              (
+                                as_phrase (codes "dfn") refl,
+                                (
+                                  as_formatting (codes "em") refl,
+                                  (
+                                    as_void (codes "embed") refl refl,
+                                    (
+                                      as_formatting (codes "font") refl,
+                                      (
+                                        as_formatting (codes "i") refl,
+                                        (
+                                          as_void (codes "img") refl refl,
+                                          (
+                                            as_input (codes "input") refl refl,
+                                            (
+                                              as_phrase (codes "ins") refl,
+                                              (
+                                                as_phrase (codes "kbd") refl,
+                                                (
+                                                  as_phrase (codes "label") refl,
+                                                  (
+                                                    as_phrase (codes "legend") refl,
+                                                    (
+                                                      as_phrase (codes "map") refl,
+                                                      (
+                                                        as_phrase (codes "mark") refl,
+                                                        (
+                                                          as_phrase (codes "meter") refl,
+                                                          (
+                                                            as_phrase (codes "output") refl,
+                                                            (
+                                                              as_phrase (codes "picture") refl,
+                                                              (
+                                                                as_phrase (codes "progress") refl,
+                                                                (
+                                                                  as_phrase (codes "q") refl,
+                                                                  (
+                                                                    as_formatting (codes "s") refl,
+                                                                    (
+                                                                      as_phrase (codes "samp") refl,
+                                                                      (
+                                                                        as_phrase (codes "slot") refl,
+                                                                        (
+                                                                          as_formatting (codes "small") refl,
+                                                                          (
+                                                                            as_source (codes "source") refl refl,
+                                                                            (
+                                                                              as_phrase (codes "span") refl,
+                                                                              (
+                                                                                as_formatting (codes "strike") refl,
+                                                                                (
+                                                                                  as_formatting (codes "strong") refl,
+                                                                                  (
+                                                                                    as_phrase (codes "sub") refl,
+                                                                                    (
+                                                                                      as_phrase (codes "sup") refl,
+                                                                                      (as_phrase (codes "time") refl, (as_source (codes "track") refl refl, (as_formatting (codes "tt") refl, (as_formatting (codes "u") refl, (as_phrase (codes "var") refl, (as_phrase (codes "video") refl, (as_void (codes "wbr") refl refl, tt))))))),
+                                                                                    ),
+                                                                                  ),
+                                                                                ),
+                                                                              ),
+                                                                            ),
+                                                                          ),
+                                                                        ),
+                                                                      ),
+                                                                    ),
+                                                                  ),
+                                                                ),
+                                                              ),
+                                                            ),
+                                                          ),
+                                                        ),
+                                                      ),
+                                                    ),
+                                                  ),
+                                                ),
+                                              ),
+                                            ),
+                                          ),
+                                        ),
+                                      ),
+                                    ),
+                                  ),
+                                ),
+                              ),
+                            ),
+                          ),
+                        ),
+                      ),
+                    ),
+                  ),
+                ),
+              ),
+            ),
+          ),
+        ),
+      ),
+    ),
+  ),
+)
 
 anchor_names : Each (Meets Anchor) (names_of Anchor)
 unfolding names_of void_names raw_names text_names
@@ -312,20 +397,43 @@ paragraph_names = (as_paragraph (codes "p") refl, tt)
 
 block_names : Each (Meets Block) (names_of Block)
 unfolding names_of void_names raw_names text_names
-block_names =
-    (as_block (codes "address") refl,
-    (as_block (codes "article") refl,
-    (as_block (codes "aside") refl,
-    (as_block (codes "blockquote") refl,
-    (as_block (codes "center") refl,
-    (as_block (codes "details") refl,
-    (as_block (codes "dialog") refl,
-    (as_block (codes "div") refl,
-    (as_block (codes "fieldset") refl,
-    (as_block (codes "figcaption") refl,
-    (as_block (codes "figure") refl,
-    (as_block (codes "footer") refl,
-    (as_block (codes "header") refl, (as_block (codes "hgroup") refl, (as_break (codes "hr") refl refl, (as_block (codes "main") refl, (as_block (codes "nav") refl, (as_block (codes "search") refl, (as_block (codes "section") refl, (as_block (codes "summary") refl, tt))))))))))))))))))))
+block_names = (
+  as_block (codes "address") refl,
+  (
+    as_block (codes "article") refl,
+    (
+      as_block (codes "aside") refl,
+      (
+        as_block (codes "blockquote") refl,
+        (
+          as_block (codes "center") refl,
+          (
+            as_block (codes "details") refl,
+            (
+              as_block (codes "dialog") refl,
+              (
+                as_block (codes "div") refl,
+                (
+                  as_block (codes "fieldset") refl,
+                  (
+                    as_block (codes "figcaption") refl,
+                    (
+                      as_block (codes "figure") refl,
+                      (
+                        as_block (codes "footer") refl,
+                        (as_block (codes "header") refl, (as_block (codes "hgroup") refl, (as_break (codes "hr") refl refl, (as_block (codes "main") refl, (as_block (codes "nav") refl, (as_block (codes "search") refl, (as_block (codes "section") refl, (as_block (codes "summary") refl, tt)))))))),
+                      ),
+                    ),
+                  ),
+                ),
+              ),
+            ),
+          ),
+        ),
+      ),
+    ),
+  ),
+)
 
 heading_names : Each (Meets Heading) (names_of Heading)
 unfolding names_of void_names raw_names text_names

@@ -53,62 +53,158 @@ metadata_known =
 
 verbatim_known : Each Known (names_of Verbatim)
 unfolding names_of kind_of chars void_names raw_names encode
-verbatim_known =
-    (record { ascii = refl; ends = refl; utf8 = (codes "script", (refl, refl)); read = inr (refl, refl) },
-    (record { ascii = refl; ends = refl; utf8 = (codes "style", (refl, refl)); read = inr (refl, refl) }, (record { ascii = refl; ends = refl; utf8 = (codes "title", (refl, refl)); read = inl refl }, tt)))
+verbatim_known = (
+  record { ascii = refl; ends = refl; utf8 = (codes "script", (refl, refl)); read = inr (refl, refl) },
+  (record { ascii = refl; ends = refl; utf8 = (codes "style", (refl, refl)); read = inr (refl, refl) }, (record { ascii = refl; ends = refl; utf8 = (codes "title", (refl, refl)); read = inl refl }, tt)),
+)
 
 phrase_known : Each Known (names_of Phrase)
 unfolding names_of kind_of chars void_names raw_names encode
-phrase_known =
-    (record { ascii = refl; ends = refl; utf8 = (codes "abbr", (refl, refl)); read = inl refl },
-    (record { ascii = refl; ends = refl; utf8 = (codes "acronym", (refl, refl)); read = inl refl },
-    (record { ascii = refl; ends = refl; utf8 = (codes "area", (refl, refl)); read = inl refl },
-    (record { ascii = refl; ends = refl; utf8 = (codes "audio", (refl, refl)); read = inl refl },
-    (record { ascii = refl; ends = refl; utf8 = (codes "b", (refl, refl)); read = inl refl },
-    (record { ascii = refl; ends = refl; utf8 = (codes "bdi", (refl, refl)); read = inl refl },
-    (record { ascii = refl; ends = refl; utf8 = (codes "bdo", (refl, refl)); read = inl refl },
-    (record { ascii = refl; ends = refl; utf8 = (codes "big", (refl, refl)); read = inl refl },
-    (record { ascii = refl; ends = refl; utf8 = (codes "br", (refl, refl)); read = inl refl },
-    (record { ascii = refl; ends = refl; utf8 = (codes "canvas", (refl, refl)); read = inl refl },
-    (record { ascii = refl; ends = refl; utf8 = (codes "cite", (refl, refl)); read = inl refl },
-    (record { ascii = refl; ends = refl; utf8 = (codes "code", (refl, refl)); read = inl refl },
-    (record { ascii = refl; ends = refl; utf8 = (codes "data", (refl, refl)); read = inl refl },
-    (record { ascii = refl; ends = refl; utf8 = (codes "datalist", (refl, refl)); read = inl refl },
-    (record { ascii = refl; ends = refl; utf8 = (codes "del", (refl, refl)); read = inl refl },
-    (record { ascii = refl; ends = refl; utf8 = (codes "dfn", (refl, refl)); read = inl refl },
-    (record { ascii = refl; ends = refl; utf8 = (codes "em", (refl, refl)); read = inl refl },
-    (record { ascii = refl; ends = refl; utf8 = (codes "embed", (refl, refl)); read = inl refl },
-    (record { ascii = refl; ends = refl; utf8 = (codes "font", (refl, refl)); read = inl refl },
-    (record { ascii = refl; ends = refl; utf8 = (codes "i", (refl, refl)); read = inl refl },
-    (record { ascii = refl; ends = refl; utf8 = (codes "img", (refl, refl)); read = inl refl },
-    (record { ascii = refl; ends = refl; utf8 = (codes "input", (refl, refl)); read = inl refl },
-    (record { ascii = refl; ends = refl; utf8 = (codes "ins", (refl, refl)); read = inl refl },
-    (record { ascii = refl; ends = refl; utf8 = (codes "kbd", (refl, refl)); read = inl refl },
-    (record { ascii = refl; ends = refl; utf8 = (codes "label", (refl, refl)); read = inl refl },
-    (record { ascii = refl; ends = refl; utf8 = (codes "legend", (refl, refl)); read = inl refl },
-    (record { ascii = refl; ends = refl; utf8 = (codes "map", (refl, refl)); read = inl refl },
-    (record { ascii = refl; ends = refl; utf8 = (codes "mark", (refl, refl)); read = inl refl },
-    (record { ascii = refl; ends = refl; utf8 = (codes "meter", (refl, refl)); read = inl refl },
-    (record { ascii = refl; ends = refl; utf8 = (codes "output", (refl, refl)); read = inl refl },
-    (record { ascii = refl; ends = refl; utf8 = (codes "picture", (refl, refl)); read = inl refl },
-    (record { ascii = refl; ends = refl; utf8 = (codes "progress", (refl, refl)); read = inl refl },
-    (record { ascii = refl; ends = refl; utf8 = (codes "q", (refl, refl)); read = inl refl },
-    (record { ascii = refl; ends = refl; utf8 = (codes "s", (refl, refl)); read = inl refl },
-    (record { ascii = refl; ends = refl; utf8 = (codes "samp", (refl, refl)); read = inl refl },
-    (record { ascii = refl; ends = refl; utf8 = (codes "slot", (refl, refl)); read = inl refl },
-    (record { ascii = refl; ends = refl; utf8 = (codes "small", (refl, refl)); read = inl refl },
-    (record { ascii = refl; ends = refl; utf8 = (codes "source", (refl, refl)); read = inl refl },
-    (record { ascii = refl; ends = refl; utf8 = (codes "span", (refl, refl)); read = inl refl },
-    (record { ascii = refl; ends = refl; utf8 = (codes "strike", (refl, refl)); read = inl refl },
-    (record { ascii = refl; ends = refl; utf8 = (codes "strong", (refl, refl)); read = inl refl },
-    (record { ascii = refl; ends = refl; utf8 = (codes "sub", (refl, refl)); read = inl refl },
-    (record { ascii = refl; ends = refl; utf8 = (codes "sup", (refl, refl)); read = inl refl },
-    (record { ascii = refl; ends = refl; utf8 = (codes "time", (refl, refl)); read = inl refl },
-    (record { ascii = refl; ends = refl; utf8 = (codes "track", (refl, refl)); read = inl refl },
-    (record { ascii = refl; ends = refl; utf8 = (codes "tt", (refl, refl)); read = inl refl },
-    (record { ascii = refl; ends = refl; utf8 = (codes "u", (refl, refl)); read = inl refl },
-    (record { ascii = refl; ends = refl; utf8 = (codes "var", (refl, refl)); read = inl refl },
-    (record { ascii = refl; ends = refl; utf8 = (codes "video", (refl, refl)); read = inl refl }, (record { ascii = refl; ends = refl; utf8 = (codes "wbr", (refl, refl)); read = inl refl }, tt))))))))))))))))))))))))))))))))))))))))))))))))))
+phrase_known = (
+  record { ascii = refl; ends = refl; utf8 = (codes "abbr", (refl, refl)); read = inl refl },
+  (
+    record { ascii = refl; ends = refl; utf8 = (codes "acronym", (refl, refl)); read = inl refl },
+    (
+      record { ascii = refl; ends = refl; utf8 = (codes "area", (refl, refl)); read = inl refl },
+      (
+        record { ascii = refl; ends = refl; utf8 = (codes "audio", (refl, refl)); read = inl refl },
+        (
+          record { ascii = refl; ends = refl; utf8 = (codes "b", (refl, refl)); read = inl refl },
+          (
+            record { ascii = refl; ends = refl; utf8 = (codes "bdi", (refl, refl)); read = inl refl },
+            (
+              record { ascii = refl; ends = refl; utf8 = (codes "bdo", (refl, refl)); read = inl refl },
+              (
+                record { ascii = refl; ends = refl; utf8 = (codes "big", (refl, refl)); read = inl refl },
+                (
+                  record { ascii = refl; ends = refl; utf8 = (codes "br", (refl, refl)); read = inl refl },
+                  (
+                    record { ascii = refl; ends = refl; utf8 = (codes "canvas", (refl, refl)); read = inl refl },
+                    (
+                      record { ascii = refl; ends = refl; utf8 = (codes "cite", (refl, refl)); read = inl refl },
+                      (
+                        record { ascii = refl; ends = refl; utf8 = (codes "code", (refl, refl)); read = inl refl },
+                        (
+                          record { ascii = refl; ends = refl; utf8 = (codes "data", (refl, refl)); read = inl refl },
+                          (
+                            record { ascii = refl; ends = refl; utf8 = (codes "datalist", (refl, refl)); read = inl refl },
+                            (
+                              record { ascii = refl; ends = refl; utf8 = (codes "del", (refl, refl)); read = inl refl },
+                              (
+                                record { ascii = refl; ends = refl; utf8 = (codes "dfn", (refl, refl)); read = inl refl },
+                                (
+                                  record { ascii = refl; ends = refl; utf8 = (codes "em", (refl, refl)); read = inl refl },
+                                  (
+                                    record { ascii = refl; ends = refl; utf8 = (codes "embed", (refl, refl)); read = inl refl },
+                                    (
+                                      record { ascii = refl; ends = refl; utf8 = (codes "font", (refl, refl)); read = inl refl },
+                                      (
+                                        record { ascii = refl; ends = refl; utf8 = (codes "i", (refl, refl)); read = inl refl },
+                                        (
+                                          record { ascii = refl; ends = refl; utf8 = (codes "img", (refl, refl)); read = inl refl },
+                                          (
+                                            record { ascii = refl; ends = refl; utf8 = (codes "input", (refl, refl)); read = inl refl },
+                                            (
+                                              record { ascii = refl; ends = refl; utf8 = (codes "ins", (refl, refl)); read = inl refl },
+                                              (
+                                                record { ascii = refl; ends = refl; utf8 = (codes "kbd", (refl, refl)); read = inl refl },
+                                                (
+                                                  record { ascii = refl; ends = refl; utf8 = (codes "label", (refl, refl)); read = inl refl },
+                                                  (
+                                                    record { ascii = refl; ends = refl; utf8 = (codes "legend", (refl, refl)); read = inl refl },
+                                                    (
+                                                      record { ascii = refl; ends = refl; utf8 = (codes "map", (refl, refl)); read = inl refl },
+                                                      (
+                                                        record { ascii = refl; ends = refl; utf8 = (codes "mark", (refl, refl)); read = inl refl },
+                                                        (
+                                                          record { ascii = refl; ends = refl; utf8 = (codes "meter", (refl, refl)); read = inl refl },
+                                                          (
+                                                            record { ascii = refl; ends = refl; utf8 = (codes "output", (refl, refl)); read = inl refl },
+                                                            (
+                                                              record { ascii = refl; ends = refl; utf8 = (codes "picture", (refl, refl)); read = inl refl },
+                                                              (
+                                                                record { ascii = refl; ends = refl; utf8 = (codes "progress", (refl, refl)); read = inl refl },
+                                                                (
+                                                                  record { ascii = refl; ends = refl; utf8 = (codes "q", (refl, refl)); read = inl refl },
+                                                                  (
+                                                                    record { ascii = refl; ends = refl; utf8 = (codes "s", (refl, refl)); read = inl refl },
+                                                                    (
+                                                                      record { ascii = refl; ends = refl; utf8 = (codes "samp", (refl, refl)); read = inl refl },
+                                                                      (
+                                                                        record { ascii = refl; ends = refl; utf8 = (codes "slot", (refl, refl)); read = inl refl },
+                                                                        (
+                                                                          record { ascii = refl; ends = refl; utf8 = (codes "small", (refl, refl)); read = inl refl },
+                                                                          (
+                                                                            record { ascii = refl; ends = refl; utf8 = (codes "source", (refl, refl)); read = inl refl },
+                                                                            (
+                                                                              record { ascii = refl; ends = refl; utf8 = (codes "span", (refl, refl)); read = inl refl },
+                                                                              (
+                                                                                record { ascii = refl; ends = refl; utf8 = (codes "strike", (refl, refl)); read = inl refl },
+                                                                                (
+                                                                                  record { ascii = refl; ends = refl; utf8 = (codes "strong", (refl, refl)); read = inl refl },
+                                                                                  (
+                                                                                    record { ascii = refl; ends = refl; utf8 = (codes "sub", (refl, refl)); read = inl refl },
+                                                                                    (
+                                                                                      record { ascii = refl; ends = refl; utf8 = (codes "sup", (refl, refl)); read = inl refl },
+                                                                                      (
+                                                                                        record { ascii = refl; ends = refl; utf8 = (codes "time", (refl, refl)); read = inl refl },
+                                                                                        (
+                                                                                          record { ascii = refl; ends = refl; utf8 = (codes "track", (refl, refl)); read = inl refl },
+                                                                                          (
+                                                                                            record { ascii = refl; ends = refl; utf8 = (codes "tt", (refl, refl)); read = inl refl },
+                                                                                            (
+                                                                                              record { ascii = refl; ends = refl; utf8 = (codes "u", (refl, refl)); read = inl refl },
+                                                                                              (
+                                                                                                record { ascii = refl; ends = refl; utf8 = (codes "var", (refl, refl)); read = inl refl },
+                                                                                                (record { ascii = refl; ends = refl; utf8 = (codes "video", (refl, refl)); read = inl refl }, (record { ascii = refl; ends = refl; utf8 = (codes "wbr", (refl, refl)); read = inl refl }, tt)),
+                                                                                              ),
+                                                                                            ),
+                                                                                          ),
+                                                                                        ),
+                                                                                      ),
+                                                                                    ),
+                                                                                  ),
+                                                                                ),
+                                                                              ),
+                                                                            ),
+                                                                          ),
+                                                                        ),
+                                                                      ),
+                                                                    ),
+                                                                  ),
+                                                                ),
+                                                              ),
+                                                            ),
+                                                          ),
+                                                        ),
+                                                      ),
+                                                    ),
+                                                  ),
+                                                ),
+                                              ),
+                                            ),
+                                          ),
+                                        ),
+                                      ),
+                                    ),
+                                  ),
+                                ),
+                              ),
+                            ),
+                          ),
+                        ),
+                      ),
+                    ),
+                  ),
+                ),
+              ),
+            ),
+          ),
+        ),
+      ),
+    ),
+  ),
+)
 
 anchor_known : Each Known (names_of Anchor)
 unfolding names_of kind_of chars void_names raw_names encode
@@ -124,34 +220,74 @@ paragraph_known = (record { ascii = refl; ends = refl; utf8 = (codes "p", (refl,
 
 block_known : Each Known (names_of Block)
 unfolding names_of kind_of chars void_names raw_names encode
-block_known =
-    (record { ascii = refl; ends = refl; utf8 = (codes "address", (refl, refl)); read = inl refl },
-    (record { ascii = refl; ends = refl; utf8 = (codes "article", (refl, refl)); read = inl refl },
-    (record { ascii = refl; ends = refl; utf8 = (codes "aside", (refl, refl)); read = inl refl },
-    (record { ascii = refl; ends = refl; utf8 = (codes "blockquote", (refl, refl)); read = inl refl },
-    (record { ascii = refl; ends = refl; utf8 = (codes "center", (refl, refl)); read = inl refl },
-    (record { ascii = refl; ends = refl; utf8 = (codes "details", (refl, refl)); read = inl refl },
-    (record { ascii = refl; ends = refl; utf8 = (codes "dialog", (refl, refl)); read = inl refl },
-    (record { ascii = refl; ends = refl; utf8 = (codes "div", (refl, refl)); read = inl refl },
-    (record { ascii = refl; ends = refl; utf8 = (codes "fieldset", (refl, refl)); read = inl refl },
-    (record { ascii = refl; ends = refl; utf8 = (codes "figcaption", (refl, refl)); read = inl refl },
-    (record { ascii = refl; ends = refl; utf8 = (codes "figure", (refl, refl)); read = inl refl },
-    (record { ascii = refl; ends = refl; utf8 = (codes "footer", (refl, refl)); read = inl refl },
-    (record { ascii = refl; ends = refl; utf8 = (codes "header", (refl, refl)); read = inl refl },
-    (record { ascii = refl; ends = refl; utf8 = (codes "hgroup", (refl, refl)); read = inl refl },
-    (record { ascii = refl; ends = refl; utf8 = (codes "hr", (refl, refl)); read = inl refl },
-    (record { ascii = refl; ends = refl; utf8 = (codes "main", (refl, refl)); read = inl refl },
-    (record { ascii = refl; ends = refl; utf8 = (codes "nav", (refl, refl)); read = inl refl },
-    (record { ascii = refl; ends = refl; utf8 = (codes "search", (refl, refl)); read = inl refl },
-    (record { ascii = refl; ends = refl; utf8 = (codes "section", (refl, refl)); read = inl refl }, (record { ascii = refl; ends = refl; utf8 = (codes "summary", (refl, refl)); read = inl refl }, tt))))))))))))))))))))
+block_known = (
+  record { ascii = refl; ends = refl; utf8 = (codes "address", (refl, refl)); read = inl refl },
+  (
+    record { ascii = refl; ends = refl; utf8 = (codes "article", (refl, refl)); read = inl refl },
+    (
+      record { ascii = refl; ends = refl; utf8 = (codes "aside", (refl, refl)); read = inl refl },
+      (
+        record { ascii = refl; ends = refl; utf8 = (codes "blockquote", (refl, refl)); read = inl refl },
+        (
+          record { ascii = refl; ends = refl; utf8 = (codes "center", (refl, refl)); read = inl refl },
+          (
+            record { ascii = refl; ends = refl; utf8 = (codes "details", (refl, refl)); read = inl refl },
+            (
+              record { ascii = refl; ends = refl; utf8 = (codes "dialog", (refl, refl)); read = inl refl },
+              (
+                record { ascii = refl; ends = refl; utf8 = (codes "div", (refl, refl)); read = inl refl },
+                (
+                  record { ascii = refl; ends = refl; utf8 = (codes "fieldset", (refl, refl)); read = inl refl },
+                  (
+                    record { ascii = refl; ends = refl; utf8 = (codes "figcaption", (refl, refl)); read = inl refl },
+                    (
+                      record { ascii = refl; ends = refl; utf8 = (codes "figure", (refl, refl)); read = inl refl },
+                      (
+                        record { ascii = refl; ends = refl; utf8 = (codes "footer", (refl, refl)); read = inl refl },
+                        (
+                          record { ascii = refl; ends = refl; utf8 = (codes "header", (refl, refl)); read = inl refl },
+                          (
+                            record { ascii = refl; ends = refl; utf8 = (codes "hgroup", (refl, refl)); read = inl refl },
+                            (
+                              record { ascii = refl; ends = refl; utf8 = (codes "hr", (refl, refl)); read = inl refl },
+                              (
+                                record { ascii = refl; ends = refl; utf8 = (codes "main", (refl, refl)); read = inl refl },
+                                (
+                                  record { ascii = refl; ends = refl; utf8 = (codes "nav", (refl, refl)); read = inl refl },
+                                  (
+                                    record { ascii = refl; ends = refl; utf8 = (codes "search", (refl, refl)); read = inl refl },
+                                    (record { ascii = refl; ends = refl; utf8 = (codes "section", (refl, refl)); read = inl refl }, (record { ascii = refl; ends = refl; utf8 = (codes "summary", (refl, refl)); read = inl refl }, tt)),
+                                  ),
+                                ),
+                              ),
+                            ),
+                          ),
+                        ),
+                      ),
+                    ),
+                  ),
+                ),
+              ),
+            ),
+          ),
+        ),
+      ),
+    ),
+  ),
+)
 
 heading_known : Each Known (names_of Heading)
 unfolding names_of kind_of chars void_names raw_names encode
-heading_known =
-    (record { ascii = refl; ends = refl; utf8 = (codes "h1", (refl, refl)); read = inl refl },
-    (record { ascii = refl; ends = refl; utf8 = (codes "h2", (refl, refl)); read = inl refl },
-    (record { ascii = refl; ends = refl; utf8 = (codes "h3", (refl, refl)); read = inl refl },
-    (record { ascii = refl; ends = refl; utf8 = (codes "h4", (refl, refl)); read = inl refl }, (record { ascii = refl; ends = refl; utf8 = (codes "h5", (refl, refl)); read = inl refl }, (record { ascii = refl; ends = refl; utf8 = (codes "h6", (refl, refl)); read = inl refl }, tt))))))
+heading_known = (
+  record { ascii = refl; ends = refl; utf8 = (codes "h1", (refl, refl)); read = inl refl },
+  (
+    record { ascii = refl; ends = refl; utf8 = (codes "h2", (refl, refl)); read = inl refl },
+    (
+      record { ascii = refl; ends = refl; utf8 = (codes "h3", (refl, refl)); read = inl refl },
+      (record { ascii = refl; ends = refl; utf8 = (codes "h4", (refl, refl)); read = inl refl }, (record { ascii = refl; ends = refl; utf8 = (codes "h5", (refl, refl)); read = inl refl }, (record { ascii = refl; ends = refl; utf8 = (codes "h6", (refl, refl)); read = inl refl }, tt))),
+    ),
+  ),
+)
 
 form_known : Each Known (names_of Form)
 unfolding names_of kind_of chars void_names raw_names encode
@@ -163,9 +299,10 @@ pre_known = (record { ascii = refl; ends = refl; utf8 = (codes "pre", (refl, ref
 
 itemlist_known : Each Known (names_of ItemList)
 unfolding names_of kind_of chars void_names raw_names encode
-itemlist_known =
-    (record { ascii = refl; ends = refl; utf8 = (codes "dir", (refl, refl)); read = inl refl },
-    (record { ascii = refl; ends = refl; utf8 = (codes "menu", (refl, refl)); read = inl refl }, (record { ascii = refl; ends = refl; utf8 = (codes "ol", (refl, refl)); read = inl refl }, (record { ascii = refl; ends = refl; utf8 = (codes "ul", (refl, refl)); read = inl refl }, tt))))
+itemlist_known = (
+  record { ascii = refl; ends = refl; utf8 = (codes "dir", (refl, refl)); read = inl refl },
+  (record { ascii = refl; ends = refl; utf8 = (codes "menu", (refl, refl)); read = inl refl }, (record { ascii = refl; ends = refl; utf8 = (codes "ol", (refl, refl)); read = inl refl }, (record { ascii = refl; ends = refl; utf8 = (codes "ul", (refl, refl)); read = inl refl }, tt))),
+)
 
 item_known : Each Known (names_of Item)
 unfolding names_of kind_of chars void_names raw_names encode

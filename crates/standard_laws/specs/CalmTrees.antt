@@ -50,9 +50,14 @@ place_in category = FlowPlace
 
 abbrev pub within : Scope → Within
 within scope =
-    record
-    { place = place_in scope.parent; paragraph = scope.in_paragraph; anchor = scope.in_anchor; button = scope.in_button; form =
-    scope.in_form }
+    record {
+      place = place_in scope.parent;
+      paragraph = scope.in_paragraph;
+      anchor = scope.in_anchor;
+      button = scope.in_button;
+      form =
+          scope.in_form;
+    }
 
 -- the scope of the nodes of a fragment in a context element of that name
 abbrev pub scope_in : List ℕ → Scope

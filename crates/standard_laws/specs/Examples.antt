@@ -11,7 +11,7 @@ ImpliedTagsAreParsed = IsPageOf (codes "<!DOCTYPE html><p>a&amp;b<p class=x>c")
     (element_node (codes "body") []
     (element_node (codes "p") [] (text_node (codes "a&b") no_trees)
     (element_node (codes "p") (record { name = codes "class"; value = codes "x" } ∷ []) (text_node (codes "c") no_trees) no_trees))
-        no_trees)) no_trees))
+    no_trees)) no_trees))
 
 -- in a `title` references are read and tags are not, in a `style` neither
 abbrev pub TextStatesAreParsed : Type 0

@@ -23,4 +23,4 @@ abbrev pub HtmlIsReadOneWay : Type 0
 HtmlIsReadOneWay = (forest : Forest) → IsForest forest → (plain : IsPlain forest) → AreReadable plain.trees → (f : Feedback) →
     IsFeedback f →
     AreAnswered f [] (items_of value_piece plain.trees) → (found : List Token) → ReadsPage f (chars (html_of forest 0)) found →
-        found ≡ page_in plain.trees
+    found ≡ page_in plain.trees

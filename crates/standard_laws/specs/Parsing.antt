@@ -51,10 +51,10 @@ first_state context = unwrap_or (switch_at context) Data
 abbrev pub IsFragmentOf : List ℕ → List ℕ → Trees → Type 0
 IsFragmentOf context text nodes =
     (steps : ℕ)
-        ×
-        (children_of
-        (option_and_then (λ b. parsed steps (parser (start_in (first_state context)) (normalized text) b)) (fragment_start context)) ≡ Some
-        nodes)
+    ×
+    (children_of
+    (option_and_then (λ b. parsed steps (parser (start_in (first_state context)) (normalized text) b)) (fragment_start context)) ≡ Some
+    nodes)
 
 -- the text is parsed as a page, as this document and as no other
 pub record IsPageOnlyOf (text : List ℕ) (document : Trees) : Type 0 where

@@ -35,7 +35,7 @@ abbrev pub TreesAreReadOneWay : ValueChar → (ℕ → Piece) → Type 0
 TreesAreReadOneWay by piece = (f : Feedback) → IsFeedback f → (top : Bool) (trees : ValueTrees) → IsPlainTrees top trees →
     AreReadable trees →
     AreAnswered f [] (items_of piece trees) → (found : List Token) → ReadsPage f (chars (text_by by false trees)) found →
-        found ≡ page_in trees
+    found ≡ page_in trees
 
 -- ---- tree construction that leaves every element in the HTML namespace, with scripting disabled
 

@@ -29,4 +29,4 @@ text_by by raw (comment_node contents later) = codes "<!--" ++ (contents ++ (cod
 text_by by raw (doctype_node name public system later) = codes "<!DOCTYPE " ++ (name ++ (codes ">" ++ text_by by raw later))
 text_by by raw (element_node name attributes children later) =
     start_by by name attributes
-        ++ ((if is_among name void_names then [] else text_by by (is_among name raw_names) children ++ end_by name) ++ text_by by raw later)
+    ++ ((if is_among name void_names then [] else text_by by (is_among name raw_names) children ++ end_by name) ++ text_by by raw later)

@@ -16,82 +16,203 @@ use Rattle.standard_rules.proofs.TreeLists.{Each, each_space}
 
 pub block_opens : Each (OpensBlock) (names_of ABlock)
 unfolding run rules taken act in_scope
-block_opens =
-    (λ attrs b h. (rw h refl, rw h refl, rw h refl),
-    (λ attrs b h. (rw h refl, rw h refl, rw h refl),
-    (λ attrs b h. (rw h refl, rw h refl, rw h refl),
-    (λ attrs b h. (rw h refl, rw h refl, rw h refl),
-    (λ attrs b h. (rw h refl, rw h refl, rw h refl),
-    (λ attrs b h. (rw h refl, rw h refl, rw h refl),
-    (λ attrs b h. (rw h refl, rw h refl, rw h refl),
-    (λ attrs b h. (rw h refl, rw h refl, rw h refl),
-    (λ attrs b h. (rw h refl, rw h refl, rw h refl),
-    (λ attrs b h. (rw h refl, rw h refl, rw h refl),
-    (λ attrs b h. (rw h refl, rw h refl, rw h refl),
-    (λ attrs b h. (rw h refl, rw h refl, rw h refl),
-    (λ attrs b h. (rw h refl, rw h refl, rw h refl),
-    (λ attrs b h. (rw h refl, rw h refl, rw h refl),
-    (λ attrs b h. (rw h refl, rw h refl, rw h refl),
-    (λ attrs b h. (rw h refl, rw h refl, rw h refl),
-    (λ attrs b h. (rw h refl, rw h refl, rw h refl),
-    (λ attrs b h. (rw h refl, rw h refl, rw h refl),
-    (λ attrs b h. (rw h refl, rw h refl, rw h refl),
-    (λ attrs b h. (rw h refl, rw h refl, rw h refl), (λ attrs b h. (rw h refl, rw h refl, rw h refl), (λ attrs b h. (rw h refl, rw h refl, rw h refl), (λ attrs b h. (rw h refl, rw h refl, rw h refl), (λ attrs b h. (rw h refl, rw h refl, rw h refl), tt))))))))))))))))))))))))
+block_opens = (
+  λ attrs b h. (rw h refl, rw h refl, rw h refl),
+  (
+    λ attrs b h. (rw h refl, rw h refl, rw h refl),
+    (
+      λ attrs b h. (rw h refl, rw h refl, rw h refl),
+      (
+        λ attrs b h. (rw h refl, rw h refl, rw h refl),
+        (
+          λ attrs b h. (rw h refl, rw h refl, rw h refl),
+          (
+            λ attrs b h. (rw h refl, rw h refl, rw h refl),
+            (
+              λ attrs b h. (rw h refl, rw h refl, rw h refl),
+              (
+                λ attrs b h. (rw h refl, rw h refl, rw h refl),
+                (
+                  λ attrs b h. (rw h refl, rw h refl, rw h refl),
+                  (
+                    λ attrs b h. (rw h refl, rw h refl, rw h refl),
+                    (
+                      λ attrs b h. (rw h refl, rw h refl, rw h refl),
+                      (
+                        λ attrs b h. (rw h refl, rw h refl, rw h refl),
+                        (
+                          λ attrs b h. (rw h refl, rw h refl, rw h refl),
+                          (
+                            λ attrs b h. (rw h refl, rw h refl, rw h refl),
+                            (
+                              λ attrs b h. (rw h refl, rw h refl, rw h refl),
+                              (
+                                λ attrs b h. (rw h refl, rw h refl, rw h refl),
+                                (
+                                  λ attrs b h. (rw h refl, rw h refl, rw h refl),
+                                  (
+                                    λ attrs b h. (rw h refl, rw h refl, rw h refl),
+                                    (
+                                      λ attrs b h. (rw h refl, rw h refl, rw h refl),
+                                      (λ attrs b h. (rw h refl, rw h refl, rw h refl), (λ attrs b h. (rw h refl, rw h refl, rw h refl), (λ attrs b h. (rw h refl, rw h refl, rw h refl), (λ attrs b h. (rw h refl, rw h refl, rw h refl), (λ attrs b h. (rw h refl, rw h refl, rw h refl), tt))))),
+                                    ),
+                                  ),
+                                ),
+                              ),
+                            ),
+                          ),
+                        ),
+                      ),
+                    ),
+                  ),
+                ),
+              ),
+            ),
+          ),
+        ),
+      ),
+    ),
+  ),
+)
 
 pub block_ordinary : Each (Ordinary) (names_of ABlock)
 unfolding run rules taken act in_scope
-block_ordinary =
-    (record { closes = λ b number attrs children o os. (refl, refl, refl); ends = refl; unswitched = refl; unlisted = (refl, refl); passes = λ c m ms. refl },
-    (record { closes = λ b number attrs children o os. (refl, refl, refl); ends = refl; unswitched = refl; unlisted = (refl, refl); passes = λ c m ms. refl },
-    (record { closes = λ b number attrs children o os. (refl, refl, refl); ends = refl; unswitched = refl; unlisted = (refl, refl); passes = λ c m ms. refl },
-    (record { closes = λ b number attrs children o os. (refl, refl, refl); ends = refl; unswitched = refl; unlisted = (refl, refl); passes = λ c m ms. refl },
-    (record { closes = λ b number attrs children o os. (refl, refl, refl); ends = refl; unswitched = refl; unlisted = (refl, refl); passes = λ c m ms. refl },
-    (record { closes = λ b number attrs children o os. (refl, refl, refl); ends = refl; unswitched = refl; unlisted = (refl, refl); passes = λ c m ms. refl },
-    (record { closes = λ b number attrs children o os. (refl, refl, refl); ends = refl; unswitched = refl; unlisted = (refl, refl); passes = λ c m ms. refl },
-    (record { closes = λ b number attrs children o os. (refl, refl, refl); ends = refl; unswitched = refl; unlisted = (refl, refl); passes = λ c m ms. refl },
-    (record { closes = λ b number attrs children o os. (refl, refl, refl); ends = refl; unswitched = refl; unlisted = (refl, refl); passes = λ c m ms. refl },
-    (record { closes = λ b number attrs children o os. (refl, refl, refl); ends = refl; unswitched = refl; unlisted = (refl, refl); passes = λ c m ms. refl },
-    (record { closes = λ b number attrs children o os. (refl, refl, refl); ends = refl; unswitched = refl; unlisted = (refl, refl); passes = λ c m ms. refl },
-    (record { closes = λ b number attrs children o os. (refl, refl, refl); ends = refl; unswitched = refl; unlisted = (refl, refl); passes = λ c m ms. refl },
-    (record { closes = λ b number attrs children o os. (refl, refl, refl); ends = refl; unswitched = refl; unlisted = (refl, refl); passes = λ c m ms. refl },
-    (record { closes = λ b number attrs children o os. (refl, refl, refl); ends = refl; unswitched = refl; unlisted = (refl, refl); passes = λ c m ms. refl },
-    (record { closes = λ b number attrs children o os. (refl, refl, refl); ends = refl; unswitched = refl; unlisted = (refl, refl); passes = λ c m ms. refl },
-    (record { closes = λ b number attrs children o os. (refl, refl, refl); ends = refl; unswitched = refl; unlisted = (refl, refl); passes = λ c m ms. refl },
-    (record { closes = λ b number attrs children o os. (refl, refl, refl); ends = refl; unswitched = refl; unlisted = (refl, refl); passes = λ c m ms. refl },
-    (record { closes = λ b number attrs children o os. (refl, refl, refl); ends = refl; unswitched = refl; unlisted = (refl, refl); passes = λ c m ms. refl },
-    (record { closes = λ b number attrs children o os. (refl, refl, refl); ends = refl; unswitched = refl; unlisted = (refl, refl); passes = λ c m ms. refl },
-    (record { closes = λ b number attrs children o os. (refl, refl, refl); ends = refl; unswitched = refl; unlisted = (refl, refl); passes = λ c m ms. refl },
-    (record { closes = λ b number attrs children o os. (refl, refl, refl); ends = refl; unswitched = refl; unlisted = (refl, refl); passes = λ c m ms. refl },
-    (record { closes = λ b number attrs children o os. (refl, refl, refl); ends = refl; unswitched = refl; unlisted = (refl, refl); passes = λ c m ms. refl },
-    (record { closes = λ b number attrs children o os. (refl, refl, refl); ends = refl; unswitched = refl; unlisted = (refl, refl); passes = λ c m ms. refl },
-    (record { closes = λ b number attrs children o os. (refl, refl, refl); ends = refl; unswitched = refl; unlisted = (refl, refl); passes = λ c m ms. refl }, tt))))))))))))))))))))))))
+block_ordinary = (
+  record { closes = λ b number attrs children o os. (refl, refl, refl); ends = refl; unswitched = refl; unlisted = (refl, refl); passes = λ c m ms. refl },
+  (
+    record { closes = λ b number attrs children o os. (refl, refl, refl); ends = refl; unswitched = refl; unlisted = (refl, refl); passes = λ c m ms. refl },
+    (
+      record { closes = λ b number attrs children o os. (refl, refl, refl); ends = refl; unswitched = refl; unlisted = (refl, refl); passes = λ c m ms. refl },
+      (
+        record { closes = λ b number attrs children o os. (refl, refl, refl); ends = refl; unswitched = refl; unlisted = (refl, refl); passes = λ c m ms. refl },
+        (
+          record { closes = λ b number attrs children o os. (refl, refl, refl); ends = refl; unswitched = refl; unlisted = (refl, refl); passes = λ c m ms. refl },
+          (
+            record { closes = λ b number attrs children o os. (refl, refl, refl); ends = refl; unswitched = refl; unlisted = (refl, refl); passes = λ c m ms. refl },
+            (
+              record { closes = λ b number attrs children o os. (refl, refl, refl); ends = refl; unswitched = refl; unlisted = (refl, refl); passes = λ c m ms. refl },
+              (
+                record { closes = λ b number attrs children o os. (refl, refl, refl); ends = refl; unswitched = refl; unlisted = (refl, refl); passes = λ c m ms. refl },
+                (
+                  record { closes = λ b number attrs children o os. (refl, refl, refl); ends = refl; unswitched = refl; unlisted = (refl, refl); passes = λ c m ms. refl },
+                  (
+                    record { closes = λ b number attrs children o os. (refl, refl, refl); ends = refl; unswitched = refl; unlisted = (refl, refl); passes = λ c m ms. refl },
+                    (
+                      record { closes = λ b number attrs children o os. (refl, refl, refl); ends = refl; unswitched = refl; unlisted = (refl, refl); passes = λ c m ms. refl },
+                      (
+                        record { closes = λ b number attrs children o os. (refl, refl, refl); ends = refl; unswitched = refl; unlisted = (refl, refl); passes = λ c m ms. refl },
+                        (
+                          record { closes = λ b number attrs children o os. (refl, refl, refl); ends = refl; unswitched = refl; unlisted = (refl, refl); passes = λ c m ms. refl },
+                          (
+                            record { closes = λ b number attrs children o os. (refl, refl, refl); ends = refl; unswitched = refl; unlisted = (refl, refl); passes = λ c m ms. refl },
+                            (
+                              record { closes = λ b number attrs children o os. (refl, refl, refl); ends = refl; unswitched = refl; unlisted = (refl, refl); passes = λ c m ms. refl },
+                              (
+                                record { closes = λ b number attrs children o os. (refl, refl, refl); ends = refl; unswitched = refl; unlisted = (refl, refl); passes = λ c m ms. refl },
+                                (
+                                  record { closes = λ b number attrs children o os. (refl, refl, refl); ends = refl; unswitched = refl; unlisted = (refl, refl); passes = λ c m ms. refl },
+                                  (
+                                    record { closes = λ b number attrs children o os. (refl, refl, refl); ends = refl; unswitched = refl; unlisted = (refl, refl); passes = λ c m ms. refl },
+                                    (
+                                      record { closes = λ b number attrs children o os. (refl, refl, refl); ends = refl; unswitched = refl; unlisted = (refl, refl); passes = λ c m ms. refl },
+                                      (
+                                        record { closes = λ b number attrs children o os. (refl, refl, refl); ends = refl; unswitched = refl; unlisted = (refl, refl); passes = λ c m ms. refl },
+                                        (
+                                          record { closes = λ b number attrs children o os. (refl, refl, refl); ends = refl; unswitched = refl; unlisted = (refl, refl); passes = λ c m ms. refl },
+                                          (
+                                            record { closes = λ b number attrs children o os. (refl, refl, refl); ends = refl; unswitched = refl; unlisted = (refl, refl); passes = λ c m ms. refl },
+                                            (
+                                              record { closes = λ b number attrs children o os. (refl, refl, refl); ends = refl; unswitched = refl; unlisted = (refl, refl); passes = λ c m ms. refl },
+                                              (record { closes = λ b number attrs children o os. (refl, refl, refl); ends = refl; unswitched = refl; unlisted = (refl, refl); passes = λ c m ms. refl }, tt),
+                                            ),
+                                          ),
+                                        ),
+                                      ),
+                                    ),
+                                  ),
+                                ),
+                              ),
+                            ),
+                          ),
+                        ),
+                      ),
+                    ),
+                  ),
+                ),
+              ),
+            ),
+          ),
+        ),
+      ),
+    ),
+  ),
+)
 
 pub block_no_heading : Each (λ name. is_among name headings ≡ false) (names_of ABlock)
 block_no_heading = (refl, (refl, (refl, (refl, (refl, (refl, (refl, (refl, (refl, (refl, (refl, (refl, (refl, (refl, (refl, (refl, (refl, (refl, (refl, (refl, (refl, (refl, (refl, (refl, tt))))))))))))))))))))))))
 
 pub block_barless : Each (Barless) (names_of ABlock)
-block_barless =
-    (record { no_p = refl; no_a = refl; no_button = refl },
-    (record { no_p = refl; no_a = refl; no_button = refl },
-    (record { no_p = refl; no_a = refl; no_button = refl },
-    (record { no_p = refl; no_a = refl; no_button = refl },
-    (record { no_p = refl; no_a = refl; no_button = refl },
-    (record { no_p = refl; no_a = refl; no_button = refl },
-    (record { no_p = refl; no_a = refl; no_button = refl },
-    (record { no_p = refl; no_a = refl; no_button = refl },
-    (record { no_p = refl; no_a = refl; no_button = refl },
-    (record { no_p = refl; no_a = refl; no_button = refl },
-    (record { no_p = refl; no_a = refl; no_button = refl },
-    (record { no_p = refl; no_a = refl; no_button = refl },
-    (record { no_p = refl; no_a = refl; no_button = refl },
-    (record { no_p = refl; no_a = refl; no_button = refl },
-    (record { no_p = refl; no_a = refl; no_button = refl },
-    (record { no_p = refl; no_a = refl; no_button = refl },
-    (record { no_p = refl; no_a = refl; no_button = refl },
-    (record { no_p = refl; no_a = refl; no_button = refl },
-    (record { no_p = refl; no_a = refl; no_button = refl },
-    (record { no_p = refl; no_a = refl; no_button = refl },
-    (record { no_p = refl; no_a = refl; no_button = refl }, (record { no_p = refl; no_a = refl; no_button = refl }, (record { no_p = refl; no_a = refl; no_button = refl }, (record { no_p = refl; no_a = refl; no_button = refl }, tt))))))))))))))))))))))))
+block_barless = (
+  record { no_p = refl; no_a = refl; no_button = refl },
+  (
+    record { no_p = refl; no_a = refl; no_button = refl },
+    (
+      record { no_p = refl; no_a = refl; no_button = refl },
+      (
+        record { no_p = refl; no_a = refl; no_button = refl },
+        (
+          record { no_p = refl; no_a = refl; no_button = refl },
+          (
+            record { no_p = refl; no_a = refl; no_button = refl },
+            (
+              record { no_p = refl; no_a = refl; no_button = refl },
+              (
+                record { no_p = refl; no_a = refl; no_button = refl },
+                (
+                  record { no_p = refl; no_a = refl; no_button = refl },
+                  (
+                    record { no_p = refl; no_a = refl; no_button = refl },
+                    (
+                      record { no_p = refl; no_a = refl; no_button = refl },
+                      (
+                        record { no_p = refl; no_a = refl; no_button = refl },
+                        (
+                          record { no_p = refl; no_a = refl; no_button = refl },
+                          (
+                            record { no_p = refl; no_a = refl; no_button = refl },
+                            (
+                              record { no_p = refl; no_a = refl; no_button = refl },
+                              (
+                                record { no_p = refl; no_a = refl; no_button = refl },
+                                (
+                                  record { no_p = refl; no_a = refl; no_button = refl },
+                                  (
+                                    record { no_p = refl; no_a = refl; no_button = refl },
+                                    (
+                                      record { no_p = refl; no_a = refl; no_button = refl },
+                                      (
+                                        record { no_p = refl; no_a = refl; no_button = refl },
+                                        (record { no_p = refl; no_a = refl; no_button = refl }, (record { no_p = refl; no_a = refl; no_button = refl }, (record { no_p = refl; no_a = refl; no_button = refl }, (record { no_p = refl; no_a = refl; no_button = refl }, tt)))),
+                                      ),
+                                    ),
+                                  ),
+                                ),
+                              ),
+                            ),
+                          ),
+                        ),
+                      ),
+                    ),
+                  ),
+                ),
+              ),
+            ),
+          ),
+        ),
+      ),
+    ),
+  ),
+)
 
 pub list_opens : Each (OpensBlock) (names_of AList)
 unfolding run rules taken act in_scope
@@ -99,11 +220,16 @@ list_opens = (λ attrs b h. (rw h refl, rw h refl, rw h refl), (λ attrs b h. (r
 
 pub list_ordinary : Each (Ordinary) (names_of AList)
 unfolding run rules taken act in_scope
-list_ordinary =
-    (record { closes = λ b number attrs children o os. (refl, refl, refl); ends = refl; unswitched = refl; unlisted = (refl, refl); passes = λ c m ms. refl },
-    (record { closes = λ b number attrs children o os. (refl, refl, refl); ends = refl; unswitched = refl; unlisted = (refl, refl); passes = λ c m ms. refl },
-    (record { closes = λ b number attrs children o os. (refl, refl, refl); ends = refl; unswitched = refl; unlisted = (refl, refl); passes = λ c m ms. refl },
-    (record { closes = λ b number attrs children o os. (refl, refl, refl); ends = refl; unswitched = refl; unlisted = (refl, refl); passes = λ c m ms. refl }, tt))))
+list_ordinary = (
+  record { closes = λ b number attrs children o os. (refl, refl, refl); ends = refl; unswitched = refl; unlisted = (refl, refl); passes = λ c m ms. refl },
+  (
+    record { closes = λ b number attrs children o os. (refl, refl, refl); ends = refl; unswitched = refl; unlisted = (refl, refl); passes = λ c m ms. refl },
+    (
+      record { closes = λ b number attrs children o os. (refl, refl, refl); ends = refl; unswitched = refl; unlisted = (refl, refl); passes = λ c m ms. refl },
+      (record { closes = λ b number attrs children o os. (refl, refl, refl); ends = refl; unswitched = refl; unlisted = (refl, refl); passes = λ c m ms. refl }, tt),
+    ),
+  ),
+)
 
 pub list_no_heading : Each (λ name. is_among name headings ≡ false) (names_of AList)
 list_no_heading = (refl, (refl, (refl, (refl, tt))))
@@ -138,57 +264,97 @@ paragraph_no_heading = (refl, tt)
 
 pub heading_opens : Each (OpensHeading) (names_of AHeading)
 unfolding run rules taken act in_scope
-heading_opens =
-    (λ attrs b h k. (rw (h, k, act) refl, rw (h, k, act) refl, rw (h, k, act) refl),
-    (λ attrs b h k. (rw (h, k, act) refl, rw (h, k, act) refl, rw (h, k, act) refl),
-    (λ attrs b h k. (rw (h, k, act) refl, rw (h, k, act) refl, rw (h, k, act) refl),
-    (λ attrs b h k. (rw (h, k, act) refl, rw (h, k, act) refl, rw (h, k, act) refl), (λ attrs b h k. (rw (h, k, act) refl, rw (h, k, act) refl, rw (h, k, act) refl), (λ attrs b h k. (rw (h, k, act) refl, rw (h, k, act) refl, rw (h, k, act) refl), tt))))))
+heading_opens = (
+  λ attrs b h k. (rw (h, k, act) refl, rw (h, k, act) refl, rw (h, k, act) refl),
+  (
+    λ attrs b h k. (rw (h, k, act) refl, rw (h, k, act) refl, rw (h, k, act) refl),
+    (
+      λ attrs b h k. (rw (h, k, act) refl, rw (h, k, act) refl, rw (h, k, act) refl),
+      (λ attrs b h k. (rw (h, k, act) refl, rw (h, k, act) refl, rw (h, k, act) refl), (λ attrs b h k. (rw (h, k, act) refl, rw (h, k, act) refl, rw (h, k, act) refl), (λ attrs b h k. (rw (h, k, act) refl, rw (h, k, act) refl, rw (h, k, act) refl), tt))),
+    ),
+  ),
+)
 
 pub heading_ordinary : Each (Ordinary) (names_of AHeading)
 unfolding run rules taken act in_scope
-heading_ordinary =
-    (record { closes = λ b number attrs children o os. (refl, refl, refl); ends = refl; unswitched = refl; unlisted = (refl, refl); passes = λ c m ms. refl },
-    (record { closes = λ b number attrs children o os. (refl, refl, refl); ends = refl; unswitched = refl; unlisted = (refl, refl); passes = λ c m ms. refl },
-    (record { closes = λ b number attrs children o os. (refl, refl, refl); ends = refl; unswitched = refl; unlisted = (refl, refl); passes = λ c m ms. refl },
-    (record { closes = λ b number attrs children o os. (refl, refl, refl); ends = refl; unswitched = refl; unlisted = (refl, refl); passes = λ c m ms. refl },
-    (record { closes = λ b number attrs children o os. (refl, refl, refl); ends = refl; unswitched = refl; unlisted = (refl, refl); passes = λ c m ms. refl },
-    (record { closes = λ b number attrs children o os. (refl, refl, refl); ends = refl; unswitched = refl; unlisted = (refl, refl); passes = λ c m ms. refl }, tt))))))
+heading_ordinary = (
+  record { closes = λ b number attrs children o os. (refl, refl, refl); ends = refl; unswitched = refl; unlisted = (refl, refl); passes = λ c m ms. refl },
+  (
+    record { closes = λ b number attrs children o os. (refl, refl, refl); ends = refl; unswitched = refl; unlisted = (refl, refl); passes = λ c m ms. refl },
+    (
+      record { closes = λ b number attrs children o os. (refl, refl, refl); ends = refl; unswitched = refl; unlisted = (refl, refl); passes = λ c m ms. refl },
+      (
+        record { closes = λ b number attrs children o os. (refl, refl, refl); ends = refl; unswitched = refl; unlisted = (refl, refl); passes = λ c m ms. refl },
+        (
+          record { closes = λ b number attrs children o os. (refl, refl, refl); ends = refl; unswitched = refl; unlisted = (refl, refl); passes = λ c m ms. refl },
+          (record { closes = λ b number attrs children o os. (refl, refl, refl); ends = refl; unswitched = refl; unlisted = (refl, refl); passes = λ c m ms. refl }, tt),
+        ),
+      ),
+    ),
+  ),
+)
 
 pub heading_barless : Each (Barless) (names_of AHeading)
-heading_barless =
-    (record { no_p = refl; no_a = refl; no_button = refl },
-    (record { no_p = refl; no_a = refl; no_button = refl }, (record { no_p = refl; no_a = refl; no_button = refl }, (record { no_p = refl; no_a = refl; no_button = refl }, (record { no_p = refl; no_a = refl; no_button = refl }, (record { no_p = refl; no_a = refl; no_button = refl }, tt))))))
+heading_barless = (
+  record { no_p = refl; no_a = refl; no_button = refl },
+  (record { no_p = refl; no_a = refl; no_button = refl }, (record { no_p = refl; no_a = refl; no_button = refl }, (record { no_p = refl; no_a = refl; no_button = refl }, (record { no_p = refl; no_a = refl; no_button = refl }, (record { no_p = refl; no_a = refl; no_button = refl }, tt))))),
+)
 
 pub phrase_opens : Each (OpensPhrase) (names_of APhrase)
 unfolding run rules taken act in_scope
-phrase_opens =
-    (λ attrs b h. (rw (h, act) refl, rw (h, act) refl, rw (h, act) refl),
-    (λ attrs b h. (rw (h, act) refl, rw (h, act) refl, rw (h, act) refl),
-    (λ attrs b h. (rw (h, act) refl, rw (h, act) refl, rw (h, act) refl),
-    (λ attrs b h. (rw (h, act) refl, rw (h, act) refl, rw (h, act) refl),
-    (λ attrs b h. (rw (h, act) refl, rw (h, act) refl, rw (h, act) refl), (λ attrs b h. (rw (h, act) refl, rw (h, act) refl, rw (h, act) refl), (λ attrs b h. (rw (h, act) refl, rw (h, act) refl, rw (h, act) refl), (λ attrs b h. (rw (h, act) refl, rw (h, act) refl, rw (h, act) refl), tt))))))))
+phrase_opens = (
+  λ attrs b h. (rw (h, act) refl, rw (h, act) refl, rw (h, act) refl),
+  (
+    λ attrs b h. (rw (h, act) refl, rw (h, act) refl, rw (h, act) refl),
+    (
+      λ attrs b h. (rw (h, act) refl, rw (h, act) refl, rw (h, act) refl),
+      (
+        λ attrs b h. (rw (h, act) refl, rw (h, act) refl, rw (h, act) refl),
+        (λ attrs b h. (rw (h, act) refl, rw (h, act) refl, rw (h, act) refl), (λ attrs b h. (rw (h, act) refl, rw (h, act) refl, rw (h, act) refl), (λ attrs b h. (rw (h, act) refl, rw (h, act) refl, rw (h, act) refl), (λ attrs b h. (rw (h, act) refl, rw (h, act) refl, rw (h, act) refl), tt)))),
+      ),
+    ),
+  ),
+)
 
 pub phrase_ordinary : Each (Ordinary) (names_of APhrase)
 unfolding run rules taken act in_scope
-phrase_ordinary =
-    (record { closes = λ b number attrs children o os. (refl, refl, refl); ends = refl; unswitched = refl; unlisted = (refl, refl); passes = λ c m ms. refl },
-    (record { closes = λ b number attrs children o os. (refl, refl, refl); ends = refl; unswitched = refl; unlisted = (refl, refl); passes = λ c m ms. refl },
-    (record { closes = λ b number attrs children o os. (refl, refl, refl); ends = refl; unswitched = refl; unlisted = (refl, refl); passes = λ c m ms. refl },
-    (record { closes = λ b number attrs children o os. (refl, refl, refl); ends = refl; unswitched = refl; unlisted = (refl, refl); passes = λ c m ms. refl },
-    (record { closes = λ b number attrs children o os. (refl, refl, refl); ends = refl; unswitched = refl; unlisted = (refl, refl); passes = λ c m ms. refl },
-    (record { closes = λ b number attrs children o os. (refl, refl, refl); ends = refl; unswitched = refl; unlisted = (refl, refl); passes = λ c m ms. refl },
-    (record { closes = λ b number attrs children o os. (refl, refl, refl); ends = refl; unswitched = refl; unlisted = (refl, refl); passes = λ c m ms. refl },
-    (record { closes = λ b number attrs children o os. (refl, refl, refl); ends = refl; unswitched = refl; unlisted = (refl, refl); passes = λ c m ms. refl }, tt))))))))
+phrase_ordinary = (
+  record { closes = λ b number attrs children o os. (refl, refl, refl); ends = refl; unswitched = refl; unlisted = (refl, refl); passes = λ c m ms. refl },
+  (
+    record { closes = λ b number attrs children o os. (refl, refl, refl); ends = refl; unswitched = refl; unlisted = (refl, refl); passes = λ c m ms. refl },
+    (
+      record { closes = λ b number attrs children o os. (refl, refl, refl); ends = refl; unswitched = refl; unlisted = (refl, refl); passes = λ c m ms. refl },
+      (
+        record { closes = λ b number attrs children o os. (refl, refl, refl); ends = refl; unswitched = refl; unlisted = (refl, refl); passes = λ c m ms. refl },
+        (
+          record { closes = λ b number attrs children o os. (refl, refl, refl); ends = refl; unswitched = refl; unlisted = (refl, refl); passes = λ c m ms. refl },
+          (
+            record { closes = λ b number attrs children o os. (refl, refl, refl); ends = refl; unswitched = refl; unlisted = (refl, refl); passes = λ c m ms. refl },
+            (
+              record { closes = λ b number attrs children o os. (refl, refl, refl); ends = refl; unswitched = refl; unlisted = (refl, refl); passes = λ c m ms. refl },
+              (record { closes = λ b number attrs children o os. (refl, refl, refl); ends = refl; unswitched = refl; unlisted = (refl, refl); passes = λ c m ms. refl }, tt),
+            ),
+          ),
+        ),
+      ),
+    ),
+  ),
+)
 
 pub phrase_no_heading : Each (λ name. is_among name headings ≡ false) (names_of APhrase)
 phrase_no_heading = (refl, (refl, (refl, (refl, (refl, (refl, (refl, (refl, tt))))))))
 
 pub phrase_barless : Each (Barless) (names_of APhrase)
-phrase_barless =
-    (record { no_p = refl; no_a = refl; no_button = refl },
-    (record { no_p = refl; no_a = refl; no_button = refl },
-    (record { no_p = refl; no_a = refl; no_button = refl },
-    (record { no_p = refl; no_a = refl; no_button = refl }, (record { no_p = refl; no_a = refl; no_button = refl }, (record { no_p = refl; no_a = refl; no_button = refl }, (record { no_p = refl; no_a = refl; no_button = refl }, (record { no_p = refl; no_a = refl; no_button = refl }, tt))))))))
+phrase_barless = (
+  record { no_p = refl; no_a = refl; no_button = refl },
+  (
+    record { no_p = refl; no_a = refl; no_button = refl },
+    (
+      record { no_p = refl; no_a = refl; no_button = refl },
+      (record { no_p = refl; no_a = refl; no_button = refl }, (record { no_p = refl; no_a = refl; no_button = refl }, (record { no_p = refl; no_a = refl; no_button = refl }, (record { no_p = refl; no_a = refl; no_button = refl }, (record { no_p = refl; no_a = refl; no_button = refl }, tt))))),
+    ),
+  ),
+)
 
 pub ruby_opens : Each (OpensPhrase) (names_of ARuby)
 unfolding run rules taken act in_scope
@@ -210,9 +376,10 @@ ruby_text_opens = (λ attrs b number bs children o os. (refl, refl, refl), (λ a
 
 pub ruby_text_ordinary : Each (Ordinary) (names_of ARubyText)
 unfolding run rules taken act in_scope
-ruby_text_ordinary =
-    (record { closes = λ b number attrs children o os. (refl, refl, refl); ends = refl; unswitched = refl; unlisted = (refl, refl); passes = λ c m ms. refl },
-    (record { closes = λ b number attrs children o os. (refl, refl, refl); ends = refl; unswitched = refl; unlisted = (refl, refl); passes = λ c m ms. refl }, tt))
+ruby_text_ordinary = (
+  record { closes = λ b number attrs children o os. (refl, refl, refl); ends = refl; unswitched = refl; unlisted = (refl, refl); passes = λ c m ms. refl },
+  (record { closes = λ b number attrs children o os. (refl, refl, refl); ends = refl; unswitched = refl; unlisted = (refl, refl); passes = λ c m ms. refl }, tt),
+)
 
 pub ruby_text_no_heading : Each (λ name. is_among name headings ≡ false) (names_of ARubyText)
 ruby_text_no_heading = (refl, (refl, tt))
@@ -240,9 +407,10 @@ description_opens = (λ attrs b h k. (rw (h, k) refl, rw (h, k) refl, rw (h, k) 
 
 pub description_ordinary : Each (Ordinary) (names_of ADescription)
 unfolding run rules taken act in_scope
-description_ordinary =
-    (record { closes = λ b number attrs children o os. (refl, refl, refl); ends = refl; unswitched = refl; unlisted = (refl, refl); passes = λ c m ms. refl },
-    (record { closes = λ b number attrs children o os. (refl, refl, refl); ends = refl; unswitched = refl; unlisted = (refl, refl); passes = λ c m ms. refl }, tt))
+description_ordinary = (
+  record { closes = λ b number attrs children o os. (refl, refl, refl); ends = refl; unswitched = refl; unlisted = (refl, refl); passes = λ c m ms. refl },
+  (record { closes = λ b number attrs children o os. (refl, refl, refl); ends = refl; unswitched = refl; unlisted = (refl, refl); passes = λ c m ms. refl }, tt),
+)
 
 pub description_no_heading : Each (λ name. is_among name headings ≡ false) (names_of ADescription)
 description_no_heading = (refl, (refl, tt))
@@ -273,24 +441,44 @@ button_no_heading = (refl, tt)
 
 pub formatting_opens : Each (OpensFormatting) (names_of AFormatting)
 unfolding run rules taken act in_scope
-formatting_opens =
-    (λ attrs b h. (rw (h, act) refl, rw (h, act) refl, rw (h, act) refl),
-    (λ attrs b h. (rw (h, act) refl, rw (h, act) refl, rw (h, act) refl),
-    (λ attrs b h. (rw (h, act) refl, rw (h, act) refl, rw (h, act) refl),
-    (λ attrs b h. (rw (h, act) refl, rw (h, act) refl, rw (h, act) refl),
-    (λ attrs b h. (rw (h, act) refl, rw (h, act) refl, rw (h, act) refl), (λ attrs b h. (rw (h, act) refl, rw (h, act) refl, rw (h, act) refl), (λ attrs b h. (rw (h, act) refl, rw (h, act) refl, rw (h, act) refl), (λ attrs b h. (rw (h, act) refl, rw (h, act) refl, rw (h, act) refl), tt))))))))
+formatting_opens = (
+  λ attrs b h. (rw (h, act) refl, rw (h, act) refl, rw (h, act) refl),
+  (
+    λ attrs b h. (rw (h, act) refl, rw (h, act) refl, rw (h, act) refl),
+    (
+      λ attrs b h. (rw (h, act) refl, rw (h, act) refl, rw (h, act) refl),
+      (
+        λ attrs b h. (rw (h, act) refl, rw (h, act) refl, rw (h, act) refl),
+        (λ attrs b h. (rw (h, act) refl, rw (h, act) refl, rw (h, act) refl), (λ attrs b h. (rw (h, act) refl, rw (h, act) refl, rw (h, act) refl), (λ attrs b h. (rw (h, act) refl, rw (h, act) refl, rw (h, act) refl), (λ attrs b h. (rw (h, act) refl, rw (h, act) refl, rw (h, act) refl), tt)))),
+      ),
+    ),
+  ),
+)
 
 pub formatting_is : Each (Formatting) (names_of AFormatting)
 unfolding run rules taken act in_scope
-formatting_is =
-    (record { closes = λ b c h. (rw h refl, rw h refl, rw h refl); ends = refl; unswitched = refl; listed = (refl, refl); passes = λ c m ms. refl },
-    (record { closes = λ b c h. (rw h refl, rw h refl, rw h refl); ends = refl; unswitched = refl; listed = (refl, refl); passes = λ c m ms. refl },
-    (record { closes = λ b c h. (rw h refl, rw h refl, rw h refl); ends = refl; unswitched = refl; listed = (refl, refl); passes = λ c m ms. refl },
-    (record { closes = λ b c h. (rw h refl, rw h refl, rw h refl); ends = refl; unswitched = refl; listed = (refl, refl); passes = λ c m ms. refl },
-    (record { closes = λ b c h. (rw h refl, rw h refl, rw h refl); ends = refl; unswitched = refl; listed = (refl, refl); passes = λ c m ms. refl },
-    (record { closes = λ b c h. (rw h refl, rw h refl, rw h refl); ends = refl; unswitched = refl; listed = (refl, refl); passes = λ c m ms. refl },
-    (record { closes = λ b c h. (rw h refl, rw h refl, rw h refl); ends = refl; unswitched = refl; listed = (refl, refl); passes = λ c m ms. refl },
-    (record { closes = λ b c h. (rw h refl, rw h refl, rw h refl); ends = refl; unswitched = refl; listed = (refl, refl); passes = λ c m ms. refl }, tt))))))))
+formatting_is = (
+  record { closes = λ b c h. (rw h refl, rw h refl, rw h refl); ends = refl; unswitched = refl; listed = (refl, refl); passes = λ c m ms. refl },
+  (
+    record { closes = λ b c h. (rw h refl, rw h refl, rw h refl); ends = refl; unswitched = refl; listed = (refl, refl); passes = λ c m ms. refl },
+    (
+      record { closes = λ b c h. (rw h refl, rw h refl, rw h refl); ends = refl; unswitched = refl; listed = (refl, refl); passes = λ c m ms. refl },
+      (
+        record { closes = λ b c h. (rw h refl, rw h refl, rw h refl); ends = refl; unswitched = refl; listed = (refl, refl); passes = λ c m ms. refl },
+        (
+          record { closes = λ b c h. (rw h refl, rw h refl, rw h refl); ends = refl; unswitched = refl; listed = (refl, refl); passes = λ c m ms. refl },
+          (
+            record { closes = λ b c h. (rw h refl, rw h refl, rw h refl); ends = refl; unswitched = refl; listed = (refl, refl); passes = λ c m ms. refl },
+            (
+              record { closes = λ b c h. (rw h refl, rw h refl, rw h refl); ends = refl; unswitched = refl; listed = (refl, refl); passes = λ c m ms. refl },
+              (record { closes = λ b c h. (rw h refl, rw h refl, rw h refl); ends = refl; unswitched = refl; listed = (refl, refl); passes = λ c m ms. refl }, tt),
+            ),
+          ),
+        ),
+      ),
+    ),
+  ),
+)
 
 pub formatting_no_heading : Each (λ name. is_among name headings ≡ false) (names_of AFormatting)
 formatting_no_heading = (refl, (refl, (refl, (refl, (refl, (refl, (refl, (refl, tt))))))))
@@ -303,11 +491,16 @@ pub anchor_no_heading : Each (λ name. is_among name headings ≡ false) (names_
 anchor_no_heading = (refl, tt)
 
 pub formatting_barless : Each (Barless) (names_of AFormatting)
-formatting_barless =
-    (record { no_p = refl; no_a = refl; no_button = refl },
-    (record { no_p = refl; no_a = refl; no_button = refl },
-    (record { no_p = refl; no_a = refl; no_button = refl },
-    (record { no_p = refl; no_a = refl; no_button = refl }, (record { no_p = refl; no_a = refl; no_button = refl }, (record { no_p = refl; no_a = refl; no_button = refl }, (record { no_p = refl; no_a = refl; no_button = refl }, (record { no_p = refl; no_a = refl; no_button = refl }, tt))))))))
+formatting_barless = (
+  record { no_p = refl; no_a = refl; no_button = refl },
+  (
+    record { no_p = refl; no_a = refl; no_button = refl },
+    (
+      record { no_p = refl; no_a = refl; no_button = refl },
+      (record { no_p = refl; no_a = refl; no_button = refl }, (record { no_p = refl; no_a = refl; no_button = refl }, (record { no_p = refl; no_a = refl; no_button = refl }, (record { no_p = refl; no_a = refl; no_button = refl }, (record { no_p = refl; no_a = refl; no_button = refl }, tt))))),
+    ),
+  ),
+)
 
 pub list_holds : Each (HoldsItems (names_of AnItem)) (names_of AList)
 list_holds = (λ number attrs children os. refl, (λ number attrs children os. refl, (λ number attrs children os. refl, (λ number attrs children os. refl, tt))))
@@ -317,11 +510,16 @@ description_list_holds = (λ number attrs children os. refl, tt)
 
 pub void_is : Each (IsVoid) (names_of AVoid)
 unfolding run rules taken act in_scope
-void_is =
-    (record { made = λ attrs b o os h. (rw (h, act) refl, rw (h, act) refl, rw (h, act) refl); ends = refl; unswitched = refl },
-    (record { made = λ attrs b o os h. (rw (h, act) refl, rw (h, act) refl, rw (h, act) refl); ends = refl; unswitched = refl },
-    (record { made = λ attrs b o os h. (rw (h, act) refl, rw (h, act) refl, rw (h, act) refl); ends = refl; unswitched = refl },
-    (record { made = λ attrs b o os h. (rw (h, act) refl, rw (h, act) refl, rw (h, act) refl); ends = refl; unswitched = refl }, (record { made = λ attrs b o os h. (rw (h, act) refl, rw (h, act) refl, rw (h, act) refl); ends = refl; unswitched = refl }, tt)))))
+void_is = (
+  record { made = λ attrs b o os h. (rw (h, act) refl, rw (h, act) refl, rw (h, act) refl); ends = refl; unswitched = refl },
+  (
+    record { made = λ attrs b o os h. (rw (h, act) refl, rw (h, act) refl, rw (h, act) refl); ends = refl; unswitched = refl },
+    (
+      record { made = λ attrs b o os h. (rw (h, act) refl, rw (h, act) refl, rw (h, act) refl); ends = refl; unswitched = refl },
+      (record { made = λ attrs b o os h. (rw (h, act) refl, rw (h, act) refl, rw (h, act) refl); ends = refl; unswitched = refl }, (record { made = λ attrs b o os h. (rw (h, act) refl, rw (h, act) refl, rw (h, act) refl); ends = refl; unswitched = refl }, tt)),
+    ),
+  ),
+)
 
 pub break_is : Each (IsBreak) (names_of ABreak)
 unfolding run rules taken act in_scope
@@ -333,9 +531,10 @@ source_is = (record { made = λ attrs b o os. (refl, refl, refl); ends = refl; u
 
 pub raw_text_is : Each (IsRawText) (names_of ARawText)
 unfolding run rules taken act in_scope
-raw_text_is =
-    (record { opens = λ attrs b. (refl, refl, refl); opens_in_head = λ attrs b. refl; closes = λ b number attrs children o os. refl; ends = refl },
-    (record { opens = λ attrs b. (refl, refl, refl); opens_in_head = λ attrs b. refl; closes = λ b number attrs children o os. refl; ends = refl }, (record { opens = λ attrs b. (refl, refl, refl); opens_in_head = λ attrs b. refl; closes = λ b number attrs children o os. refl; ends = refl }, tt)))
+raw_text_is = (
+  record { opens = λ attrs b. (refl, refl, refl); opens_in_head = λ attrs b. refl; closes = λ b number attrs children o os. refl; ends = refl },
+  (record { opens = λ attrs b. (refl, refl, refl); opens_in_head = λ attrs b. refl; closes = λ b number attrs children o os. refl; ends = refl }, (record { opens = λ attrs b. (refl, refl, refl); opens_in_head = λ attrs b. refl; closes = λ b number attrs children o os. refl; ends = refl }, tt)),
+)
 
 pub metadata_is : Each (IsLeafIn InHead) (names_of AMetadata)
 unfolding run rules taken act in_scope
@@ -351,9 +550,10 @@ caption_is = (record { opens = λ b attrs bs n children o os. refl; closes = λ 
 
 pub cell_is : Each (IsMarkedPart InRow (codes "tr") InCell) (names_of ACell)
 unfolding run rules taken act in_scope
-cell_is =
-    (record { opens = λ b attrs bs n children o os. refl; closes = λ b attrs n children o os. refl; ends = refl; unswitched = refl; gives = λ c m ms. refl; marker = refl; unlisted = refl },
-    (record { opens = λ b attrs bs n children o os. refl; closes = λ b attrs n children o os. refl; ends = refl; unswitched = refl; gives = λ c m ms. refl; marker = refl; unlisted = refl }, tt))
+cell_is = (
+  record { opens = λ b attrs bs n children o os. refl; closes = λ b attrs n children o os. refl; ends = refl; unswitched = refl; gives = λ c m ms. refl; marker = refl; unlisted = refl },
+  (record { opens = λ b attrs bs n children o os. refl; closes = λ b attrs n children o os. refl; ends = refl; unswitched = refl; gives = λ c m ms. refl; marker = refl; unlisted = refl }, tt),
+)
 
 pub column_group_is : Each (IsPart InTable (codes "table") InColumnGroup) (names_of AColumnGroup)
 unfolding run rules taken act in_scope
@@ -361,17 +561,23 @@ column_group_is = (record { opens = λ b attrs bs n children o os. refl; closes 
 
 pub row_group_is : Each (IsPart InTable (codes "table") InTableBody) (names_of ARowGroup)
 unfolding run rules taken act in_scope
-row_group_is =
-    (record { opens = λ b attrs bs n children o os. refl; closes = λ b attrs n children o os. refl; ends = refl; unswitched = refl; unlisted = (refl, refl) },
-    (record { opens = λ b attrs bs n children o os. refl; closes = λ b attrs n children o os. refl; ends = refl; unswitched = refl; unlisted = (refl, refl) },
-    (record { opens = λ b attrs bs n children o os. refl; closes = λ b attrs n children o os. refl; ends = refl; unswitched = refl; unlisted = (refl, refl) }, tt)))
+row_group_is = (
+  record { opens = λ b attrs bs n children o os. refl; closes = λ b attrs n children o os. refl; ends = refl; unswitched = refl; unlisted = (refl, refl) },
+  (
+    record { opens = λ b attrs bs n children o os. refl; closes = λ b attrs n children o os. refl; ends = refl; unswitched = refl; unlisted = (refl, refl) },
+    (record { opens = λ b attrs bs n children o os. refl; closes = λ b attrs n children o os. refl; ends = refl; unswitched = refl; unlisted = (refl, refl) }, tt),
+  ),
+)
 
 pub row_is : Each (λ parent. IsPart InTableBody parent InRow (codes "tr")) (names_of ARowGroup)
 unfolding run rules taken act in_scope
-row_is =
-    (record { opens = λ b attrs bs n children o os. refl; closes = λ b attrs n children o os. refl; ends = refl; unswitched = refl; unlisted = (refl, refl) },
-    (record { opens = λ b attrs bs n children o os. refl; closes = λ b attrs n children o os. refl; ends = refl; unswitched = refl; unlisted = (refl, refl) },
-    (record { opens = λ b attrs bs n children o os. refl; closes = λ b attrs n children o os. refl; ends = refl; unswitched = refl; unlisted = (refl, refl) }, tt)))
+row_is = (
+  record { opens = λ b attrs bs n children o os. refl; closes = λ b attrs n children o os. refl; ends = refl; unswitched = refl; unlisted = (refl, refl) },
+  (
+    record { opens = λ b attrs bs n children o os. refl; closes = λ b attrs n children o os. refl; ends = refl; unswitched = refl; unlisted = (refl, refl) },
+    (record { opens = λ b attrs bs n children o os. refl; closes = λ b attrs n children o os. refl; ends = refl; unswitched = refl; unlisted = (refl, refl) }, tt),
+  ),
+)
 
 pub table_is : Each (IsTable) (names_of ATable)
 unfolding run rules taken act in_scope
@@ -420,10 +626,13 @@ column_group_space = (λ b n attrs children os c h. each_space (λ c. RunsIn InC
 
 pub row_group_space : Each (KeepsSpace InTableBody) (names_of ARowGroup)
 unfolding run rules taken act in_scope
-row_group_space =
-    (λ b n attrs children os c h. each_space (λ c. RunsIn InTableBody (AChar c) (with_stack b (open_of n (codes "tbody") attrs children ∷ os)) (with_stack b (with_one (open_of n (codes "tbody") attrs children) c ∷ os))) refl refl refl refl refl c h,
-    (λ b n attrs children os c h. each_space (λ c. RunsIn InTableBody (AChar c) (with_stack b (open_of n (codes "tfoot") attrs children ∷ os)) (with_stack b (with_one (open_of n (codes "tfoot") attrs children) c ∷ os))) refl refl refl refl refl c h,
-    (λ b n attrs children os c h. each_space (λ c. RunsIn InTableBody (AChar c) (with_stack b (open_of n (codes "thead") attrs children ∷ os)) (with_stack b (with_one (open_of n (codes "thead") attrs children) c ∷ os))) refl refl refl refl refl c h, tt)))
+row_group_space = (
+  λ b n attrs children os c h. each_space (λ c. RunsIn InTableBody (AChar c) (with_stack b (open_of n (codes "tbody") attrs children ∷ os)) (with_stack b (with_one (open_of n (codes "tbody") attrs children) c ∷ os))) refl refl refl refl refl c h,
+  (
+    λ b n attrs children os c h. each_space (λ c. RunsIn InTableBody (AChar c) (with_stack b (open_of n (codes "tfoot") attrs children ∷ os)) (with_stack b (with_one (open_of n (codes "tfoot") attrs children) c ∷ os))) refl refl refl refl refl c h,
+    (λ b n attrs children os c h. each_space (λ c. RunsIn InTableBody (AChar c) (with_stack b (open_of n (codes "thead") attrs children ∷ os)) (with_stack b (with_one (open_of n (codes "thead") attrs children) c ∷ os))) refl refl refl refl refl c h, tt),
+  ),
+)
 
 pub row_space : Each (KeepsSpace InRow) (names_of ARow)
 unfolding run rules taken act in_scope

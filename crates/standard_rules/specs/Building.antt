@@ -233,7 +233,7 @@ top_unlisted b = elim b.stack [ [] ↦ false | o ∷ os ↦ not (is_listed o.num
 abbrev pub adopted : List ℕ → Building → Option Building
 adopted name b =
     elim (top_is (name ∷ []) b.stack && top_unlisted b)
-        [ true ↦ on_stack b (popped b.stack) | false ↦ adopted_by name (last_listed (name ∷ []) b.listed) b ]
+    [ true ↦ on_stack b (popped b.stack) | false ↦ adopted_by name (last_listed (name ∷ []) b.listed) b ]
 
 -- the end tag of `form`: only where the form is the current node
 abbrev pub form_ended : Option ℕ → Building → Option Building
@@ -340,9 +340,11 @@ pub record Taken : Type 0 where
 unfoldable pub taken : Token → Building → List Rule → Taken
 taken token b [] = record { acts = []; goes = NoRule }
 taken token b (rule pattern condition acts goes ∷ rs) =
-    elim (fits pattern token)
-        [ true ↦ elim (holds condition token b) [ true ↦ record { acts = acts; goes = goes } | false ↦ taken token b rs ] | false ↦
-        taken token b rs ]
+    elim (fits pattern token) [
+      | true ↦ elim (holds condition token b) [ true ↦ record { acts = acts; goes = goes } | false ↦ taken token b rs ]
+      | false ↦
+          taken token b rs
+    ]
 
 -- ---- reset the insertion mode appropriately (13.2.4.1)
 
@@ -428,9 +430,18 @@ tree_steps b (token ∷ more) = option_and_then (λ after. tree_steps after more
 
 abbrev pub start : Building
 start =
-    record
-    { document = no_trees; stack = []; listed = []; mode = Initial; original = Initial; form = None; frameset_ok = true; skip = false;
-    next = 0; context = None }
+    record {
+      document = no_trees;
+      stack = [];
+      listed = [];
+      mode = Initial;
+      original = Initial;
+      form = None;
+      frameset_ok = true;
+      skip = false;
+      next = 0;
+      context = None;
+    }
 
 -- the HTML fragment parsing algorithm (13.4), by the name of the context element: an element `html` is open, and the mode is reset
 abbrev pub fragment_start : List ℕ → Option Building

@@ -238,7 +238,7 @@ pub record Page : Type 0 where
 abbrev pub page_trees : Page → Trees
 page_trees page = doctype_node (codes "html") (element_node (codes "html") page.html
     (element_node (codes "head") page.head page.metadata
-        (space_node page.space (element_node (codes "body") page.body page.contents no_trees))) no_trees)
+    (space_node page.space (element_node (codes "body") page.body page.contents no_trees))) no_trees)
 
 -- a page whose head and body hold plain trees
 pub record IsPlainPage (page : Page) : Type 0 where

@@ -47,7 +47,7 @@ rules BeforeHtml =
     rule Comment Always (InsertComment ∷ []) Stay ∷
     rule (StartOf (codes "html" ∷ [])) Always (InsertElement ∷ []) (SwitchTo BeforeHead) ∷
     rule (EndOf (codes "head" ∷ codes "body" ∷ codes "html" ∷ codes "br" ∷ [])) Always (InsertNamed (codes "html") ∷ [])
-        (ReprocessIn BeforeHead) ∷
+    (ReprocessIn BeforeHead) ∷
     rule AnyEnd Always ([]) Stay ∷
     rule AnythingElse Always (InsertNamed (codes "html") ∷ []) (ReprocessIn BeforeHead) ∷ []
 rules BeforeHead =
@@ -57,7 +57,7 @@ rules BeforeHead =
     rule (StartOf (codes "html" ∷ [])) Always ([]) NoRule ∷
     rule (StartOf (codes "head" ∷ [])) Always (InsertElement ∷ []) (SwitchTo InHead) ∷
     rule (EndOf (codes "head" ∷ codes "body" ∷ codes "html" ∷ codes "br" ∷ [])) Always (InsertNamed (codes "head") ∷ [])
-        (ReprocessIn InHead) ∷
+    (ReprocessIn InHead) ∷
     rule AnyEnd Always ([]) Stay ∷
     rule AnythingElse Always (InsertNamed (codes "head") ∷ []) (ReprocessIn InHead) ∷ []
 rules InHead =
@@ -65,7 +65,7 @@ rules InHead =
     rule Doctype Always ([]) Stay ∷
     rule Comment Always (InsertComment ∷ []) Stay ∷
     rule (StartOf (codes "base" ∷ codes "basefont" ∷ codes "bgsound" ∷ codes "link" ∷ codes "meta" ∷ [])) Always (InsertElement ∷ Pop ∷ [])
-        Stay ∷
+    Stay ∷
     rule (StartOf (codes "title" ∷ codes "noframes" ∷ codes "style" ∷ codes "script" ∷ [])) Always (InsertElement ∷ []) ReadText ∷
     rule (StartOf (codes "html" ∷ codes "noscript" ∷ codes "template" ∷ [])) Always ([]) NoRule ∷
     rule (StartOf (codes "head" ∷ [])) Always ([]) Stay ∷
@@ -79,8 +79,8 @@ rules AfterHead =
     rule Doctype Always ([]) Stay ∷
     rule Comment Always (InsertComment ∷ []) Stay ∷
     rule (StartOf
-        (codes "html" ∷ codes "frameset" ∷ codes "base" ∷ codes "basefont" ∷ codes "bgsound" ∷ codes "link" ∷ codes "meta"
-        ∷ codes "noframes" ∷ codes "script" ∷ codes "style" ∷ codes "template" ∷ codes "title" ∷ [])) Always ([]) NoRule ∷
+    (codes "html" ∷ codes "frameset" ∷ codes "base" ∷ codes "basefont" ∷ codes "bgsound" ∷ codes "link" ∷ codes "meta"
+    ∷ codes "noframes" ∷ codes "script" ∷ codes "style" ∷ codes "template" ∷ codes "title" ∷ [])) Always ([]) NoRule ∷
     rule (StartOf (codes "head" ∷ [])) Always ([]) Stay ∷
     rule (StartOf (codes "body" ∷ [])) Always (InsertElement ∷ FramesetNotOk ∷ []) (SwitchTo InBody) ∷
     rule (EndOf (codes "body" ∷ codes "html" ∷ codes "br" ∷ [])) Always (InsertNamed (codes "body") ∷ []) (ReprocessIn InBody) ∷
@@ -95,12 +95,12 @@ rules InBody =
     rule Doctype Always ([]) Stay ∷
     rule (StartOf (codes "html" ∷ codes "body" ∷ codes "frameset" ∷ [])) Always ([]) NoRule ∷
     rule (StartOf
-        (codes "base" ∷ codes "basefont" ∷ codes "bgsound" ∷ codes "link" ∷ codes "meta" ∷ codes "noframes" ∷ codes "script" ∷ codes "style"
-        ∷ codes "title" ∷ [])) Always ([]) (UseRulesFor InHead) ∷
+    (codes "base" ∷ codes "basefont" ∷ codes "bgsound" ∷ codes "link" ∷ codes "meta" ∷ codes "noframes" ∷ codes "script" ∷ codes "style"
+    ∷ codes "title" ∷ [])) Always ([]) (UseRulesFor InHead) ∷
     rule (StartOf
-        (codes "template" ∷ codes "image" ∷ codes "textarea" ∷ codes "xmp" ∷ codes "iframe" ∷ codes "noembed" ∷ codes "noscript"
-        ∷ codes "select" ∷ codes "optgroup" ∷ codes "option" ∷ codes "math" ∷ codes "svg" ∷ codes "nobr" ∷ codes "plaintext" ∷ [])) Always
-        ([]) NoRule ∷
+    (codes "template" ∷ codes "image" ∷ codes "textarea" ∷ codes "xmp" ∷ codes "iframe" ∷ codes "noembed" ∷ codes "noscript"
+    ∷ codes "select" ∷ codes "optgroup" ∷ codes "option" ∷ codes "math" ∷ codes "svg" ∷ codes "nobr" ∷ codes "plaintext" ∷ [])) Always
+    ([]) NoRule ∷
     rule (EndOf (codes "template" ∷ [])) Always ([]) NoRule ∷
     rule EndOfFile Always ([]) Stop ∷
     rule (EndOf (codes "body" ∷ [])) (InScope Scope (These (codes "body" ∷ []))) ([]) (SwitchTo AfterBody) ∷
@@ -112,12 +112,12 @@ rules InBody =
     rule (StartOf (codes "form" ∷ [])) Always ([]) Stay ∷
     rule (StartOf (codes "li" ∷ [])) Always (FramesetNotOk ∷ CloseItems (codes "li" ∷ []) ∷ CloseP ∷ InsertElement ∷ []) Stay ∷
     rule (StartOf (codes "dd" ∷ codes "dt" ∷ [])) Always
-        (FramesetNotOk ∷ CloseItems (codes "dd" ∷ codes "dt" ∷ []) ∷ CloseP ∷ InsertElement ∷ []) Stay ∷
+    (FramesetNotOk ∷ CloseItems (codes "dd" ∷ codes "dt" ∷ []) ∷ CloseP ∷ InsertElement ∷ []) Stay ∷
     rule (StartOf (codes "button" ∷ [])) (InScope Scope (These (codes "button" ∷ [])))
-        (ImpliedEndTags ∷ PopUntil (These (codes "button" ∷ [])) ∷ Reconstruct ∷ InsertElement ∷ FramesetNotOk ∷ []) Stay ∷
+    (ImpliedEndTags ∷ PopUntil (These (codes "button" ∷ [])) ∷ Reconstruct ∷ InsertElement ∷ FramesetNotOk ∷ []) Stay ∷
     rule (StartOf (codes "button" ∷ [])) Always (Reconstruct ∷ InsertElement ∷ FramesetNotOk ∷ []) Stay ∷
     rule (EndOf (blocks ++ codes "button" ∷ codes "listing" ∷ codes "pre" ∷ [])) (InScope Scope Own) (ImpliedEndTags ∷ PopUntil Own ∷ [])
-        Stay ∷
+    Stay ∷
     rule (EndOf (codes "form" ∷ [])) Always (EndForm ∷ []) Stay ∷
     rule (EndOf (codes "p" ∷ [])) (InScope ButtonScope (These (codes "p" ∷ []))) (CloseP ∷ []) Stay ∷
     rule (EndOf (codes "p" ∷ [])) Always (InsertNamed (codes "p") ∷ CloseP ∷ []) Stay ∷
@@ -129,13 +129,13 @@ rules InBody =
     rule (StartOf formatting) Always (Reconstruct ∷ InsertElement ∷ ListElement ∷ []) Stay ∷
     rule (EndOf formatting) Always (AdoptionAgency ∷ []) Stay ∷
     rule (StartOf (codes "applet" ∷ codes "marquee" ∷ codes "object" ∷ [])) Always
-        (Reconstruct ∷ InsertElement ∷ ListMarker ∷ FramesetNotOk ∷ []) Stay ∷
+    (Reconstruct ∷ InsertElement ∷ ListMarker ∷ FramesetNotOk ∷ []) Stay ∷
     rule (EndOf (codes "applet" ∷ codes "marquee" ∷ codes "object" ∷ [])) (InScope Scope Own)
-        (ImpliedEndTags ∷ PopUntil Own ∷ ClearToMarker ∷ []) Stay ∷
+    (ImpliedEndTags ∷ PopUntil Own ∷ ClearToMarker ∷ []) Stay ∷
     rule (StartOf (codes "table" ∷ [])) Always (CloseP ∷ InsertElement ∷ FramesetNotOk ∷ []) (SwitchTo InTable) ∷
     rule (EndOf (codes "br" ∷ codes "nobr" ∷ [])) Always ([]) NoRule ∷
     rule (StartOf (codes "area" ∷ codes "br" ∷ codes "embed" ∷ codes "img" ∷ codes "keygen" ∷ codes "wbr" ∷ [])) Always
-        (Reconstruct ∷ InsertElement ∷ Pop ∷ FramesetNotOk ∷ []) Stay ∷
+    (Reconstruct ∷ InsertElement ∷ Pop ∷ FramesetNotOk ∷ []) Stay ∷
     rule (StartOf (codes "input" ∷ [])) Hidden (Reconstruct ∷ InsertElement ∷ Pop ∷ []) Stay ∷
     rule (StartOf (codes "input" ∷ [])) Always (Reconstruct ∷ InsertElement ∷ Pop ∷ FramesetNotOk ∷ []) Stay ∷
     rule (StartOf (codes "param" ∷ codes "source" ∷ codes "track" ∷ [])) Always (InsertElement ∷ Pop ∷ []) Stay ∷
@@ -144,12 +144,12 @@ rules InBody =
     rule (StartOf (codes "rb" ∷ codes "rtc" ∷ [])) (InScope Scope (These (codes "ruby" ∷ []))) (ImpliedEndTags ∷ InsertElement ∷ []) Stay ∷
     rule (StartOf (codes "rb" ∷ codes "rtc" ∷ [])) Always (InsertElement ∷ []) Stay ∷
     rule (StartOf (codes "rp" ∷ codes "rt" ∷ [])) (InScope Scope (These (codes "ruby" ∷ [])))
-        (ImpliedEndTagsBut (These (codes "rtc" ∷ [])) ∷ InsertElement ∷ []) Stay ∷
+    (ImpliedEndTagsBut (These (codes "rtc" ∷ [])) ∷ InsertElement ∷ []) Stay ∷
     rule (StartOf (codes "rp" ∷ codes "rt" ∷ [])) Always (InsertElement ∷ []) Stay ∷
     rule AnyStart Always (Reconstruct ∷ InsertElement ∷ []) Stay ∷
     rule (EndOf
-        (blocks ++ headings ++ outer ++ codes "button" ∷ codes "listing" ∷ codes "pre" ∷ codes "li" ∷ codes "dd" ∷ codes "dt"
-        ∷ codes "applet" ∷ codes "marquee" ∷ codes "object" ∷ [])) Always ([]) Stay ∷
+    (blocks ++ headings ++ outer ++ codes "button" ∷ codes "listing" ∷ codes "pre" ∷ codes "li" ∷ codes "dd" ∷ codes "dt"
+    ∷ codes "applet" ∷ codes "marquee" ∷ codes "object" ∷ [])) Always ([]) Stay ∷
     rule AnyEnd Always (AnyOtherEndTag ∷ []) Stay ∷ []
 rules Text =
     rule Character Always (InsertCharacter ∷ []) Stay ∷
@@ -159,28 +159,28 @@ rules InTable =
     rule Comment Always (InsertComment ∷ []) Stay ∷
     rule Doctype Always ([]) Stay ∷
     rule (StartOf (codes "caption" ∷ [])) Always (ClearStackTo (codes "table" ∷ []) ∷ ListMarker ∷ InsertElement ∷ []) (SwitchTo InCaption)
-        ∷
+    ∷
     rule (StartOf (codes "colgroup" ∷ [])) Always (ClearStackTo (codes "table" ∷ []) ∷ InsertElement ∷ []) (SwitchTo InColumnGroup) ∷
     rule (StartOf (codes "col" ∷ [])) Always (ClearStackTo (codes "table" ∷ []) ∷ InsertNamed (codes "colgroup") ∷ [])
-        (ReprocessIn InColumnGroup) ∷
+    (ReprocessIn InColumnGroup) ∷
     rule (StartOf groups) Always (ClearStackTo (codes "table" ∷ []) ∷ InsertElement ∷ []) (SwitchTo InTableBody) ∷
     rule (StartOf (codes "td" ∷ codes "th" ∷ codes "tr" ∷ [])) Always (ClearStackTo (codes "table" ∷ []) ∷ InsertNamed (codes "tbody") ∷ [])
-        (ReprocessIn InTableBody) ∷
+    (ReprocessIn InTableBody) ∷
     rule (StartOf (codes "table" ∷ [])) (InScope TableScope (These (codes "table" ∷ []))) (PopUntil (These (codes "table" ∷ [])) ∷ [])
-        ResetAndReprocess ∷
+    ResetAndReprocess ∷
     rule (EndOf (codes "table" ∷ [])) (InScope TableScope (These (codes "table" ∷ []))) (PopUntil (These (codes "table" ∷ [])) ∷ [])
-        ResetMode ∷
+    ResetMode ∷
     rule (EndOf (codes "table" ∷ [])) Always ([]) Stay ∷
     rule (EndOf (outer ++ tabular)) Always ([]) Stay ∷
     rule (StartOf (codes "style" ∷ codes "script" ∷ [])) Always ([]) (UseRulesFor InHead) ∷
     rule EndOfFile Always ([]) (UseRulesFor InBody) ∷ []
 rules InCaption =
     rule (EndOf (codes "caption" ∷ [])) (InScope TableScope (These (codes "caption" ∷ [])))
-        (ImpliedEndTags ∷ PopUntil (These (codes "caption" ∷ [])) ∷ ClearToMarker ∷ []) (SwitchTo InTable) ∷
+    (ImpliedEndTags ∷ PopUntil (These (codes "caption" ∷ [])) ∷ ClearToMarker ∷ []) (SwitchTo InTable) ∷
     rule (StartOf tabular) (InScope TableScope (These (codes "caption" ∷ [])))
-        (ImpliedEndTags ∷ PopUntil (These (codes "caption" ∷ [])) ∷ ClearToMarker ∷ []) (ReprocessIn InTable) ∷
+    (ImpliedEndTags ∷ PopUntil (These (codes "caption" ∷ [])) ∷ ClearToMarker ∷ []) (ReprocessIn InTable) ∷
     rule (EndOf (codes "table" ∷ [])) (InScope TableScope (These (codes "caption" ∷ [])))
-        (ImpliedEndTags ∷ PopUntil (These (codes "caption" ∷ [])) ∷ ClearToMarker ∷ []) (ReprocessIn InTable) ∷
+    (ImpliedEndTags ∷ PopUntil (These (codes "caption" ∷ [])) ∷ ClearToMarker ∷ []) (ReprocessIn InTable) ∷
     rule (StartOf tabular) Always ([]) Stay ∷
     rule (EndOf (outer ++ tabular ++ codes "table" ∷ [])) Always ([]) Stay ∷
     rule AnythingElse Always ([]) (UseRulesFor InBody) ∷ []
@@ -202,34 +202,34 @@ rules InTableBody =
     rule (EndOf groups) (InScope TableScope Own) (ClearStackTo groups ∷ Pop ∷ []) (SwitchTo InTable) ∷
     rule (EndOf groups) Always ([]) Stay ∷
     rule (StartOf (groups ++ codes "caption" ∷ codes "col" ∷ codes "colgroup" ∷ [])) (InScope TableScope (These groups))
-        (ClearStackTo groups ∷ Pop ∷ []) (ReprocessIn InTable) ∷
+    (ClearStackTo groups ∷ Pop ∷ []) (ReprocessIn InTable) ∷
     rule (EndOf (codes "table" ∷ [])) (InScope TableScope (These groups)) (ClearStackTo groups ∷ Pop ∷ []) (ReprocessIn InTable) ∷
     rule (StartOf (groups ++ codes "caption" ∷ codes "col" ∷ codes "colgroup" ∷ [])) Always ([]) Stay ∷
     rule (EndOf (outer ++ codes "table" ∷ codes "caption" ∷ codes "col" ∷ codes "colgroup" ∷ codes "td" ∷ codes "th" ∷ codes "tr" ∷ []))
-        Always ([]) Stay ∷
+    Always ([]) Stay ∷
     rule AnythingElse Always ([]) (UseRulesFor InTable) ∷ []
 rules InRow =
     rule (StartOf cells) Always (ClearStackTo (codes "tr" ∷ []) ∷ InsertElement ∷ ListMarker ∷ []) (SwitchTo InCell) ∷
     rule (EndOf (codes "tr" ∷ [])) (InScope TableScope (These (codes "tr" ∷ []))) (ClearStackTo (codes "tr" ∷ []) ∷ Pop ∷ [])
-        (SwitchTo InTableBody) ∷
+    (SwitchTo InTableBody) ∷
     rule (StartOf (groups ++ codes "caption" ∷ codes "col" ∷ codes "colgroup" ∷ codes "tr" ∷ []))
-        (InScope TableScope (These (codes "tr" ∷ []))) (ClearStackTo (codes "tr" ∷ []) ∷ Pop ∷ []) (ReprocessIn InTableBody) ∷
+    (InScope TableScope (These (codes "tr" ∷ []))) (ClearStackTo (codes "tr" ∷ []) ∷ Pop ∷ []) (ReprocessIn InTableBody) ∷
     rule (EndOf (codes "table" ∷ [])) (InScope TableScope (These (codes "tr" ∷ []))) (ClearStackTo (codes "tr" ∷ []) ∷ Pop ∷ [])
-        (ReprocessIn InTableBody) ∷
+    (ReprocessIn InTableBody) ∷
     rule (EndOf groups) (InScope TableScope Own) (ClearStackTo (codes "tr" ∷ []) ∷ Pop ∷ []) (ReprocessIn InTableBody) ∷
     rule (StartOf (groups ++ codes "caption" ∷ codes "col" ∷ codes "colgroup" ∷ codes "tr" ∷ [])) Always ([]) Stay ∷
     rule (EndOf
-        (groups ++ outer ++ codes "table" ∷ codes "tr" ∷ codes "caption" ∷ codes "col" ∷ codes "colgroup" ∷ codes "td" ∷ codes "th" ∷ []))
-        Always ([]) Stay ∷
+    (groups ++ outer ++ codes "table" ∷ codes "tr" ∷ codes "caption" ∷ codes "col" ∷ codes "colgroup" ∷ codes "td" ∷ codes "th" ∷ []))
+    Always ([]) Stay ∷
     rule AnythingElse Always ([]) (UseRulesFor InTable) ∷ []
 rules InCell =
     rule (EndOf cells) (InScope TableScope Own) (ImpliedEndTags ∷ PopUntil Own ∷ ClearToMarker ∷ []) (SwitchTo InRow) ∷
     rule (EndOf cells) Always ([]) Stay ∷
     rule (StartOf tabular) (InScope TableScope (These cells)) (ImpliedEndTags ∷ PopUntil (These cells) ∷ ClearToMarker ∷ [])
-        (ReprocessIn InRow) ∷
+    (ReprocessIn InRow) ∷
     rule (EndOf (outer ++ codes "caption" ∷ codes "col" ∷ codes "colgroup" ∷ [])) Always ([]) Stay ∷
     rule (EndOf (groups ++ codes "table" ∷ codes "tr" ∷ [])) (InScope TableScope Own)
-        (ImpliedEndTags ∷ PopUntil (These cells) ∷ ClearToMarker ∷ []) (ReprocessIn InRow) ∷
+    (ImpliedEndTags ∷ PopUntil (These cells) ∷ ClearToMarker ∷ []) (ReprocessIn InRow) ∷
     rule (EndOf (groups ++ codes "table" ∷ codes "tr" ∷ [])) Always ([]) Stay ∷
     rule AnythingElse Always ([]) (UseRulesFor InBody) ∷ []
 rules AfterBody =

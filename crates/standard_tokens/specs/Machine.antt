@@ -60,7 +60,7 @@ abbrev pub normalized_behind : Bool → List ℕ → List ℕ
 normalized_behind behind [] = []
 normalized_behind behind (c ∷ text) =
     cond (c == 13) (10 ∷ normalized_behind true text)
-        (cond (behind && c == 10) (normalized_behind false text) (c ∷ normalized_behind false text))
+    (cond (behind && c == 10) (normalized_behind false text) (c ∷ normalized_behind false text))
 
 abbrev pub normalized : List ℕ → List ℕ
 normalized text = normalized_behind false text
@@ -264,9 +264,13 @@ at_state m state = record m { state = state }
 abbrev pub step_by : Machine → List ℕ → Taken → Step
 step_by m text t =
     let after : Machine = all_done t.current t.acts m in
-    record
-        { machine = at_state after (state_behind t.goes after); rest = rest_behind t.goes t.current text; tokens =
-        all_emitted t.current t.acts m; stopped = stops t.goes }
+    record {
+      machine = at_state after (state_behind t.goes after);
+      rest = rest_behind t.goes t.current text;
+      tokens =
+          all_emitted t.current t.acts m;
+      stopped = stops t.goes;
+    }
 
 -- a step of the machine at the front of the text that is left; the end of the text is the end of the file
 unfoldable pub step : Bool → Machine → List ℕ → Step

@@ -96,8 +96,8 @@ contains_word same word (c ∷ text) = begins_with same word (c ∷ text) || con
 abbrev pub is_comment_text : List ℕ → Bool
 is_comment_text text = list_all is_raw_char text
     && not
-        (begins_with eqb (codes ">") text || begins_with eqb (codes "->") text || contains_word eqb (codes "-->") text
-        || contains_word eqb (codes "--!>") text)
+    (begins_with eqb (codes ">") text || begins_with eqb (codes "->") text || contains_word eqb (codes "-->") text
+    || contains_word eqb (codes "--!>") text)
 
 -- how the text of an element is read that has a state of its own: with references, as it is, or as a script
 pub data TextKind : Type 0 where

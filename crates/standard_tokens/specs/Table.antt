@@ -556,9 +556,9 @@ entries CDATASectionEnd =
 -- 13.2.5.72
 entries CharacterReference =
     entry (Next (digit ∷ upper ∷ lower ∷ [])) Always (SetEmpty Buffer ∷ Add Buffer (These (codes "&")) ∷ [])
-        (Reconsume NamedCharacterReference)
+    (Reconsume NamedCharacterReference)
     ∷ entry (Next (chars "#" ∷ [])) Always (SetEmpty Buffer ∷ Add Buffer (These (codes "&")) ∷ Add Buffer Current ∷ [])
-        (Switch NumericCharacterReference)
+    (Switch NumericCharacterReference)
     ∷ entry Else Always (SetEmpty Buffer ∷ Add Buffer (These (codes "&")) ∷ Flush ∷ []) ReconsumeBack
     ∷ []
 -- 13.2.5.73
