@@ -4,6 +4,7 @@ import os
 import pathlib
 import random
 import resource
+import shutil
 import signal
 import subprocess
 import sys
@@ -21,9 +22,9 @@ LONG = "".join(f"<p>{number}</p><script>x</script>" for number in range(60_000))
 KILLS, SEED, NOBODY = 20, 1, 65534
 
 
-def hq(*words, **how):
-    """Runs `hq`, and returns its status and what it says."""
-    ran = subprocess.run([built("hq"), *WORDS, *words], capture_output=True, timeout=SECONDS, text=True, **how)
+def hq(*words, program=None, **how):
+    """Runs `hq`, or a copy of it, and returns its status and what it says."""
+    ran = subprocess.run([program or built("hq"), *WORDS, *words], capture_output=True, timeout=SECONDS, text=True, **how)
     return ran.returncode, ran.stdout + ran.stderr
 
 
@@ -110,8 +111,12 @@ def refused_folder(folder):
     shut.mkdir()
     made = page(shut, mode=0o666)
     shut.chmod(0o555)
-    as_nobody = {"user": NOBODY, "group": NOBODY, "extra_groups": []} if os.geteuid() == 0 else {}
-    said = hq(made, **as_nobody)
+    # Root may write everywhere, so it runs a copy of the program as another user, who may not be let into this checkout.
+    copy = pathlib.Path(folder) / "hq"
+    shutil.copyfile(built("hq"), copy)
+    copy.chmod(0o755)
+    as_nobody = {"user": NOBODY, "group": NOBODY, "extra_groups": [], "cwd": folder} if os.geteuid() == 0 else {}
+    said = hq(made, program=copy, **as_nobody)
     got = said, made.read_text(), names(shut)
     shut.chmod(0o755)
     yield "a folder without write permission", got, ((2, f"hq: {made}: Permission denied (os error 13)\n"), OLD, ["page.html"])
