@@ -310,7 +310,76 @@ phrase_opens = (
       λ attrs b h. (rw (h, act) refl, rw (h, act) refl, rw (h, act) refl),
       (
         λ attrs b h. (rw (h, act) refl, rw (h, act) refl, rw (h, act) refl),
-        (λ attrs b h. (rw (h, act) refl, rw (h, act) refl, rw (h, act) refl), (λ attrs b h. (rw (h, act) refl, rw (h, act) refl, rw (h, act) refl), (λ attrs b h. (rw (h, act) refl, rw (h, act) refl, rw (h, act) refl), (λ attrs b h. (rw (h, act) refl, rw (h, act) refl, rw (h, act) refl), tt)))),
+        (
+          λ attrs b h. (rw (h, act) refl, rw (h, act) refl, rw (h, act) refl),
+          (
+            λ attrs b h. (rw (h, act) refl, rw (h, act) refl, rw (h, act) refl),
+            (
+              λ attrs b h. (rw (h, act) refl, rw (h, act) refl, rw (h, act) refl),
+              (
+                λ attrs b h. (rw (h, act) refl, rw (h, act) refl, rw (h, act) refl),
+                (
+                  λ attrs b h. (rw (h, act) refl, rw (h, act) refl, rw (h, act) refl),
+                  (
+                    λ attrs b h. (rw (h, act) refl, rw (h, act) refl, rw (h, act) refl),
+                    (
+                      λ attrs b h. (rw (h, act) refl, rw (h, act) refl, rw (h, act) refl),
+                      (
+                        λ attrs b h. (rw (h, act) refl, rw (h, act) refl, rw (h, act) refl),
+                        (
+                          λ attrs b h. (rw (h, act) refl, rw (h, act) refl, rw (h, act) refl),
+                          (
+                            λ attrs b h. (rw (h, act) refl, rw (h, act) refl, rw (h, act) refl),
+                            (
+                              λ attrs b h. (rw (h, act) refl, rw (h, act) refl, rw (h, act) refl),
+                              (
+                                λ attrs b h. (rw (h, act) refl, rw (h, act) refl, rw (h, act) refl),
+                                (
+                                  λ attrs b h. (rw (h, act) refl, rw (h, act) refl, rw (h, act) refl),
+                                  (
+                                    λ attrs b h. (rw (h, act) refl, rw (h, act) refl, rw (h, act) refl),
+                                    (
+                                      λ attrs b h. (rw (h, act) refl, rw (h, act) refl, rw (h, act) refl),
+                                      (
+                                        λ attrs b h. (rw (h, act) refl, rw (h, act) refl, rw (h, act) refl),
+                                        (
+                                          λ attrs b h. (rw (h, act) refl, rw (h, act) refl, rw (h, act) refl),
+                                          (
+                                            λ attrs b h. (rw (h, act) refl, rw (h, act) refl, rw (h, act) refl),
+                                            (
+                                              λ attrs b h. (rw (h, act) refl, rw (h, act) refl, rw (h, act) refl),
+                                              (
+                                                λ attrs b h. (rw (h, act) refl, rw (h, act) refl, rw (h, act) refl),
+                                                (
+                                                  λ attrs b h. (rw (h, act) refl, rw (h, act) refl, rw (h, act) refl),
+                                                  (
+                                                    λ attrs b h. (rw (h, act) refl, rw (h, act) refl, rw (h, act) refl),
+                                                    (
+                                                      λ attrs b h. (rw (h, act) refl, rw (h, act) refl, rw (h, act) refl),
+                                                      (λ attrs b h. (rw (h, act) refl, rw (h, act) refl, rw (h, act) refl), (λ attrs b h. (rw (h, act) refl, rw (h, act) refl, rw (h, act) refl), (λ attrs b h. (rw (h, act) refl, rw (h, act) refl, rw (h, act) refl), tt))),
+                                                    ),
+                                                  ),
+                                                ),
+                                              ),
+                                            ),
+                                          ),
+                                        ),
+                                      ),
+                                    ),
+                                  ),
+                                ),
+                              ),
+                            ),
+                          ),
+                        ),
+                      ),
+                    ),
+                  ),
+                ),
+              ),
+            ),
+          ),
+        ),
       ),
     ),
   ),
@@ -332,7 +401,73 @@ phrase_ordinary = (
             record { closes = λ b number attrs children o os. (refl, refl, refl); ends = refl; unswitched = refl; unlisted = (refl, refl); passes = λ c m ms. refl },
             (
               record { closes = λ b number attrs children o os. (refl, refl, refl); ends = refl; unswitched = refl; unlisted = (refl, refl); passes = λ c m ms. refl },
-              (record { closes = λ b number attrs children o os. (refl, refl, refl); ends = refl; unswitched = refl; unlisted = (refl, refl); passes = λ c m ms. refl }, tt),
+              (
+                record { closes = λ b number attrs children o os. (refl, refl, refl); ends = refl; unswitched = refl; unlisted = (refl, refl); passes = λ c m ms. refl },
+                (
+                  record { closes = λ b number attrs children o os. (refl, refl, refl); ends = refl; unswitched = refl; unlisted = (refl, refl); passes = λ c m ms. refl },
+                  (
+                    record { closes = λ b number attrs children o os. (refl, refl, refl); ends = refl; unswitched = refl; unlisted = (refl, refl); passes = λ c m ms. refl },
+                    (
+                      record { closes = λ b number attrs children o os. (refl, refl, refl); ends = refl; unswitched = refl; unlisted = (refl, refl); passes = λ c m ms. refl },
+                      (
+                        record { closes = λ b number attrs children o os. (refl, refl, refl); ends = refl; unswitched = refl; unlisted = (refl, refl); passes = λ c m ms. refl },
+                        (
+                          record { closes = λ b number attrs children o os. (refl, refl, refl); ends = refl; unswitched = refl; unlisted = (refl, refl); passes = λ c m ms. refl },
+                          (
+                            record { closes = λ b number attrs children o os. (refl, refl, refl); ends = refl; unswitched = refl; unlisted = (refl, refl); passes = λ c m ms. refl },
+                            (
+                              record { closes = λ b number attrs children o os. (refl, refl, refl); ends = refl; unswitched = refl; unlisted = (refl, refl); passes = λ c m ms. refl },
+                              (
+                                record { closes = λ b number attrs children o os. (refl, refl, refl); ends = refl; unswitched = refl; unlisted = (refl, refl); passes = λ c m ms. refl },
+                                (
+                                  record { closes = λ b number attrs children o os. (refl, refl, refl); ends = refl; unswitched = refl; unlisted = (refl, refl); passes = λ c m ms. refl },
+                                  (
+                                    record { closes = λ b number attrs children o os. (refl, refl, refl); ends = refl; unswitched = refl; unlisted = (refl, refl); passes = λ c m ms. refl },
+                                    (
+                                      record { closes = λ b number attrs children o os. (refl, refl, refl); ends = refl; unswitched = refl; unlisted = (refl, refl); passes = λ c m ms. refl },
+                                      (
+                                        record { closes = λ b number attrs children o os. (refl, refl, refl); ends = refl; unswitched = refl; unlisted = (refl, refl); passes = λ c m ms. refl },
+                                        (
+                                          record { closes = λ b number attrs children o os. (refl, refl, refl); ends = refl; unswitched = refl; unlisted = (refl, refl); passes = λ c m ms. refl },
+                                          (
+                                            record { closes = λ b number attrs children o os. (refl, refl, refl); ends = refl; unswitched = refl; unlisted = (refl, refl); passes = λ c m ms. refl },
+                                            (
+                                              record { closes = λ b number attrs children o os. (refl, refl, refl); ends = refl; unswitched = refl; unlisted = (refl, refl); passes = λ c m ms. refl },
+                                              (
+                                                record { closes = λ b number attrs children o os. (refl, refl, refl); ends = refl; unswitched = refl; unlisted = (refl, refl); passes = λ c m ms. refl },
+                                                (
+                                                  record { closes = λ b number attrs children o os. (refl, refl, refl); ends = refl; unswitched = refl; unlisted = (refl, refl); passes = λ c m ms. refl },
+                                                  (
+                                                    record { closes = λ b number attrs children o os. (refl, refl, refl); ends = refl; unswitched = refl; unlisted = (refl, refl); passes = λ c m ms. refl },
+                                                    (
+                                                      record { closes = λ b number attrs children o os. (refl, refl, refl); ends = refl; unswitched = refl; unlisted = (refl, refl); passes = λ c m ms. refl },
+                                                      (
+                                                        record { closes = λ b number attrs children o os. (refl, refl, refl); ends = refl; unswitched = refl; unlisted = (refl, refl); passes = λ c m ms. refl },
+                                                        (
+                                                          record { closes = λ b number attrs children o os. (refl, refl, refl); ends = refl; unswitched = refl; unlisted = (refl, refl); passes = λ c m ms. refl },
+                                                          (record { closes = λ b number attrs children o os. (refl, refl, refl); ends = refl; unswitched = refl; unlisted = (refl, refl); passes = λ c m ms. refl }, tt),
+                                                        ),
+                                                      ),
+                                                    ),
+                                                  ),
+                                                ),
+                                              ),
+                                            ),
+                                          ),
+                                        ),
+                                      ),
+                                    ),
+                                  ),
+                                ),
+                              ),
+                            ),
+                          ),
+                        ),
+                      ),
+                    ),
+                  ),
+                ),
+              ),
             ),
           ),
         ),
@@ -342,7 +477,7 @@ phrase_ordinary = (
 )
 
 pub phrase_no_heading : Each (λ name. is_among name headings ≡ false) (names_of APhrase)
-phrase_no_heading = (refl, (refl, (refl, (refl, (refl, (refl, (refl, (refl, tt))))))))
+phrase_no_heading = (refl, (refl, (refl, (refl, (refl, (refl, (refl, (refl, (refl, (refl, (refl, (refl, (refl, (refl, (refl, (refl, (refl, (refl, (refl, (refl, (refl, (refl, (refl, (refl, (refl, (refl, (refl, (refl, (refl, (refl, tt))))))))))))))))))))))))))))))
 
 pub phrase_barless : Each (Barless) (names_of APhrase)
 phrase_barless = (
@@ -351,7 +486,76 @@ phrase_barless = (
     record { no_p = refl; no_a = refl; no_button = refl },
     (
       record { no_p = refl; no_a = refl; no_button = refl },
-      (record { no_p = refl; no_a = refl; no_button = refl }, (record { no_p = refl; no_a = refl; no_button = refl }, (record { no_p = refl; no_a = refl; no_button = refl }, (record { no_p = refl; no_a = refl; no_button = refl }, (record { no_p = refl; no_a = refl; no_button = refl }, tt))))),
+      (
+        record { no_p = refl; no_a = refl; no_button = refl },
+        (
+          record { no_p = refl; no_a = refl; no_button = refl },
+          (
+            record { no_p = refl; no_a = refl; no_button = refl },
+            (
+              record { no_p = refl; no_a = refl; no_button = refl },
+              (
+                record { no_p = refl; no_a = refl; no_button = refl },
+                (
+                  record { no_p = refl; no_a = refl; no_button = refl },
+                  (
+                    record { no_p = refl; no_a = refl; no_button = refl },
+                    (
+                      record { no_p = refl; no_a = refl; no_button = refl },
+                      (
+                        record { no_p = refl; no_a = refl; no_button = refl },
+                        (
+                          record { no_p = refl; no_a = refl; no_button = refl },
+                          (
+                            record { no_p = refl; no_a = refl; no_button = refl },
+                            (
+                              record { no_p = refl; no_a = refl; no_button = refl },
+                              (
+                                record { no_p = refl; no_a = refl; no_button = refl },
+                                (
+                                  record { no_p = refl; no_a = refl; no_button = refl },
+                                  (
+                                    record { no_p = refl; no_a = refl; no_button = refl },
+                                    (
+                                      record { no_p = refl; no_a = refl; no_button = refl },
+                                      (
+                                        record { no_p = refl; no_a = refl; no_button = refl },
+                                        (
+                                          record { no_p = refl; no_a = refl; no_button = refl },
+                                          (
+                                            record { no_p = refl; no_a = refl; no_button = refl },
+                                            (
+                                              record { no_p = refl; no_a = refl; no_button = refl },
+                                              (
+                                                record { no_p = refl; no_a = refl; no_button = refl },
+                                                (
+                                                  record { no_p = refl; no_a = refl; no_button = refl },
+                                                  (
+                                                    record { no_p = refl; no_a = refl; no_button = refl },
+                                                    (record { no_p = refl; no_a = refl; no_button = refl }, (record { no_p = refl; no_a = refl; no_button = refl }, (record { no_p = refl; no_a = refl; no_button = refl }, (record { no_p = refl; no_a = refl; no_button = refl }, tt)))),
+                                                  ),
+                                                ),
+                                              ),
+                                            ),
+                                          ),
+                                        ),
+                                      ),
+                                    ),
+                                  ),
+                                ),
+                              ),
+                            ),
+                          ),
+                        ),
+                      ),
+                    ),
+                  ),
+                ),
+              ),
+            ),
+          ),
+        ),
+      ),
     ),
   ),
 )
@@ -449,7 +653,19 @@ formatting_opens = (
       λ attrs b h. (rw (h, act) refl, rw (h, act) refl, rw (h, act) refl),
       (
         λ attrs b h. (rw (h, act) refl, rw (h, act) refl, rw (h, act) refl),
-        (λ attrs b h. (rw (h, act) refl, rw (h, act) refl, rw (h, act) refl), (λ attrs b h. (rw (h, act) refl, rw (h, act) refl, rw (h, act) refl), (λ attrs b h. (rw (h, act) refl, rw (h, act) refl, rw (h, act) refl), (λ attrs b h. (rw (h, act) refl, rw (h, act) refl, rw (h, act) refl), tt)))),
+        (
+          λ attrs b h. (rw (h, act) refl, rw (h, act) refl, rw (h, act) refl),
+          (
+            λ attrs b h. (rw (h, act) refl, rw (h, act) refl, rw (h, act) refl),
+            (
+              λ attrs b h. (rw (h, act) refl, rw (h, act) refl, rw (h, act) refl),
+              (
+                λ attrs b h. (rw (h, act) refl, rw (h, act) refl, rw (h, act) refl),
+                (λ attrs b h. (rw (h, act) refl, rw (h, act) refl, rw (h, act) refl), (λ attrs b h. (rw (h, act) refl, rw (h, act) refl, rw (h, act) refl), (λ attrs b h. (rw (h, act) refl, rw (h, act) refl, rw (h, act) refl), (λ attrs b h. (rw (h, act) refl, rw (h, act) refl, rw (h, act) refl), tt)))),
+              ),
+            ),
+          ),
+        ),
       ),
     ),
   ),
@@ -471,7 +687,19 @@ formatting_is = (
             record { closes = λ b c h. (rw h refl, rw h refl, rw h refl); ends = refl; unswitched = refl; listed = (refl, refl); passes = λ c m ms. refl },
             (
               record { closes = λ b c h. (rw h refl, rw h refl, rw h refl); ends = refl; unswitched = refl; listed = (refl, refl); passes = λ c m ms. refl },
-              (record { closes = λ b c h. (rw h refl, rw h refl, rw h refl); ends = refl; unswitched = refl; listed = (refl, refl); passes = λ c m ms. refl }, tt),
+              (
+                record { closes = λ b c h. (rw h refl, rw h refl, rw h refl); ends = refl; unswitched = refl; listed = (refl, refl); passes = λ c m ms. refl },
+                (
+                  record { closes = λ b c h. (rw h refl, rw h refl, rw h refl); ends = refl; unswitched = refl; listed = (refl, refl); passes = λ c m ms. refl },
+                  (
+                    record { closes = λ b c h. (rw h refl, rw h refl, rw h refl); ends = refl; unswitched = refl; listed = (refl, refl); passes = λ c m ms. refl },
+                    (
+                      record { closes = λ b c h. (rw h refl, rw h refl, rw h refl); ends = refl; unswitched = refl; listed = (refl, refl); passes = λ c m ms. refl },
+                      (record { closes = λ b c h. (rw h refl, rw h refl, rw h refl); ends = refl; unswitched = refl; listed = (refl, refl); passes = λ c m ms. refl }, tt),
+                    ),
+                  ),
+                ),
+              ),
             ),
           ),
         ),
@@ -481,7 +709,7 @@ formatting_is = (
 )
 
 pub formatting_no_heading : Each (λ name. is_among name headings ≡ false) (names_of AFormatting)
-formatting_no_heading = (refl, (refl, (refl, (refl, (refl, (refl, (refl, (refl, tt))))))))
+formatting_no_heading = (refl, (refl, (refl, (refl, (refl, (refl, (refl, (refl, (refl, (refl, (refl, (refl, tt))))))))))))
 
 pub anchor_is : Each (Formatting) (names_of AnAnchor)
 unfolding run rules taken act in_scope
@@ -497,7 +725,19 @@ formatting_barless = (
     record { no_p = refl; no_a = refl; no_button = refl },
     (
       record { no_p = refl; no_a = refl; no_button = refl },
-      (record { no_p = refl; no_a = refl; no_button = refl }, (record { no_p = refl; no_a = refl; no_button = refl }, (record { no_p = refl; no_a = refl; no_button = refl }, (record { no_p = refl; no_a = refl; no_button = refl }, (record { no_p = refl; no_a = refl; no_button = refl }, tt))))),
+      (
+        record { no_p = refl; no_a = refl; no_button = refl },
+        (
+          record { no_p = refl; no_a = refl; no_button = refl },
+          (
+            record { no_p = refl; no_a = refl; no_button = refl },
+            (
+              record { no_p = refl; no_a = refl; no_button = refl },
+              (record { no_p = refl; no_a = refl; no_button = refl }, (record { no_p = refl; no_a = refl; no_button = refl }, (record { no_p = refl; no_a = refl; no_button = refl }, (record { no_p = refl; no_a = refl; no_button = refl }, (record { no_p = refl; no_a = refl; no_button = refl }, tt))))),
+            ),
+          ),
+        ),
+      ),
     ),
   ),
 )

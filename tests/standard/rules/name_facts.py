@@ -25,9 +25,8 @@ def class_names(crate):
     """The names of each class, from the definition."""
     text = (crate / "specs" / "PlainTrees.antt").read_text()
     classes = {}
-    for line in re.findall(r"^names_of .*", text, re.M):
-        left, right = line.split(" = ")
-        classes[left.split()[1]] = re.findall('codes "([^"]*)"', right) or SETS.get(right, [])
+    for name, names in re.findall(r"^names_of (\w+) =(.*?)(?=\n\S|\n\n|\Z)", text, re.M | re.S):
+        classes[name] = re.findall('codes "([^"]*)"', names) or SETS.get(names.strip(), [])
     return classes
 
 
