@@ -33,22 +33,22 @@ ATTRS = ["a=b", "class=x", "href=y", "type=hidden", "type=text", "encoding=text/
 TEXTS = ["t", " ", "\n", "\n\nx", "x y", "\0", "&amp;", "&lt", "&notit;", "&#x80;", "&#0;", "é", "\U0001f600", "\r\n", "<!--c-->", "<!-->", "<!doctype html>", "<!DOCTYPE a PUBLIC 'x'>", "<![CDATA[q]]>", "<?p>", "</>", "<", "</br>", "</p>", "--!>", "]]>"]
 
 
-def random_page(rng):
+def random_page(rng, contexts=CONTEXTS, texts=TEXTS):
     """A list of pieces, and the context in which they are read."""
-    context, parts = rng.choice(CONTEXTS), []
+    context, parts = rng.choice(contexts), []
     if context is None and rng.random() < 0.5:
         parts.append(rng.choice(["<!DOCTYPE html>", "<!DOCTYPE html>", "<!doctype>", '<!DOCTYPE html PUBLIC "-//W3C//DTD HTML 3.2//EN">']))
     few = rng.sample(NAMES, rng.choice([3, 6, len(NAMES)]))
-    return [*parts, *random_parts(rng, few)], context
+    return [*parts, *random_parts(rng, few, texts)], context
 
 
-def random_parts(rng, few):
-    """Pieces of a page: texts, and tags with these names."""
+def random_parts(rng, few, texts=TEXTS):
+    """Pieces of a page: some of these texts, and tags with these names."""
     parts = []
     for _ in range(rng.choice([2, 5, 10, 20, 40])):
         kind = rng.random()
         if kind < 0.25:
-            parts.append(rng.choice(TEXTS))
+            parts.append(rng.choice(texts))
         elif kind < 0.55:
             parts.append(f"</{rng.choice(few)}>")
         else:
@@ -89,9 +89,13 @@ def by_hq(program, context, texts, room):
 
 
 def differing(program, cases, room):
-    """The numbers of the cases whose trees differ."""
+    """The numbers of the cases whose trees differ from those of parse5."""
+    return unlike(program, cases, by_parse5(cases), room)
+
+
+def unlike(program, cases, theirs, room):
+    """The numbers of the cases whose trees aren't these."""
     bad, groups = [], collections.defaultdict(list)
-    theirs = by_parse5(cases)
     for at, (_, context) in enumerate(cases):
         groups[context].append(at)
     for context, found in groups.items():

@@ -12,7 +12,6 @@ import collections
 import json
 import pathlib
 import random
-import subprocess
 import sys
 import tempfile
 
@@ -22,6 +21,9 @@ sys.path.insert(0, str(HERE.parent))
 import ask  # noqa: E402
 import trees  # noqa: E402
 
+# Without what the browsers are known to read in two ways, in any page or in fragments (docs/READING.md).
+TEXTS = [it for it in trees.TEXTS if it not in ("\0", "<?p>")]
+NAMES = [it for it in trees.NAMES if it != "noscript"]
 CONTEXTS = "body div select option optgroup table tr td template button p".split() + ["svg desc"]
 SELECTS = "select select select option option optgroup hr input button datalist legend textarea p div b a table tr td template".split()
 BATCH = 2000
@@ -29,50 +31,46 @@ BATCH = 2000
 
 def with_selects(rng, context=None):
     """A random page whose tags are mostly those of `select` and of what stands in it."""
-    names = [*SELECTS, *rng.sample(trees.NAMES, rng.choice([0, 2, 5, 20]))]
-    return "".join(trees.random_parts(rng, names)), context
+    names = [*SELECTS, *rng.sample(NAMES, rng.choice([0, 2, 5, 20]))]
+    return "".join(trees.random_parts(rng, names, TEXTS)), context
 
 
 def random_page(rng):
-    return "".join(trees.random_page(rng)[0]), None
+    return "".join(trees.random_page(rng, [None], TEXTS)[0]), None
 
 
 def random_fragment(rng):
     context = rng.choice(CONTEXTS)
     if rng.random() < 0.5:
         return with_selects(rng, context)
-    return "".join(trees.random_parts(rng, rng.sample(trees.NAMES, rng.choice([3, 6, 20])))), context
+    return "".join(trees.random_parts(rng, rng.sample(NAMES, rng.choice([3, 6, 20])), TEXTS)), context
 
 
 MAKERS = {"pages": random_page, "selects": with_selects, "fragments": random_fragment}
 
 
-def by_hq(program, cases, room):
-    """The tree of each case by `hq`."""
-    found = []
-    for at, (text, context) in enumerate(cases):
-        path = pathlib.Path(room) / "case"
-        path.write_bytes(text.encode("utf-8"))
-        words = [program, *trees.words_for(context), "--", str(path)]
-        found.append(subprocess.run(words, stdout=subprocess.PIPE, stderr=subprocess.PIPE).stdout.decode("utf-8"))
-    return found
+def show(program, case, wanted, room):
+    """Prints a case, and where hq's tree differs from each of these."""
+    ours = trees.by_hq(program, case[1], [case[0]], room)
+    print(f"  {json.dumps(case)}", *(trees.shown(ours, it).replace("parse5", "wanted") for it in wanted), sep="\n", flush=True)
 
 
 def compare(program, cases, counts, room):
     """Compares a list of cases, and prints those that both browsers read alike and `hq` otherwise."""
     chromium, firefox = ([tree for tree, _ in ask.ask(it, cases)] for it in ask.BROWSERS)
-    for case, one, other, ours in zip(cases, chromium, firefox, by_hq(program, cases, room)):
-        counts["asked"] += 1
-        if one == other:
+    unlike_one, unlike_other = (set(trees.unlike(program, cases, it, room)) for it in (chromium, firefox))
+    counts["asked"] += len(cases)
+    for at, case in enumerate(cases):
+        if chromium[at] == firefox[at]:
             counts["alike"] += 1
-            if ours != one:
-                counts["alike, and hq differs"] += 1
-                print(f"  {json.dumps(case)}\n{trees.shown(ours, one)}", flush=True)
-        else:
-            by = "as Chromium" if ours == one else "as Firefox" if ours == other else "as neither"
-            counts[f"not alike, hq {by}"] += 1
-            if by == "as neither":
-                print(f"  in three ways: {json.dumps(case)}\n{trees.shown(ours, one)}\n{trees.shown(ours, other)}", flush=True)
+            counts["alike, and hq differs"] += at in unlike_one
+            if at in unlike_one:
+                show(program, case, [chromium[at]], room)
+            continue
+        by = "as neither" if at in unlike_one & unlike_other else "as Firefox" if at in unlike_one else "as Chromium"
+        counts[f"not alike, hq {by}"] += 1
+        if by == "as neither":
+            show(program, case, [chromium[at], firefox[at]], room)
 
 
 def listed(file):
@@ -85,7 +83,7 @@ def main(way, program, *more):
     counts = collections.Counter()
     with tempfile.TemporaryDirectory() as room:
         for at in range(0, len(cases), BATCH):
-            compare(program, cases[at : at + BATCH], counts, room)
+            compare(program, cases[at : at + BATCH], counts, pathlib.Path(room))
     print(", ".join(ask.version(it) for it in ask.BROWSERS))
     print("; ".join(f"{name}: {count}" for name, count in sorted(counts.items())))
     return 1 if counts["alike, and hq differs"] else 0
