@@ -1,5 +1,5 @@
 -- The names of attributes, and the set of the first ones.
-use Rattle.std.proofs.Common.{ℕ, suc, ◌≡◌, ◌<◌, ◌≤◌, ◌+◌, Bool, true, false, cond, not, List, [], ◌∷◌, ◌++◌, refl, sym, ap, ◌∙◌, ◌||◌, length, take, map, get_or, string_bytes, arith, length-append, Result, Ok, Err, OnOk, OnErr}
+use Rattle.std.proofs.Common.{ℕ, suc, ◌≡◌, ◌<◌, ◌≤◌, ◌+◌, Bool, true, false, cond, not, List, [], ◌∷◌, ◌++◌, refl, sym, ap, ◌∙◌, ◌||◌, length, take, map, get_or, string_bytes, arith, length-append, Result, Ok, Err, OnOk, OnErr, MatchBool, subst}
 use Rattle.std.specs.Char.{to_ascii_lowercase}
 use Rattle.std.specs.List.{list_any}
 use Rattle.std.specs.Str.{bytes_eq}
@@ -10,7 +10,7 @@ use Rattle.std.proofs.lemmas.List.Folds.{list_any_more, list_any-append}
 use Rattle.std.proofs.lemmas.Slice.Eq.{bytes_eq-Decides}
 use Rattle.std.proofs.lemmas.Str.Ascii.{lowercase-lowercase}
 use Rattle.page_tokens.specs.declared.attribute.TagAttr.{TagAttr}
-use Rattle.page_tokens.specs.Attributes.{is_named, are_distinct}
+use Rattle.page_tokens.specs.Attributes.{AddsAttr, is_named, are_distinct}
 
 pub cond_or : (b c : Bool) → cond b true c ≡ (c || b)
 cond_or true true = refl
@@ -76,3 +76,16 @@ pub names-pushed : {T E : Type 0} (r : Result T E) (attrs more : List TagAttr) (
     has ≡ list_any (is_named name) (take noted attrs) → has ≡ list_any (is_named name) (take noted more)
 names-pushed (Ok _) attrs more x noted name has ok err within is = rw (ok, take-append-le) is
 names-pushed (Err _) attrs more x noted name has ok err within is = rw err is
+
+-- an attribute with a new name is appended
+pub adds_new : {T E : Type 0} (r : Result T E) (old new : List TagAttr) (attr : TagAttr) (name value : List ℕ) → string_bytes attr.name ≡ name → string_bytes attr.value ≡ value →
+    list_any (is_named (string_bytes attr.name)) old ≡ false → new ≡ old ++ attr ∷ [] → OnOk r (AddsAttr old new name value)
+adds_new (Ok u) old new attr name value name_is value_is has is =
+    subst (λ b. MatchBool b (new ≡ old) ((a : TagAttr) × (new ≡ old ++ a ∷ []) × (string_bytes a.name ≡ name) × (string_bytes a.value ≡ value)))
+    (sym (ap (λ (n : List ℕ). list_any (is_named n) old) (sym name_is) ∙ has)) (attr, is, name_is, value_is)
+adds_new (Err e) old new attr name value name_is value_is has is = tt
+
+pub adds_same : {T E : Type 0} (r : Result T E) (old mid new : List TagAttr) (n n' v v' : List ℕ) → mid ≡ old → n ≡ n' → v ≡ v' → OnOk r (AddsAttr mid new n v) → OnOk r (AddsAttr old new n' v')
+adds_same (Ok u) old mid new n n' v v' list name value adds =
+    subst (λ (ks : List TagAttr). AddsAttr ks new n' v') list (subst (λ (a : List ℕ). AddsAttr mid new a v') name (subst (λ (a : List ℕ). AddsAttr mid new n a) value adds))
+adds_same (Err e) old mid new n n' v v' list name value adds = tt

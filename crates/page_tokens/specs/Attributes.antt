@@ -1,5 +1,5 @@
 -- The attribute names of a tag.
-use Rattle.std.specs.Prelude.{◌≡◌, ℕ, Bool, true, not, ◌&&◌, ◌||◌, List, [], ◌∷◌, String, string_bytes}
+use Rattle.std.specs.Prelude.{◌≡◌, ℕ, Bool, true, not, ◌&&◌, ◌||◌, List, [], ◌∷◌, ◌++◌, String, MatchBool, string_bytes}
 use Rattle.std.specs.BTreeSet.{BTreeSet, contains_text}
 use Rattle.std.specs.List.{list_any}
 use Rattle.std.specs.Str.{bytes_eq}
@@ -17,3 +17,8 @@ are_distinct (attr ∷ rest) = not (list_any (is_named (string_bytes attr.name))
 -- the new set contains the name and whatever the old set contained
 abbrev pub Gains : {A : Type 0} → List ℕ → BTreeSet (String A) → BTreeSet (String A) → Type 0
 Gains name old new = (other : List ℕ) → contains_text new other ≡ (contains_text old other || bytes_eq name other)
+
+-- The attribute is appended, unless there is one with its name.
+abbrev pub AddsAttr : List TagAttr → List TagAttr → List ℕ → List ℕ → Type 0
+AddsAttr old new name value =
+    MatchBool (list_any (is_named name) old) (new ≡ old) ((attr : TagAttr) × (new ≡ old ++ attr ∷ []) × (string_bytes attr.name ≡ name) × (string_bytes attr.value ≡ value))

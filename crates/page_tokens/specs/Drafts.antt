@@ -1,8 +1,11 @@
 -- The tag that is being read, and the finished tag.
-use Rattle.std.specs.Prelude.{◌≡◌, ◌<◌, [], None, length, map, string_bytes}
+use Rattle.std.specs.Prelude.{◌≡◌, ◌<◌, [], Option, None, Some, length, map, string_bytes}
 use Rattle.std.specs.Char.{to_ascii_lowercase}
 use Rattle.std.specs.Option.{IsSomeAnd}
+use Rattle.page_tokens.specs.Attributes.{AddsAttr}
 use Rattle.page_tokens.specs.declared.token.Tag.{Tag}
+use Rattle.page_tokens.specs.declared.token.TagKind.{TagKind}
+use Rattle.page_tokens.specs.declared.token.TagKind.TheVariants.{Start, End}
 use Rattle.page_tokens.specs.declared.tokenizer.Tokenizer.{Tokenizer}
 use Rattle.page_tokens.specs.declared.tokenizer.draft.TagDraft.{TagDraft}
 use Rattle.page_tokens.specs.declared.tokenizer.state.State.TheVariants.{Data}
@@ -29,3 +32,19 @@ pub record IsEmitted (old new : Tokenizer) : Type 0 where
   pub reference : new.reference ≡ old.reference
   pub after_return : new.after_return ≡ old.after_return
   pub errors : new.errors ≡ old.errors
+
+-- The attribute that was being read is finished: it is one more of the tag, unless the tag has one with its name.
+pub record FinishesAttr (old new : TagDraft) : Type 0 where
+  pub only : new ≡ record old { attrs = new.attrs; attr_name = new.attr_name; attr_value = new.attr_value }
+  pub name : string_bytes new.attr_name ≡ []
+  pub value : string_bytes new.attr_value ≡ []
+  pub adds : AddsAttr old.attrs.kept.items new.attrs.kept.items (map to_ascii_lowercase (string_bytes old.attr_name)) (string_bytes old.attr_value)
+
+-- the name of a start tag is kept
+abbrev pub NotesKind : TagKind → Tag → Tokenizer → Tokenizer → Type 0
+NotesKind Start tag old new = string_bytes new.last_start ≡ string_bytes tag.name
+NotesKind End tag old new = new.last_start ≡ old.last_start
+
+abbrev pub NotesStart : Option Tag → Tokenizer → Tokenizer → Type 0
+NotesStart None old new = new.last_start ≡ old.last_start
+NotesStart (Some tag) old new = NotesKind tag.kind tag old new

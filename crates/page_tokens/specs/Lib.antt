@@ -1,8 +1,14 @@
 pub mod Attributes
+pub mod Changes
+pub mod Comments
+pub mod Declarations
 pub mod Drafts
 pub mod NameTable
 pub mod NamedReferences
 pub mod Numbers
 pub mod Reading
 pub mod Runs
+pub mod Standard
+pub mod StandardPages
+pub mod StandardStates
 pub mod Tags

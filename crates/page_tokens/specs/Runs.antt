@@ -17,3 +17,7 @@ ends_tag_name b = b == 0 || b == 9 || b == 10 || b == 12 || b == 13 || b == 32 |
 -- how many bytes come before the first that ends a tag name
 abbrev pub tag_name_len_of : List ℕ → ℕ
 tag_name_len_of text = prefix_len (λ b. not (ends_tag_name b)) text
+
+-- tab, line feed, form feed and space
+abbrev pub is_space_of : ℕ → Bool
+is_space_of c = c == 9 || c == 10 || c == 12 || c == 32

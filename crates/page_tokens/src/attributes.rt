@@ -2,10 +2,11 @@
 //! memory runs out.
 
 ghost use Rattle.std.specs.Prelude.{◌≡◌, ◌<◌, ◌≤◌, ◌∷◌, ◌++◌, ◌↔◌, [], ℕ, List, true};
-ghost use Rattle.std.specs.Prelude.{length, take, string_bytes, OnErr, OnOk};
+ghost use Rattle.std.specs.Prelude.{length, map, take, string_bytes, OnErr, OnOk};
+ghost use Rattle.std.specs.Char.{to_ascii_lowercase};
 ghost use Rattle.std.specs.List.{list_any};
 ghost use Rattle.std.specs.BTreeSet.{contains_text, IsUnchanged};
-ghost use Rattle.page_tokens.specs.Attributes.{are_distinct, is_named, Gains};
+ghost use Rattle.page_tokens.specs.Attributes.{are_distinct, is_named, AddsAttr, Gains};
 
 use crate::attribute::TagAttr;
 use std::alloc::{AllocError, Global};
@@ -101,7 +102,9 @@ impl Attributes {
     }
 
     /// Adds the oldest name that isn't in the set yet, if `RECENT` names or more are not in it.
-    fn note(&mut self, alloc: Global) -> Result<(), AllocError> {
+    fn note(&mut self, alloc: Global) -> Result<(), AllocError>
+        ensures { self.new.kept.items ≡ self.old.kept.items }
+    {
         if self.kept.len() - self.noted < RECENT {
             return Ok(());
         }
@@ -115,6 +118,8 @@ impl Attributes {
     /// already.
     pub fn add(&mut self, alloc: Global, name: String, value: String) -> Result<(), AllocError>
         requires { 0 < length (string_bytes name) }
+        ensures { OnOk result (AddsAttr self.old.kept.items self.new.kept.items
+            (map to_ascii_lowercase (string_bytes name)) (string_bytes value)) }
     {
         let mut name = name;
         name.make_ascii_lowercase();
@@ -129,6 +134,8 @@ impl Attributes {
     /// name.
     pub fn add_copy(&mut self, alloc: Global, name: &str, value: &str) -> Result<(), AllocError>
         requires { 0 < length name.now }
+        ensures { OnOk result (AddsAttr self.old.kept.items self.new.kept.items
+            (map to_ascii_lowercase name.now) value.now) }
     {
         let (mut own_name, mut own_value) = self.at_hand(alloc);
         own_name.push_str(name)?;
@@ -138,6 +145,7 @@ impl Attributes {
 
     /// Returns two empty strings, with memory of an earlier attribute if there is any.
     fn at_hand(&mut self, alloc: Global) -> (String, String)
+        ensures kept { self.new.kept ≡ self.old.kept }
         ensures name { string_bytes result.0 ≡ [] }
         ensures value { string_bytes result.1 ≡ [] }
     {

@@ -1,6 +1,7 @@
 //! Tags, doctypes and comments.
 
-ghost use Rattle.std.specs.Prelude.{◌≡◌, ◌<◌, [], true, IfOk, length, map, string_bytes};
+ghost use Rattle.std.specs.Prelude.{◌≡◌, ◌<◌, [], None, true, false, IfOk, length, map};
+ghost use Rattle.std.specs.Prelude.{string_bytes};
 ghost use Rattle.std.specs.Char.{to_ascii_lowercase};
 ghost use Rattle.page_tokens.specs.Attributes.{are_distinct};
 
@@ -61,7 +62,12 @@ pub struct Doctype {
 
 impl Doctype {
     /// Returns a doctype without a name and identifiers.
-    pub fn new() -> Doctype {
+    pub fn new() -> Doctype
+        ensures name { result.name ≡ None }
+        ensures public_id { result.public_id ≡ None }
+        ensures system_id { result.system_id ≡ None }
+        ensures force_quirks { result.force_quirks ≡ false }
+    {
         Doctype {
             name: None,
             public_id: None,

@@ -18,7 +18,8 @@ mod state;
 mod tags;
 mod text;
 
-ghost use Rattle.std.specs.Prelude.{◌≡◌, ◌++◌, [], OnOk, string_bytes};
+ghost use Rattle.std.specs.Prelude.{◌≡◌, ◌++◌, [], IfOk, OnOk, None, string_bytes, encode_utf8};
+ghost use Rattle.page_tokens.specs.Runs.{is_space_of};
 
 use crate::parse_error::ErrorAt;
 use crate::token::{Doctype, Tag, Token, TokenKind};
@@ -74,7 +75,9 @@ const REPLACEMENT: char = '\u{fffd}';
 
 /// Returns whether the character is a tab, line feed, form feed or space. Carriage returns are
 /// converted before.
-fn is_space(c: char) -> bool {
+fn is_space(c: char) -> bool
+    ensures { result ≡ is_space_of c }
+{
     matches!(c, '\t' | '\n' | '\u{c}' | ' ')
 }
 
@@ -90,7 +93,10 @@ fn append(text: &mut String, more: &str) -> Result<(), AllocError>
 }
 
 /// Appends a character to a text; no token ends there.
-fn push(text: &mut String, c: char) -> Progress {
+fn push(text: &mut String, c: char) -> Progress
+    ensures told { IfOk result (λ told. told ≡ None) }
+    ensures text { OnOk result (string_bytes text.new ≡ string_bytes text.old ++ encode_utf8 c) }
+{
     text.push(c)?;
     Ok(None)
 }
@@ -249,7 +255,10 @@ impl Tokenizer {
     }
 
     /// Changes to a state; no token ends.
-    fn then(&mut self, state: State) -> Progress {
+    fn then(&mut self, state: State) -> Progress
+        ensures told { IfOk result (λ told. told ≡ None) }
+        ensures only { self.new ≡ record self.old { state = state } }
+    {
         self.state = state;
         Ok(None)
     }

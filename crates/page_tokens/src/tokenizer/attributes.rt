@@ -1,6 +1,6 @@
 //! The attribute states (13.2.5.32 to 13.2.5.39).
 
-ghost use Rattle.std.specs.Prelude.{◌≡◌, [], string_bytes};
+ghost use Rattle.std.specs.Prelude.{◌≡◌, ◌<◌, [], OnOk, length, string_bytes};
 
 use super::state::{AttrState, Place, Quote, TagState};
 use super::{Progress, State, Tokenizer, is_space};
@@ -8,6 +8,8 @@ use crate::parse_error::ParseError;
 use std::alloc::AllocError;
 
 impl Tokenizer {
+    ghost use Rattle.page_tokens.specs.Drafts.{FinishesAttr};
+
     pub(super) fn in_attribute(&mut self, state: AttrState, c: char) -> Progress {
         match state {
             AttrState::BeforeName => self.before_attr_name(c),
@@ -143,6 +145,8 @@ impl Tokenizer {
     pub(super) fn finish_attr(&mut self) -> Result<(), AllocError>
         ensures only_tag { self.new ≡ record self.old { tag = self.new.tag } }
         ensures none { string_bytes self.old.tag.attr_name ≡ [] → self.new ≡ self.old }
+        ensures some { 0 < length (string_bytes self.old.tag.attr_name) →
+            OnOk result (FinishesAttr self.old.tag self.new.tag) }
     {
         self.tag.finish_attr(self.alloc)
     }

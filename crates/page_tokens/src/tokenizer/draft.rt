@@ -1,6 +1,6 @@
 //! The tag that is being read. A call that returns a `Result` fails only when memory runs out.
 
-ghost use Rattle.std.specs.Prelude.{◌≡◌, ◌<◌, [], true, false, length, map, string_bytes};
+ghost use Rattle.std.specs.Prelude.{◌≡◌, ◌<◌, [], true, false, OnOk, length, map, string_bytes};
 ghost use Rattle.std.specs.Option.{IsSomeAnd};
 ghost use Rattle.std.specs.Char.{to_ascii_lowercase};
 
@@ -22,7 +22,7 @@ pub struct TagDraft {
 }
 
 impl TagDraft {
-    ghost use Rattle.page_tokens.specs.Drafts.{IsTagOf};
+    ghost use Rattle.page_tokens.specs.Drafts.{FinishesAttr, IsTagOf};
 
     /// Returns a draft without a tag.
     pub fn new(alloc: Global) -> TagDraft {
@@ -43,6 +43,7 @@ impl TagDraft {
         ensures name { string_bytes self.new.name ≡ [] }
         ensures attrs { self.new.attrs.kept.items ≡ [] }
         ensures attr_name { string_bytes self.new.attr_name ≡ [] }
+        ensures attr_value { string_bytes self.new.attr_value ≡ [] }
     {
         self.kind = kind;
         self.name.clear();
@@ -63,7 +64,9 @@ impl TagDraft {
 
     /// Finishes the attribute that is being read; it is dropped if an earlier one has its name.
     pub fn finish_attr(&mut self, alloc: Global) -> Result<(), AllocError>
-        ensures { string_bytes self.old.attr_name ≡ [] → self.new ≡ self.old }
+        ensures none { string_bytes self.old.attr_name ≡ [] → self.new ≡ self.old }
+        ensures some { 0 < length (string_bytes self.old.attr_name) →
+            OnOk result (FinishesAttr self.old self.new) }
     {
         if self.attr_name.is_empty() {
             return Ok(());

@@ -1,6 +1,6 @@
 //! The end of the page.
 
-ghost use Rattle.std.specs.Prelude.{◌≡◌, [], None};
+ghost use Rattle.std.specs.Prelude.{◌≡◌, [], None, Some};
 ghost use Rattle.page_tokens.specs.declared.tokenizer.state.State.TheVariants.{Data};
 
 use super::state::{CommentState, DoctypeState, Raw, ScriptState, TagState};
@@ -35,6 +35,8 @@ fn error_at_end(state: State) -> Option<ParseError>
 
 impl Tokenizer {
     ghost use Rattle.page_tokens.specs.Reading.{IsInText, ReadsNoToken};
+    ghost use Rattle.page_tokens.specs.Standard.{StopsAsStandard};
+    ghost use Rattle.page_tokens.specs.declared.tokenizer.state.CommentState.{CommentState};
 
     /// Ends the page and returns the comment or doctype that ends with it, if there is one. An
     /// unfinished tag is dropped; the beginning of other markup becomes text. Fails only when
@@ -62,7 +64,9 @@ impl Tokenizer {
 
     /// Ends an unfinished comment or doctype; the beginning of other markup becomes text.
     fn end_of_mark(&mut self) -> Option<TokenKind>
-        ensures { self.old.state ≡ Data → (result ≡ None) × (self.new ≡ self.old) }
+        ensures text { self.old.state ≡ Data → (result ≡ None) × (self.new ≡ self.old) }
+        ensures comment { (inner : CommentState) → self.old.state ≡ State.Comment inner →
+            (result ≡ Some TokenKind.Comment) × StopsAsStandard self.old self.new result }
     {
         match self.state {
             State::Declaration(_) | State::Comment(_) => {

@@ -1,6 +1,6 @@
 //! Parse errors, which are collected only on request.
 
-ghost use Rattle.std.specs.Prelude.{◌≡◌, IfOk};
+ghost use Rattle.std.specs.Prelude.{◌≡◌, IfOk, IsOk, false};
 
 use super::{Progress, Tokenizer};
 use crate::parse_error::{ErrorAt, ParseError};
@@ -26,6 +26,8 @@ pub fn is_noncharacter(number: u32) -> bool {
 }
 
 impl Tokenizer {
+    ghost use Rattle.page_tokens.specs.Changes.{Remembers};
+
     /// Sets whether parse errors are collected from now on. Those collected before are dropped.
     pub fn report_errors(&mut self, wanted: bool) {
         self.errors = if wanted {
@@ -47,7 +49,12 @@ impl Tokenizer {
     /// Collects a parse error at the character that is being read. If memory runs out for it, that
     /// is remembered in `refused`.
     pub(super) fn error(&mut self, error: ParseError)
-        ensures { self.old.errors ≡ None → self.new ≡ self.old }
+        ensures none { self.old.errors ≡ None → self.new ≡ self.old }
+        ensures only { self.new ≡ record self.old {
+          errors = self.new.errors;
+          refused = self.new.refused;
+        } }
+        ensures memory { Remembers self.old self.new }
     {
         let offset = self.offset;
         let Some(errors) = &mut self.errors else {
@@ -58,9 +65,23 @@ impl Tokenizer {
         }
     }
 
+    /// Collects a parse error, if there is one.
+    pub(super) fn report(&mut self, error: Option<ParseError>)
+        ensures only { self.new ≡ record self.old {
+          errors = self.new.errors;
+          refused = self.new.refused;
+        } }
+        ensures memory { Remembers self.old self.new }
+    {
+        if let Some(error) = error {
+            self.error(error);
+        }
+    }
+
     /// Remembers that memory ran out; the call that reads the character then fails.
     pub(super) fn keep(&mut self, done: Result<(), AllocError>)
-        ensures { self.new ≡ record self.old { refused = self.new.refused } }
+        ensures only { self.new ≡ record self.old { refused = self.new.refused } }
+        ensures memory { self.new.refused ≡ false → (self.old.refused ≡ false) × IsOk done }
     {
         if done.is_err() {
             self.refused = true;

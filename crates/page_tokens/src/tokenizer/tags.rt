@@ -1,6 +1,6 @@
 //! The tag states (13.2.5.6 to 13.2.5.8 and 13.2.5.40), outside attributes.
 
-ghost use Rattle.std.specs.Prelude.{◌≡◌, IfOk};
+ghost use Rattle.std.specs.Prelude.{◌≡◌, ◌<◌, ◌∷◌, [], IfOk, OnOk, false, length, string_bytes};
 
 use super::state::{AttrState, CommentState, Place, Seen, TagState};
 use super::{Progress, State, Tokenizer, append, is_space, push};
@@ -9,7 +9,9 @@ use crate::token::{TagKind, TokenKind};
 use std::alloc::AllocError;
 
 impl Tokenizer {
-    ghost use Rattle.page_tokens.specs.Drafts.{IsReadyDraft, IsEmitted};
+    ghost use Rattle.page_tokens.specs.Changes.{Remembers};
+    ghost use Rattle.page_tokens.specs.Drafts.{IsReadyDraft, IsEmitted, NotesStart};
+    ghost use Rattle.page_tokens.specs.Standard.{EmitsTag, Follows, Keeps};
 
     pub(super) fn in_tag(&mut self, state: TagState, c: char) -> Progress {
         match state {
@@ -69,13 +71,20 @@ impl Tokenizer {
         push(&mut self.tag.name, c)
     }
 
-    fn tag_name(&mut self, c: char) -> Progress {
-        match c {
-            '/' => self.then(State::Tag(TagState::SelfClosing)),
-            '>' => self.emit_tag(),
-            _ if is_space(c) => self.then(State::Attribute(AttrState::BeforeName)),
-            _ => self.letter(Place::TagName, c),
+    fn tag_name(&mut self, c: char) -> Progress
+        ensures { self.old.state ≡ State.Tag TagState.Name →
+            Follows self.old self.new (c ∷ []) result }
+    {
+        if c == '/' {
+            return self.then(State::Tag(TagState::SelfClosing));
         }
+        if c == '>' {
+            return self.emit_tag();
+        }
+        if is_space(c) {
+            return self.then(State::Attribute(AttrState::BeforeName));
+        }
+        self.letter(Place::TagName, c)
     }
 
     fn self_closing(&mut self, c: char) -> Progress {
@@ -94,8 +103,11 @@ impl Tokenizer {
 
     /// Ends the tag. The tokenizer is then in the data state until a caller switches it.
     pub(super) fn emit_tag(&mut self) -> Progress
-        ensures { IsReadyDraft self.old → IfOk result (λ kind.
+        ensures ready { IsReadyDraft self.old → IfOk result (λ kind.
             (kind ≡ Some TokenKind.Tag) × IsEmitted self.old self.new) }
+        ensures keeps { OnOk result (self.new.refused ≡ false → Keeps self.old self.new) }
+        ensures emits { 0 < length (string_bytes self.old.tag.name) → IfOk result (λ told.
+            self.new.refused ≡ false → EmitsTag self.old self.new told) }
     {
         self.finish_attr()?;
         self.state = State::Data;
@@ -109,7 +121,12 @@ impl Tokenizer {
 
     /// Reports attributes and a trailing slash of an end tag, which are parse errors.
     fn check_end_tag(&mut self)
-        ensures { self.old.errors ≡ None → self.new ≡ self.old }
+        ensures none { self.old.errors ≡ None → self.new ≡ self.old }
+        ensures only { self.new ≡ record self.old {
+          errors = self.new.errors;
+          refused = self.new.refused;
+        } }
+        ensures memory { Remembers self.old self.new }
     {
         if self.tag.kind == TagKind::Start {
             return;
@@ -124,7 +141,8 @@ impl Tokenizer {
 
     /// Keeps the name of a start tag; raw text ends at an end tag with that name.
     fn note_start(&mut self) -> Result<(), AllocError>
-        ensures { self.new ≡ record self.old { last_start = self.new.last_start } }
+        ensures only { self.new ≡ record self.old { last_start = self.new.last_start } }
+        ensures noted { OnOk result (NotesStart self.old.ended self.old self.new) }
     {
         match &self.ended {
             Some(tag) if tag.kind == TagKind::Start => {

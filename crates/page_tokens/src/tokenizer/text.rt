@@ -1,10 +1,15 @@
 //! Characters outside tags: the data, RCDATA, RAWTEXT, script data, PLAINTEXT and CDATA states.
 
+ghost use Rattle.std.specs.Prelude.{◌≡◌, IfOk, OnOk, None, encode_utf8};
+ghost use Rattle.page_tokens.specs.Comments.{shown_of};
+
 use super::state::{CdataState, EndTagState, Place, Raw, TagState};
 use super::{Progress, REPLACEMENT, State, Tokenizer, append, push};
 use crate::parse_error::ParseError;
 
 impl Tokenizer {
+    ghost use Rattle.page_tokens.specs.Changes.{Gains, Remembers};
+
     /// Appends the character to the text and changes to a state.
     pub(super) fn text_then(&mut self, c: char, state: State) -> Progress {
         self.state = state;
@@ -18,7 +23,11 @@ impl Tokenizer {
     }
 
     /// Appends the character at a place; a null is replaced.
-    pub(super) fn letter(&mut self, place: Place, c: char) -> Progress {
+    pub(super) fn letter(&mut self, place: Place, c: char) -> Progress
+        ensures told { IfOk result (λ told. told ≡ None) }
+        ensures gains { OnOk result (Gains place self.old self.new (encode_utf8 (shown_of c))) }
+        ensures memory { Remembers self.old self.new }
+    {
         let shown = self.shown(c);
         match place {
             Place::Text => push(&mut self.text, shown),
@@ -30,7 +39,14 @@ impl Tokenizer {
     }
 
     /// Returns the character, or the replacement character for a null, which is a parse error.
-    pub(super) fn shown(&mut self, c: char) -> char {
+    pub(super) fn shown(&mut self, c: char) -> char
+        ensures is { result ≡ shown_of c }
+        ensures only { self.new ≡ record self.old {
+          errors = self.new.errors;
+          refused = self.new.refused;
+        } }
+        ensures memory { Remembers self.old self.new }
+    {
         if c != '\0' {
             return c;
         }

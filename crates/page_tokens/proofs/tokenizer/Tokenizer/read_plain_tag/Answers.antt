@@ -6,7 +6,7 @@ pub returns-in-Some : goal.returns-in-Some
 returns-in-Some c name rest in_text errors plain is =
     let cut = plain_cut _ name rest _ _ _ plain is c.tag_name_len.ensures.len c.split_at.ensures.front c.split_at.ensures.back in
     let name_is = c.in_ok-push_str.ensures.bytes ∙ ap (λ (t : List ℕ). t ++ c.split_at.result.0.now) c.begin.ensures.name ∙ cut.0 in
-    let read = c.in_ok-read.ensures (record {
+    let read = c.in_ok-read.ensures.ready (record {
       named = subst (λ (t : List ℕ). 0 < length t) (sym name_is) (plain_some name plain);
       no_attr = c.begin.ensures.attr_name;
       errors = errors;

@@ -1,0 +1,17 @@
+use Rattle.std.proofs.Common.{ℕ, List, ◌≡◌, [], Result, Ok, Err, OnOk, map, string_bytes, refl, ap, sym}
+use Rattle.std.specs.Char.{to_ascii_lowercase}
+use Rattle.page_tokens.specs.Attributes.{AddsAttr}
+use Rattle.page_tokens.specs.Drafts.{FinishesAttr}
+use Rattle.page_tokens.specs.declared.tokenizer.draft.TagDraft.{TagDraft}
+use Rattle.page_tokens.proofs.AttributeLemmas.{adds_same}
+use Rattle.page_tokens.proofs.tokenizer.draft.TagDraft.finish_attr.Goals as goal
+
+finishes : {T E : Type 0} (r : Result T E) (old new : TagDraft) → new ≡ record old { attrs = new.attrs; attr_name = new.attr_name; attr_value = new.attr_value } → string_bytes new.attr_name ≡ [] → string_bytes new.attr_value ≡ [] →
+    OnOk r (AddsAttr old.attrs.kept.items new.attrs.kept.items (map to_ascii_lowercase (string_bytes old.attr_name)) (string_bytes old.attr_value)) → OnOk r (FinishesAttr old new)
+finishes (Ok u) old new only name value adds = record { only = only; name = name; value = value; adds = adds }
+finishes (Err e) old new only name value adds = tt
+
+pub returns-clause-some : goal.returns-clause-some
+returns-clause-some c some =
+    finishes c.add_copy-added.result c.args.self.now _ refl c.clear.ensures.bytes c.clear-2.ensures.bytes
+    (adds_same c.add_copy-added.result _ _ _ _ _ _ _ refl (ap (map to_ascii_lowercase) c.as_str.ensures.value) c.as_str-2.ensures.value c.add_copy-added.ensures)
