@@ -156,11 +156,28 @@ impl PageReader {
                     rest
                 }
             }
-            (Ok(rest), None) => rest,
+            (Ok(rest), None) => self.before_cdata(rest),
             (Err(_), _) => {
                 self.builder.keep(Err(PageFault::Memory));
                 ""
             }
+        }
+    }
+
+    /// Processes the characters before `<![` in foreign content, if that was read, and returns the
+    /// text after it, which is empty after a fault.
+    fn before_cdata<'a>(&mut self, rest: &'a str) -> &'a str {
+        if !self.tokens.wants_characters() {
+            return rest;
+        }
+        self.builder.characters(self.tokens.text());
+        self.tokens.clear_text();
+        self.tokens
+            .set_in_foreign(self.builder.is_current_foreign());
+        if self.builder.fault.is_some() {
+            ""
+        } else {
+            rest
         }
     }
 

@@ -1,12 +1,12 @@
 //! The calls that read a page, and the runs of characters that a state copies unchanged.
 
-ghost use Rattle.std.specs.Prelude.{◌≡◌, ◌<◌, ◌≤◌, true, IfOk, IfSome, OnOk, length};
+ghost use Rattle.std.specs.Prelude.{◌≡◌, ◌<◌, ◌≤◌, true, false, IfOk, IfSome, OnOk, length};
 ghost use Rattle.std.specs.Str.{IsCharBoundary};
 ghost use Rattle.page_tokens.specs.Runs.{ends_text, ends_tag_name, tag_name_len_of, IsRun};
 
 use super::plain::first_byte;
 use super::state::{
-    AttrState, CdataState, CommentState, DoctypeState, DoubleState, Id, Quote, ScriptState,
+    AttrState, CdataState, CommentState, DoctypeState, DoubleState, Id, Quote, ScriptState, Seen,
     TagState,
 };
 use super::{Progress, Rest, State, Step, Tokenizer, append};
@@ -266,7 +266,9 @@ impl Tokenizer {
 
     /// Reads the text up to the end of its first token, and returns the text after it. The kind of
     /// the token is stored in `kind`, which keeps its value if no token ends; the tokenizer keeps
-    /// the token itself, for [`Tokenizer::tag`] and the like. Fails only when memory runs out.
+    /// the token itself, for [`Tokenizer::tag`] and the like. With no token, the rest is empty,
+    /// unless parse errors are collected or [`Tokenizer::wants_characters`]. Fails only when memory
+    /// runs out.
     pub fn read_kind<'a>(&mut self, text: &'a str, kind: &mut Option<TokenKind>) -> Rest<'a>
         ensures text { ReadsRun self.old self.new text.now kind.old kind.new result }
         ensures plain_tag { ReadsPlainTag self.old self.new text.now kind.new result }
@@ -297,10 +299,16 @@ impl Tokenizer {
         self.read_to_token(rest, kind)
     }
 
-    /// Reads the text up to its first [`MARKS`], and returns the text after it.
+    /// Reads the text up to its first [`MARKS`], in foreign content also up to its first `[`, and
+    /// returns the text after it.
     #[inline(never)]
     fn read_first<'a>(&mut self, text: &'a str, kind: &mut Option<TokenKind>) -> Rest<'a> {
-        let Some(stretch) = text.split_inclusive(MARKS).next() else {
+        let first = if self.in_foreign {
+            text.split_inclusive([MARKS, '[']).next()
+        } else {
+            text.split_inclusive(MARKS).next()
+        };
+        let Some(stretch) = first else {
             return Ok(text);
         };
         if let Some(made) = self.stretch(stretch)? {
@@ -337,13 +345,27 @@ impl Tokenizer {
         Ok(kind)
     }
 
-    /// Reads the text up to the end of a token, if one ends in it.
+    /// Returns whether `<![` was just read in foreign content, with characters before it. Tree
+    /// construction has to process these and [`Tokenizer::set_in_foreign`] has to be called before
+    /// the next character is read: whether a CDATA section starts here depends on the element in
+    /// which they end, which may be an HTML element that they reopen.
+    pub fn wants_characters(&self) -> bool
+        ensures { self.now.state ≡ State.Data → result ≡ false }
+    {
+        match self.state {
+            State::Declaration(Seen::Cdata(1)) => self.in_foreign && !self.text.is_empty(),
+            _ => false,
+        }
+    }
+
+    /// Reads the text up to the end of a token, if one ends in it, or to where tree construction
+    /// has to process the characters first.
     fn read_to_token<'a>(&mut self, text: &'a str, kind: &mut Option<TokenKind>) -> Rest<'a> {
         let mut made = None;
         let mut rest = text;
         for _ in 0..text.len() {
             rest = self.read_run(rest)?;
-            if rest.is_empty() {
+            if rest.is_empty() || self.wants_characters() {
                 break;
             }
             rest = self.read_front(rest, &mut made)?;
