@@ -1,4 +1,4 @@
-// Random hostile fragments, and random policies as lines that test_clean reads: maker(SEED) has the functions `fragment` and
+// Random hostile fragments, and random policies as lines that the test program's part `clean` reads: maker(SEED) has the functions `fragment` and
 // `policyLines`. The same seed gives the same ones.
 "use strict";
 const NAMES = ("a abbr b blockquote br button caption center code col colgroup dd details div dl dt em fieldset form font h1 h2 hr i img input kbd label li mark menu nav nobr ol p pre q s samp small span strong sub summary sup table tbody td tfoot th thead tr tt u ul var wbr " +

@@ -1,4 +1,4 @@
-// rows.js FOLDER writes the rows of tests/rows/test_clean: the text is the model's, and `read` is what parse5 makes of that text in
+// rows.js FOLDER writes the rows of tests/rows/test_calls/clean: the text is the model's, and `read` is what parse5 makes of that text in
 // a div. The three rows with `noframes` are not the model's: parse5 7.1 reads what is in a `noframes` of a body as markup, where
 // the standard reads a text.
 "use strict";
