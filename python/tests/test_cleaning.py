@@ -1,4 +1,4 @@
-"""Policies, and what they leave; and the rows of `test_clean`, asked again through Python."""
+"""Policies, and what they leave; and the rows of the test program's part `clean`, asked again through Python."""
 
 import copy
 import json
@@ -251,7 +251,7 @@ class Cleaning(unittest.TestCase):
 
 
 def rows(name):
-    path = ROOT / "tests" / "rows" / "test_clean" / f"{name}.jsonl"
+    path = ROOT / "tests" / "rows" / "test_calls" / "clean" / f"{name}.jsonl"
     return [json.loads(line) for line in path.read_text(encoding="utf-8").splitlines()]
 
 
@@ -333,7 +333,7 @@ def unnamed(text):
 class Rows(unittest.TestCase):
     def test_rows(self):
         asked, made = 0, {}
-        for path in sorted((ROOT / "tests" / "rows" / "test_clean").glob("*.jsonl")):
+        for path in sorted((ROOT / "tests" / "rows" / "test_calls" / "clean").glob("*.jsonl")):
             if path.stem == "ways":
                 # (calls that the package doesn't have: into a writer, and to a document)
                 continue

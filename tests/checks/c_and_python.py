@@ -2,14 +2,14 @@
 
 `c_and_python()` returns how many checks passed and how many failed:
 
-- The archive is built over the libraries that the gate left in crates/*/out, unless an earlier run on this machine built it of the same:
-  the gate proves a static library, but doesn't build it. What was built last is kept in ~/.cache/dom_query.
+- The archive is the one that the gate built, or an earlier run on this machine of the same; what was built last is kept in
+  ~/.cache/dom_query. Where there is none, it is built over the libraries that the gate left in crates/*/out, which proves it once more.
 - `./install-c` links the archive into a folder of its own, by gcc and, where it is there, by the kit's clang.
 - tests/checks/c_exports.c asks every function of include/dom_query.h: as C and as C++, under Valgrind or AddressSanitizer where there
   is one, and with each request for memory refused in turn (tests/checks/refuse.c), after which no block may be left.
 - Each function of the header is one that the archive defines, and the other way around, and c_exports.c and the package name each.
 - The programs of examples/c are built with the pkg-config file and run, and so is each program that docs/C.md shows.
-- The tests of the package (python/tests), which ask the rows of `dq` and of `test_clean` again, and the programs of examples/python are run, and
+- The tests of the package (python/tests), which ask the rows of `dq` and of the test program's part `clean` again, and the programs of examples/python are run, and
   its types are checked, where mypy is there. A wheel is made and installed."""
 import hashlib
 import os
@@ -269,6 +269,12 @@ def keep(archive, kept):
     os.replace(f"{kept}.{os.getpid()}", kept)
     for old in sorted(kept.parent.glob("libdom_query_c-*.a"), key=lambda it: it.stat().st_mtime)[:-3]:
         old.unlink(missing_ok=True)
+
+
+def keep_of_gate():
+    """Keeps the archive that the gate has just built, if it built one: where it proved the library before, it didn't."""
+    if ARCHIVE.exists():
+        keep(ARCHIVE, kept_archive(inputs(pathlib.Path(run(["rt", "doc"])[1].strip()).parent)))
 
 
 def build_archive(archive):

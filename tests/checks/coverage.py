@@ -3,7 +3,7 @@
 A public function is one that `dom_query` hands on by the `pub use` lines of its lib.rt: a function, a `pub fn` of a type,
 or a method of a trait. Methods of the traits of std (`fmt`, `from`, `next`) are left out.
 
-It is called where the source of a program, of its own library or of a test (ROOTS), or of what programs share (SHARED), names
+It is called where the source of a program, of its own library or of a part of the test program (ROOTS and PARTS) names
 it: `name(..)`, in a file that imports the name; `Type::name`; or `x.name(..)`, where the text shows what x is. That is read from parameters, from
 `let`, `for` and patterns, from the fields of structs, and from what the functions that are called return by their
 declarations. The method is the type's own, or else that of a trait which it implements, or by which a type parameter is bound.
@@ -17,15 +17,16 @@ import pathlib
 import re
 import sys
 
-ROOT = pathlib.Path(__file__).resolve().parents[2]
-ROOTS, SHARED = ("test_calls", "test_queries", "test_times", "test_batch", "test_encodings", "test_clean", "callers", "examples", "dq", "hq", "hq_pages"), "test_lines"
+sys.path.insert(0, str(pathlib.Path(__file__).resolve().parents[1] / "tools"))
+from rows import PARTS, ROOT  # noqa: E402
+
+CRATES, TEST_PROGRAM = ROOT / "crates", ROOT / "tests" / "programs" / "test_calls" / "src"
+# The crates that are programs, with the library of `hq`.
+ROOTS = ("callers", "examples", "dq", "hq", "hq_pages")
 # Public functions that no program calls, with the reason. One that a program calls is a fault here.
 UNCALLED = {
     ("Tree", "move_allowed"): "its caller proves that the move is allowed, which only tree construction (page_trees) does",
     ("", "plain_trees_are_built"): "a law: it has no body",
-    ("", "calm_trees_are_built"): "a law: it has no body",
-    ("", "calm_html_is_written"): "a law: it calls laws alone",
-    ("", "examples"): "a law: it has no body",
 }
 # Comments, strings, characters, and imports of specs.
 BLANK = re.compile(r'//[^\n]*|"(?:\\.|[^"\\])*"|\'(?:\\[^\']+|[^\'\\])\'|\bghost use [^;]*;', re.S)
@@ -34,6 +35,8 @@ BLOCK = re.compile(r"\b(impl|trait)\b([^{;()]*(?:\([^)]*\)[^{;()]*)*)\{")
 FUNCTION = re.compile(r"(\bpub )?(?:\bconst )?\bfn (\w+)\s*(<[^{};(]*?(?:\([^)]*\)[^{};(]*?)*>)?\(")
 STRUCT = re.compile(r"\bstruct (\w+)(?:<[^>{(;]*>)?\s*(?:where[^{]*)?([{(])")
 ITEM = re.compile(r"\bimpl(?:<[^{]*?>)? Iterator for (\w+)[^{]*\{\s*type Item = ([^;]*);")
+# What a program imports of the libraries.
+IMPORT = re.compile(rf"\buse ((?:{'|'.join(sorted(folder.name for folder in CRATES.iterdir()))})::[^;]*);")
 CLAUSE = re.compile(r"\s(where|requires|ensures|ghost)\b")
 # The name of what is called, in a body.
 CALLED = re.compile(r"\b([a-z_]\w*)\s*(?:::<[^(]*?>)?\(")
@@ -370,7 +373,7 @@ class Calls:
 
 def handed_on(known):
     """The names that `dom_query` hands on, and those which it hands on under other ones."""
-    text = source_of(ROOT / "crates" / "dom_query" / "src" / "lib.rt")
+    text = source_of(CRATES / "dom_query" / "src" / "lib.rt")
     names = set(re.findall(r"\bpub use (?:\w+::)*(\w+);", text))
     return names | {known.others.get(name, name) for name in names}
 
@@ -384,34 +387,41 @@ def calls_of(program, known):
         declared[file] = shapes
     everywhere = {key: shape for shapes in declared.values() for key, shape in shapes.items()}
     for file, functions in by_file.items():
-        imported = set(re.findall(r"\w+", " ".join(re.findall(r"\buse ((?:dom|html5)_[^;]*);", source_of(file)))))
+        imported = set(re.findall(r"\w+", " ".join(IMPORT.findall(source_of(file)))))
         for function in functions:
             for whose, name in Calls(known, {**everywhere, **declared[file]}, function).made:
                 if whose or name in imported:
                     yield whose, name
 
 
-def uncalled_below(files, names):
-    """The public functions that `dom_query` doesn't hand on, and which of their names nothing calls."""
-    every = [(file, function) for sources in files.values() for file in sources for function in functions_of(file)]
-    called = {name for _, function in every for name in CALLED.findall(function.body or "")}
+def programs():
+    """The files of each program, and of each part of the test program with what the parts share."""
+    files = {name: sorted((CRATES / name / "src").rglob("*.rt")) for name in ROOTS}
+    for part in PARTS:
+        found = [file for name in ("lines", part) for file in [TEST_PROGRAM / f"{name}.rs", *sorted((TEST_PROGRAM / name).glob("*.rs"))]]
+        files[part] = [file for file in found if file.exists()]
+    return files
+
+
+def uncalled_below(libraries, others, names):
+    """The public functions of the libraries that `dom_query` doesn't hand on, and which of their names nothing calls."""
+    every = [(file, function) for file in libraries for function in functions_of(file)]
+    functions = [function for _, function in every] + [function for file in others for function in functions_of(file)]
+    called = {name for function in functions for name in CALLED.findall(function.body or "")}
     below = set()
     for file, function in every:
         owner = function.owners[-1] if function.owners else ""
-        is_own = function.is_public and len(function.owners) < 2 and "laws" not in file.with_suffix("").parts
-        if is_own and file.relative_to(ROOT / "crates").parts[0] not in (*ROOTS, SHARED) and (owner or function.name) not in names:
+        is_own = function.is_public and len(function.owners) < 2 and not any(part.endswith("laws") for part in file.with_suffix("").parts)
+        if is_own and (owner or function.name) not in names:
             below.add((owner, function.name))
     return below, {(owner, name) for owner, name in below if name not in called}
 
 
 def coverage():
     """Prints the public functions that nothing calls, and returns how many are called and how many aren't."""
-    crates = ROOT / "crates"
-    files = {folder.name: sorted(folder.glob("src/**/*.rt")) for folder in sorted(crates.iterdir())}
-    libraries = [file for name, sources in files.items() if name not in (*ROOTS, SHARED) for file in sources]
-    called, names = set(), set()
-    for name in ROOTS:
-        program = [*files[SHARED], *files[name]]
+    libraries = [file for folder in sorted(CRATES.iterdir()) if folder.name not in ROOTS for file in sorted(folder.glob("src/**/*.rt"))]
+    called, names, files = set(), set(), programs()
+    for program in files.values():
         known = Known(libraries, program)
         called.update(calls_of(program, known))
         names.update(handed_on(known))
@@ -420,7 +430,7 @@ def coverage():
         owner = function.owners[-1] if function.owners else ""
         if (owner or function.name) in names and (function.is_public or function.block == "trait"):
             public.add((owner, function.name))
-    below, unmet = uncalled_below(files, names)
+    below, unmet = uncalled_below(libraries, sum(files.values(), []), names)
     stale = set(UNCALLED) - (public - called) - unmet
     for owner, name in sorted(stale):
         print(f"{owner}{'::' if owner else ''}{name}: something calls it, but it is listed as uncalled")

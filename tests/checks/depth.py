@@ -1,4 +1,4 @@
-"""Trees that are deep and trees that are wide. Each call is done by the program `times` on a stack of 256 KiB, over so many
+"""Trees that are deep and trees that are wide. Each call is done by the part `times` of the test program on a stack of 256 KiB, over so many
 elements nested in one another and over so many side by side, and over ten times as many: it ends, and the processor time of
 the program grows no more than in proportion, with room for what a busy machine adds. `depth.py SMALL` prints the times of the
 calls alone for SMALL elements and ten times as many, which must be at most MOST times as long, as docs/PERFORMANCE.md says."""
@@ -8,7 +8,7 @@ import subprocess
 import sys
 
 sys.path.insert(0, str(pathlib.Path(__file__).resolve().parents[1] / "tools"))
-from rows import SECONDS, built  # noqa: E402
+from rows import SECONDS, started  # noqa: E402
 
 STACK = 256 * 1024
 # Times as long for ten times as many. A check leaves room.
@@ -47,7 +47,7 @@ PATHS = ("b", "b b", "b > b", "b + b")
 def time_of(call, selector, markup, runs=1):
     """The nanoseconds that a call took on a small stack, or what went wrong."""
     small = lambda: resource.setrlimit(resource.RLIMIT_STACK, (STACK, STACK))
-    words = [built("test_times"), call, str(runs), selector]
+    words = [*started("times"), call, str(runs), selector]
     try:
         ran = subprocess.run(words, input=markup, capture_output=True, timeout=SECONDS, preexec_fn=small)
     except subprocess.TimeoutExpired:

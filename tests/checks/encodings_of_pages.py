@@ -1,7 +1,7 @@
-"""Decoders and labels of encodings, asked by the program `test_encodings`. tests/data/encodings.json.gz holds the labels and the
+"""Decoders and labels of encodings, asked by the part `encodings` of the test program. tests/data/encodings.json.gz holds the labels and the
 indexes of the Encoding Standard: each label, each byte of each single-byte encoding and each pointer of each index is asked.
 The texts of pieces of any size are those of the whole, also of every prefix of a text, and what long hostile bytes take grows
-no more than in proportion. The program `test_batch` parses pages whole and in pieces that are cut at every place. `run()` returns
+no more than in proportion. Its part `batch` parses pages whole and in pieces that are cut at every place. `run()` returns
 how many passed and how many failed."""
 import os
 import pathlib
@@ -16,12 +16,11 @@ for folder in ("tools", "second_definitions"):
     sys.path.insert(0, str(TESTS / folder))
 import decoders  # noqa: E402
 import prescan  # noqa: E402
+from rows import SECONDS, started  # noqa: E402
 
-PROGRAM = TESTS.parent / "crates" / "test_encodings" / "out" / "test_encodings"
-PAGES = TESTS.parent / "crates" / "test_batch" / "out" / "test_batch"
+PROGRAM = started("encodings")
 DATA = prescan.ALL
 ERROR = "\ufffd"
-SECONDS = 60
 SOUPS = 4000
 SEED = 1
 # Times as long for ten times as many bytes, with room for a busy machine, and the seconds below which nothing is compared.
@@ -166,7 +165,7 @@ GUESSED = [
 def ask(words, records):
     """The program's answers: texts with the number of replacements in each, or names."""
     given = b"".join(struct.pack("<I", len(record)) + record for record in records)
-    done = subprocess.run([PROGRAM, *words], input=given, stdout=subprocess.PIPE, timeout=SECONDS)
+    done = subprocess.run([*PROGRAM, *words], input=given, stdout=subprocess.PIPE, timeout=SECONDS)
     assert done.returncode == 0, (words, done.returncode)
     answers, at, out = [], 0, done.stdout
     while at < len(out):
@@ -290,9 +289,9 @@ def pieces(counts):
 
 
 def parsed(size, label, pages):
-    """What `test_batch` prints of each page, in pieces of that size or whole (0)."""
+    """What the part `batch` prints of each page, in pieces of that size or whole (0)."""
     given = "".join(page.hex() + "\n" for page in pages).encode()
-    words = [PAGES, "bulk", "encoded", str(size), *([label] if label else [])]
+    words = [*started("batch"), "bulk", "encoded", str(size), *([label] if label else [])]
     done = subprocess.run(words, input=given, stdout=subprocess.PIPE, timeout=SECONDS)
     assert done.returncode == 0, (words, done.returncode)
     return done.stdout.decode().split("\n")[:-1]
@@ -325,7 +324,7 @@ def seconds(words, record):
     with tempfile.TemporaryFile() as given:
         given.write(struct.pack("<I", len(record)) + record)
         given.seek(0)
-        asked = subprocess.Popen([PROGRAM, *words], stdin=given, stdout=subprocess.DEVNULL)
+        asked = subprocess.Popen([*PROGRAM, *words], stdin=given, stdout=subprocess.DEVNULL)
         _, status, used = os.wait4(asked.pid, 0)
     asked.returncode = os.waitstatus_to_exitcode(status)
     assert asked.returncode == 0, (words, asked.returncode)
@@ -354,5 +353,5 @@ def run():
 
 if __name__ == "__main__":
     if len(sys.argv) > 1:
-        PROGRAM = pathlib.Path(sys.argv[1])
+        PROGRAM = [sys.argv[1], "encodings"]
     print("%d passed, %d failed" % run())

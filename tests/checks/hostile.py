@@ -1,5 +1,5 @@
 """Hostile inputs. Of each text below, which together use every rule of its grammar, every prefix, every text with one byte
-changed to each of CHANGED, and every text with a byte left out is read by the program `test_batch bulk` in one process, and the answer
+changed to each of CHANGED, and every text with a byte left out is read by `test_calls batch bulk` in one process, and the answer
 is compared with that of the grammar in grammars.py: read, with the same result, or refused. A fault has a name that the
 documents have, and a place inside the text.
 
@@ -17,7 +17,7 @@ import sys
 for folder in ("tools", "second_definitions"):
     sys.path.insert(0, str(pathlib.Path(__file__).resolve().parents[1] / folder))
 import grammars  # noqa: E402
-from rows import SECONDS, built  # noqa: E402
+from rows import SECONDS, started  # noqa: E402
 
 CHANGED = b"<>/\"'=&-!?#; \t\f\r\x00\x80\xff"
 MARKUPS = (
@@ -69,13 +69,13 @@ def variants(text):
     return found
 
 
-def asked(program, words, lines):
-    """What the program answers behind `bulk` to each line on standard input."""
+def asked(part, words, lines):
+    """What a part of the test program answers behind `bulk` to each line on standard input."""
     given = "".join(f"{line}\n" for line in lines).encode()
-    ran = subprocess.run([built(program), "bulk", *words], input=given, capture_output=True, timeout=SECONDS)
+    ran = subprocess.run([*started(part), "bulk", *words], input=given, capture_output=True, timeout=SECONDS)
     answers = ran.stdout.decode(errors="replace").split("\n")[:-1]
     if ran.returncode or ran.stderr or len(answers) != len(lines):
-        print(f"{program} bulk {words}: status {ran.returncode}, {len(answers)} answers to {len(lines)} lines, {ran.stderr[:300]}")
+        print(f"{part} bulk {words}: status {ran.returncode}, {len(answers)} answers to {len(lines)} lines, {ran.stderr[:300]}")
     return answers
 
 
@@ -110,7 +110,7 @@ def is_right(kind, data, answer):
 def texts(kind, whole):
     """Has the program asked each variant of the texts; returns how many answers are right and how many aren't."""
     inputs = sorted(set().union(*(variants(text) for text in whole)))
-    answers = asked("test_batch", ["inputs", kind], [data.hex() for data in inputs])
+    answers = asked("batch", ["inputs", kind], [data.hex() for data in inputs])
     wrong = [(data, answer) for data, answer in zip(inputs, answers) if not is_right(kind, data, answer)]
     for data, answer in wrong[:10]:
         print(f"hostile {kind}: {data!r}: {answer!r}, and the grammar says {wanted_of(kind, data)!r}")
@@ -236,7 +236,7 @@ def many_nodes():
     ring = [f"element {number % MANY_NODES + 1} - - - -" for number in range(1, MANY_NODES + 1)]
     nested = [f"element {number - 1} - - {number + 1} {number + 1}" for number in range(1, MANY_NODES)]
     lone, last = "document - - - - -", f"element {MANY_NODES - 1} - - - -"
-    answers = asked("test_calls", ["raw"], [";".join([lone, *ring]), ";".join(["document - - - 1 1", *nested, last])])
+    answers = asked("calls", ["raw"], [";".join([lone, *ring]), ";".join(["document - - - 1 1", *nested, last])])
     wanted = ["Cycle true", "forest true true"]
     if answers != wanted:
         print(f"many raw nodes: {answers}"[:300])
@@ -247,7 +247,7 @@ def raw_nodes():
     """Has `from_nodes` and `validate` asked; returns how many answers are right and how many aren't."""
     trees = list(dict.fromkeys(changed_trees()))
     spelled = [";".join(" ".join("-" if word is None else str(word) for word in node) for node in nodes) for nodes in trees]
-    answers = asked("test_calls", ["raw"], spelled)
+    answers = asked("calls", ["raw"], spelled)
     good = passed = 0
     for nodes, answer in zip(trees, answers):
         is_good = is_forest(nodes)
@@ -345,12 +345,12 @@ def pages():
     by each way, and how many aren't. Noting errors, tags are read character by character; so, and in pieces, calm pages are read
     by tree construction. In pieces of one byte none of the fast ways for runs, tags and references is taken."""
     inputs = list(dict.fromkeys(page_inputs()))
-    whole = dict(zip(inputs, asked("test_batch", ["pages", "whole"], [data.hex() for data in inputs])))
-    ended = dict(zip(PAGE_BYTES, asked("test_batch", ["pages", "whole"], [(data + "é".encode()).hex() for data in PAGE_BYTES])))
+    whole = dict(zip(inputs, asked("batch", ["pages", "whole"], [data.hex() for data in inputs])))
+    ended = dict(zip(PAGE_BYTES, asked("batch", ["pages", "whole"], [(data + "é".encode()).hex() for data in PAGE_BYTES])))
     passed = failed = 0
     ways = [("noted", [data for data in inputs if is_text(data)], whole), ("mixed", PAGE_BYTES, ended)]
     for way, given, wanted in [*ways, *((size, inputs, whole) for size in ("1", "2", "3", "4", "5", "64"))]:
-        answers = asked("test_batch", ["pages", way], [data.hex() for data in given])
+        answers = asked("batch", ["pages", way], [data.hex() for data in given])
         wrong = [data for data, answer in zip(given, answers) if not answer.startswith("read ") or answer != wanted.get(data)]
         for data in wrong[:3]:
             print(f"hostile pages, {way}: {data!r} isn't the page that it is whole")

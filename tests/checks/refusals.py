@@ -3,7 +3,7 @@ of a run, and N is counted up until a run meets no refusal. A refusal is reporte
 5; what was written is then a beginning of the output, and all that was asked for is given back. Where a refusal is passed by,
 as that of a cache or of room that was asked for in advance, the answer is the right one.
 
-A line of the programs `test_calls`, `test_queries` and `test_batch` is asked between two lines `state`, which print all that the document holds and ask for nothing.
+A line of the parts `calls`, `queries` and `batch` of the test program is asked between two lines `state`, which print all that the document holds and ask for nothing.
 Where a request of that line is refused, each line that it prints says so, or is printed with ample memory too, and the
 document is as it was before, or as it is where the line is asked of the first nodes alone.
 
@@ -21,7 +21,7 @@ import tempfile
 from concurrent.futures import ThreadPoolExecutor
 
 sys.path.insert(0, str(pathlib.Path(__file__).resolve().parents[1] / "tools"))
-from rows import ROOT, SECONDS, built, given, words_of  # noqa: E402
+from rows import ROOT, SECONDS, built, folder_of, given, started, words_of  # noqa: E402
 
 REPORTED = (b"dq: out of memory\n", b"dq: write failed\n", b"dq: read failed\n")
 MANY = 3_000
@@ -29,16 +29,16 @@ MANY = 3_000
 WHOLE = {"first_path", "lines", "selectors"}
 # The line that prints all that the document holds.
 STATE = b"state"
-# The programs, and the files of their rows whose lines are run.
+# The parts of the test program, and the files of their rows whose lines are run.
 FILES = {
-    "test_calls": "memory apart changes documents moves pages reading sanitising sinks texts values".split(),
-    "test_queries": "cached indexes minis selections selectors several".split(),
-    "test_batch": ["lines"],
+    "calls": "memory apart changes documents moves pages reading sanitising sinks texts values".split(),
+    "queries": "cached indexes minis selections selectors several".split(),
+    "batch": ["lines"],
 }
 # What is run in small address spaces, with so many paragraphs.
-LIMITED = [("test_batch", b"texts"), *(("test_calls", line) for line in (b"print", b"clone", b"to-fragment 0", b"htmls 0", b"md 0", b"walk 0"))]
-LIMITED += [("test_calls", b"nodes 1,5,9 append_html " + b"<i>x</i>" * 2_000)]
-LIMITED += [("test_queries", line) for line in (b"places", b"select p b", b"selection p, b", b"step b", b"find 0 p > b")]
+LIMITED = [("batch", b"texts"), *(("calls", line) for line in (b"print", b"clone", b"to-fragment 0", b"htmls 0", b"md 0", b"walk 0"))]
+LIMITED += [("calls", b"nodes 1,5,9 append_html " + b"<i>x</i>" * 2_000)]
+LIMITED += [("queries", line) for line in (b"places", b"select p b", b"selection p, b", b"step b", b"find 0 p > b")]
 PARAGRAPH, PARAGRAPHS = b"<p class='a'>text that a node keeps apart, for it is long<b>b</b></p>", 1_000
 # Address spaces differ by whole pages. The heap grows by pages too, so that a small request is refused where the space ends.
 PAGE, BELOW, ABOVE = 4096, 64, 4
@@ -156,7 +156,7 @@ def asked_lines(program):
     """The lines of the rows of a program by their calls: each with the program, the row's markup and the lines in front of it."""
     lines = {}
     for name in FILES[program]:
-        for line in (ROOT / "tests" / "rows" / program / f"{name}.jsonl").read_text(encoding="utf-8").splitlines():
+        for line in (folder_of(program) / f"{name}.jsonl").read_text(encoding="utf-8").splitlines():
             case = json.loads(line)
             words, markup = words_of(case), given(case, "markup")
             if len(markup) <= MANY and words[0] != b"bulk":
@@ -173,7 +173,7 @@ class Asked:
 
     def __init__(self, counter, program, markup, before, line):
         self.program, self.markup, self.before, self.line = program, markup, before, line
-        still = counts(counter, [built(program), *before, STATE, STATE, STATE], markup)
+        still = counts(counter, [*started(program), *before, STATE, STATE, STATE], markup)
         done = counts(counter, self.words(), markup)
         self.is_well = still[0] == done[0] == 0 and still[3][2] == done[3][2] == 0
         self.state = b"".join(still[1].splitlines(True)[-1:])
@@ -182,7 +182,7 @@ class Asked:
         self.requests = range(still[3][0] + 1, done[3][0] + 1) if self.is_well else range(0)
 
     def words(self, line=None):
-        return [built(self.program), *self.before, STATE, self.line if line is None else line, STATE]
+        return [*started(self.program), *self.before, STATE, self.line if line is None else line, STATE]
 
     def parts(self, output):
         """The lines of the answer, and the document after it; None where that isn't printed."""
@@ -255,7 +255,7 @@ def calls(counter, program):
 def within(program, line, limit=None):
     """How a line is answered over many paragraphs, in an address space of so many bytes."""
     limited_to = (lambda: resource.setrlimit(resource.RLIMIT_AS, (limit, limit))) if limit else None
-    words, markup = [built(program), line], PARAGRAPH * PARAGRAPHS
+    words, markup = [*started(program), line], PARAGRAPH * PARAGRAPHS
     return subprocess.run(words, input=markup, capture_output=True, timeout=SECONDS, preexec_fn=limited_to, env={**os.environ, **BY_PAGES})
 
 

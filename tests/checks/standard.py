@@ -10,7 +10,10 @@ sys.path.insert(0, str(ROOT / "tests" / "standard"))
 import definitions  # noqa: E402
 import machine  # noqa: E402
 
-# The rows of the program `test_calls` whose argument asks for tokens, which are printed a line each, after which other lines follow.
+sys.path.insert(0, str(ROOT / "tests" / "tools"))
+from rows import folder_of  # noqa: E402
+
+# The rows of the test program's part `calls` whose argument asks for tokens, which are printed a line each, after which other lines follow.
 ASKING = "web-tokens "
 # A comment in a tree that `hq --tree` shows.
 COMMENT = re.compile(r"^\| *<!-- (.*?) -->$", re.S | re.M)
@@ -47,7 +50,7 @@ def other_tokens(row):
 
 def tokens_asked():
     """The texts of which rows ask the tokens of page_tokens, with what is printed."""
-    for file in sorted((ROOT / "tests" / "rows" / "test_calls").glob("*.jsonl")):
+    for file in sorted(folder_of("calls").glob("*.jsonl")):
         for line in file.read_text(encoding="utf-8").splitlines():
             row = json.loads(line)
             if str(row.get("args", [""])[0]).startswith(ASKING):

@@ -1,11 +1,11 @@
-"""`hq --jsonl` over many pages, beside test_times, pup and a program in Python with lxml. Outside the gate.
+"""`hq --jsonl` over many pages, beside test_calls, pup and a program in Python with lxml. Outside the gate.
 
     jsonl.py make HQ FOLDER COUNT PAGES..        writes COUNT lines of JSON into FOLDER/pages.jsonl, each with a page of 12 to 30 KB from
                                                  the folders PAGES, as explicit markup by `hq --document`, and the first 400 pages as files
-    jsonl.py times HQ TEST_TIMES FOLDER          the processor time of `hq --jsonl --text h1` over all lines; of lxml and of pup over the
-                                                 same pages; and what test_times takes in its process to read each page and to select `h1`
-    jsonl.py instructions HQ TEST_TIMES FOLDER N the instructions (callgrind) of `hq --jsonl` for each of N pages, beside those of
-                                                 test_times for `parse_page` and for selecting
+    jsonl.py times HQ TEST_CALLS FOLDER          the processor time of `hq --jsonl --text h1` over all lines; of lxml and of pup over the
+                                                 same pages; and what test_calls takes in its process to read each page and to select `h1`
+    jsonl.py instructions HQ TEST_CALLS FOLDER N the instructions (callgrind) of `hq --jsonl` for each of N pages, beside those of
+                                                 test_calls for `parse_page` and for selecting
     jsonl.py memory HQ FOLDER TIMES..            the most memory that is resident while all lines are read that many times
 
 pup and lxml are Debian's pup and python3-lxml."""
@@ -60,13 +60,13 @@ def make(hq, folder, count, *pages):
     print(f"{count} pages of {len(names)} files, {size} bytes")
 
 
-def of_test_times(test_times, call, page, runs):
+def of_test_calls(test_calls, call, page, runs):
     with open(page, "rb") as given:
-        done = subprocess.run([test_times, call, str(runs), SELECTOR], stdin=given, stdout=subprocess.PIPE, text=True)
+        done = subprocess.run([test_calls, "times", call, str(runs), SELECTOR], stdin=given, stdout=subprocess.PIPE, text=True)
     return int(done.stdout.split()[1]) if done.returncode == 0 else None
 
 
-def times(hq, test_times, folder):
+def times(hq, test_calls, folder):
     folder = pathlib.Path(folder)
     lines = folder / "pages.jsonl"
     names = sorted(folder.glob("*.html"), key=lambda it: int(it.stem))
@@ -100,11 +100,11 @@ def times(hq, test_times, folder):
         for _ in range(5):
             with open(some.name, "rb") as given:
                 runs.append(used([hq, "--jsonl", "--text", SELECTOR], given)[0] / (11 * len(names)))
-    by_call = {call: [of_test_times(test_times, call, page, 30) for page in names] for call in ("page", "drop", "select")}
+    by_call = {call: [of_test_calls(test_calls, call, page, 30) for page in names] for call in ("page", "drop", "select")}
     refused = sum(it is None for it in by_call["page"])
     sums = {call: sum(it for it in values if it is not None) / 1e3 / (len(names) - refused) for call, values in by_call.items()}
-    print(f"test_times over {len(names) - refused} pages ({refused} are refused as explicit markup), microseconds a page: {', '.join(f'{call} {took:.1f}' for call, took in sums.items())}")
-    print(f"hq --jsonl over these pages: {min(runs) * 1e6:.1f}; by test_times {min(runs) * 1e6 / sum(sums.values()):.2f}")
+    print(f"test_calls over {len(names) - refused} pages ({refused} are refused as explicit markup), microseconds a page: {', '.join(f'{call} {took:.1f}' for call, took in sums.items())}")
+    print(f"hq --jsonl over these pages: {min(runs) * 1e6:.1f}; by test_calls {min(runs) * 1e6 / sum(sums.values()):.2f}")
 
 
 def counted(words, given):
@@ -113,7 +113,7 @@ def counted(words, given):
     return int(re.search(r"Collected : (\d+)", done.stderr)[1])
 
 
-def instructions(hq, test_times, folder, number):
+def instructions(hq, test_calls, folder, number):
     folder, number = pathlib.Path(folder), int(number)
     with open(folder / "pages.jsonl", "rb") as given:
         lines = [line for _, line in zip(range(number), given)]
@@ -128,9 +128,9 @@ def instructions(hq, test_times, folder, number):
     for call in ("page", "select"):
         sums[call] = 0
         for at in range(number):
-            few, more = (counted_file([test_times, call, str(runs), SELECTOR], folder / f"{at}.html") for runs in (1, 5))
+            few, more = (counted_file([test_calls, "times", call, str(runs), SELECTOR], folder / f"{at}.html") for runs in (1, 5))
             sums[call] += (more - few) / 4 / number
-    print(f"instructions a page: hq --jsonl {ours:,.0f}; test_times {', '.join(f'{call} {cost:,.0f}' for call, cost in sums.items())}; ratio {ours / sum(sums.values()):.2f}")
+    print(f"instructions a page: hq --jsonl {ours:,.0f}; test_calls {', '.join(f'{call} {cost:,.0f}' for call, cost in sums.items())}; ratio {ours / sum(sums.values()):.2f}")
 
 
 def counted_file(words, name):

@@ -1,6 +1,6 @@
 """The grammars of markup, selectors, mini selectors and scripts in docs/RULES.md, written from that document
 alone, so that hostile.py can ask what each input is to be read as. Each reader takes a text and returns what the program
-`test_batch bulk inputs` must print for it: `read ..`, or the name of a fault."""
+`test_calls batch bulk inputs` must print for it: `read ..`, or the name of a fault."""
 import re
 
 WHITE = "\t\n\f\r "

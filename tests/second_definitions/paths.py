@@ -8,17 +8,18 @@ root is compared too, and below another start it must have all that the path fin
 A process is asked for many forests: each stands in an element `hr-f`, and paths start at the document, at such elements and
 at nodes in them.
 
-`paths.py [SEED [COUNT]]` compares so many forests, with the program `test_queries` that was built in the workspace."""
+`paths.py [SEED [COUNT]]` compares so many forests, with the test program that programs.py built."""
 import pathlib
 import random
 import subprocess
 import sys
 import time
 
-PROGRAM = pathlib.Path(__file__).resolve().parents[2] / "crates" / "test_queries" / "out" / "test_queries"
+sys.path.insert(0, str(pathlib.Path(__file__).resolve().parents[1] / "tools"))
+from rows import SECONDS, started  # noqa: E402
+
 TOGETHER = 100
 PATHS = 3
-SECONDS = 60
 SHOWN = 5
 
 NAMES, WORDS = ["a", "b", "p"], ["x", "y"]
@@ -124,7 +125,7 @@ class Documents:
 
 def asked(program, lines, markup):
     """What the program prints for each line, as lines."""
-    ran = subprocess.run([program, *lines], input=markup.encode(), capture_output=True, timeout=SECONDS)
+    ran = subprocess.run([*program, *lines], input=markup.encode(), capture_output=True, timeout=SECONDS)
     return ran.stdout.decode().splitlines() if ran.returncode == 0 else []
 
 
@@ -179,7 +180,7 @@ def compared(program, seed, count):
 def main():
     seed, count = (int(word) for word in (*sys.argv[1:], *["1", "2000"][len(sys.argv) - 1 :]))
     begun = time.monotonic()
-    passed, failed = compared(PROGRAM, seed, count)
+    passed, failed = compared(started("queries"), seed, count)
     print(f"paths: seed {seed}, {count} forests, {passed} as wanted, {failed} not, {time.monotonic() - begun:.1f} s")
     return 1 if failed else 0
 

@@ -1,7 +1,7 @@
 """Asks random selectors below random roots of random forests in each way: the tables of an index, and the choice between them
 and asking, must select what asking each node does.
 
-`ways.py [SEED [COUNT]]` tests so many, with the program `test_queries` that was built in the workspace."""
+`ways.py [SEED [COUNT]]` tests so many, with the test program that programs.py built."""
 import pathlib
 import random
 import subprocess
@@ -9,7 +9,7 @@ import sys
 import time
 
 sys.path.insert(0, str(pathlib.Path(__file__).resolve().parents[1] / "tools"))
-from rows import SECONDS, built  # noqa: E402
+from rows import SECONDS, started  # noqa: E402
 
 STARTS = [("<div>", "div"), ("<p class=k>", "p"), ("<b>", "b"), ("<i id=x>", "i"), ("<x-y>", "x-y"), ("<template>", "template")]
 LEAVES = ["t", " ", "<!--c-->", "<p></p>"]
@@ -47,7 +47,7 @@ def selected(program, dice):
     text, roots = markup(dice), ",".join(str(number) for number in (0, *dice.choices(range(16), k=dice.randrange(3))))
     cuts = [f"move remove_from_parent {dice.randrange(1, 12)}" for _ in range(dice.randrange(3))]
     words = [*cuts, f"select-below {roots} {selector(dice)}"]
-    ran = subprocess.run([program, *words], input=text, capture_output=True, text=True, timeout=SECONDS)
+    ran = subprocess.run([*program, *words], input=text, capture_output=True, text=True, timeout=SECONDS)
     said = [line.rpartition(":") for line in ran.stdout.splitlines()[len(cuts) :]]
     found = {call: numbers.split() for call, _, numbers in said}
     return f"{words} over {text!r}: {found}", [found.get(call) for call in CALLS]
@@ -68,7 +68,7 @@ def compared(program, seed, count):
 def main():
     seed, count = (int(word) for word in (*sys.argv[1:], *["1", "400"][len(sys.argv) - 1 :]))
     begun = time.monotonic()
-    passed, failed = compared(built("test_queries"), seed, count)
+    passed, failed = compared(started("queries"), seed, count)
     print(f"ways: seed {seed}, {count} selectors, {passed} as wanted, {failed} not, {time.monotonic() - begun:.1f} s")
     return 1 if failed else 0
 

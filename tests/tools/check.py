@@ -3,13 +3,18 @@
 It does this, in this order:
 
 1. It runs the gate, `rt ci` (through tests/tools/gate.py), which proves every crate and runs every program once. Beside it,
-   tests/tools/edits.py tries the must-fail edits of each crate as soon as the gate has proved it.
-2. It runs the built programs on rows. A row is a line of JSON in tests/rows/PROGRAM/*.jsonl, or in tests/html5lib/*.jsonl
-   (html5lib's tests of tree construction, which are rows of the program `hq`).
+   tests/tools/edits.py tries the must-fail edits of each crate as soon as the gate has proved it, and tests/tools/programs.py builds
+   the test program, which is not proved.
+2. It runs the built programs on rows. A row is a line of JSON in tests/rows/PROGRAM/*.jsonl (for a part of the test program, in
+   tests/rows/test_calls/PART/*.jsonl), or in tests/html5lib/*.jsonl (html5lib's tests of tree construction, which are rows of the
+   program `hq`).
 3. It runs the checks of tests/checks, the comparisons with the second definitions of tests/second_definitions, and the
    callers of tests/must-not-compile.
 
-`check --rows` leaves out the first step. What an earlier run on this machine showed of the same files is kept; `check --anew`
+`check --rows` leaves out the gate. `check --quick` leaves it out, too, and builds the programs without proofs: it needs nothing that
+was built before, and leaves out the library for C with the package for Python, which are built of what was proved, the programs
+of crates/examples, and the callers of tests/must-not-compile. `check --edits` tries the must-fail edits, too, that were refused before over the same files, and then
+writes tests/must-fail/refused.txt, where it finds them the next time. What an earlier run on this machine showed of the same files is kept; `check --anew`
 shows all of it again.
 
 The fields of a row: `markup` is the standard input; `args` is the list of arguments, or `script` is the only argument; `output`
@@ -49,9 +54,12 @@ import encodings_of_pages  # noqa: E402
 import growth  # noqa: E402
 import hostile  # noqa: E402
 import in_place  # noqa: E402
+import line_lengths  # noqa: E402
+import minutes  # noqa: E402
 import options  # noqa: E402
 import paths  # noqa: E402
 import pictures  # noqa: E402
+import programs  # noqa: E402
 import reference  # noqa: E402
 import refusals  # noqa: E402
 import standard  # noqa: E402
@@ -60,7 +68,7 @@ import standard_rules  # noqa: E402
 import streams  # noqa: E402
 import tables as entries_of_tables  # noqa: E402
 import ways  # noqa: E402
-from rows import ROOT, SECONDS, built, given, words_of  # noqa: E402
+from rows import PARTS, ROOT, SECONDS, UNPROVED, built, folder_of, given, started, words_of  # noqa: E402
 
 NO_FUNCTION = "no_function_of_this_name"
 SEED, FORESTS, PATHS, WAYS = 1, 2000, 500, 400
@@ -111,7 +119,10 @@ def gate(clock):
         print("check: no command rt: the kit's folder bin must be on the PATH")
         return (0, 1), lambda: (0, 0)
     clear_built()
-    trials, begun = edits.Trials(anew="--anew" in sys.argv), time.monotonic()
+    if "--anew" in sys.argv:
+        minutes.FOUND.unlink(missing_ok=True)
+    trials = edits.Trials(anew=bool({"--anew", "--edits"} & set(sys.argv)), writes="--edits" in sys.argv)
+    begun = time.monotonic()
     # (a kit whose rt keeps nothing shows all anew each time, and has no such word)
     anew = ["--anew"] if "--anew" in sys.argv and trials.refusals.kept else []
     side_by_side = max(1, min(trials.processors, trials.rt.free() // PROOF))
@@ -137,6 +148,8 @@ def gate(clock):
         last = line.strip() or last
     _, status, of_gate = os.wait4(ran.pid, 0)
     ran.returncode = os.waitstatus_to_exitcode(status)
+    if ran.returncode == 0:
+        c_and_python.keep_of_gate()
     ended = time.monotonic()
     clock.note("the gate's proofs", proved_at - begun, None)
     clock.note("the gate's runs behind them", ended - proved_at, None)
@@ -152,7 +165,7 @@ def fault_of(program, case):
         return f"another parser reads the output as {case['read']}"
     try:
         ran = subprocess.run(
-            [built(program), *words_of(case)], input=given(case, "markup"), capture_output=True, timeout=SECONDS, cwd=ROOT
+            [*started(program), *words_of(case)], input=given(case, "markup"), capture_output=True, timeout=SECONDS, cwd=ROOT
         )
     except (OSError, subprocess.TimeoutExpired) as stopped:
         return str(stopped)
@@ -163,26 +176,34 @@ def fault_of(program, case):
 
 def run_rows(what, program, files):
     """Has the program asked each line of the files, and returns how many passed and failed."""
-    passed = failed = 0
-    for file in sorted(files):
-        for number, line in enumerate(file.read_text(encoding="utf-8").splitlines(), 1):
-            fault = fault_of(program, json.loads(line))
-            if fault is None:
-                passed += 1
-            else:
-                failed += 1
-                print(f"{file.relative_to(ROOT)}:{number}: {fault}")
-    print(f"{what}: {passed} passed, {failed} failed")
-    return passed, failed if passed else failed + 1
+    lines = [(file, *it) for file in sorted(files) for it in enumerate(file.read_text(encoding="utf-8").splitlines(), 1)]
+    with ThreadPoolExecutor(os.cpu_count()) as pool:
+        faults = list(pool.map(lambda it: fault_of(program, json.loads(it[2])), lines))
+    for (file, number, _), fault in zip(lines, faults):
+        if fault is not None:
+            print(f"{file.relative_to(ROOT)}:{number}: {fault}")
+    failed = sum(fault is not None for fault in faults)
+    print(f"{what}: {len(faults) - failed} passed, {failed} failed", flush=True)
+    return len(faults) - failed, failed if len(faults) > failed else failed + 1
 
 
 def rows():
     """Runs each program on its rows, and returns how many passed and failed."""
-    counts = []
-    for folder in sorted((TESTS / "rows").iterdir()):
-        counts.append(run_rows(f"rows of {folder.name}", folder.name, folder.glob("*.jsonl")))
+    counts = [run_rows(f"rows of {name}", name, folder_of(name).glob("*.jsonl")) for name in ("dq", "hq", *PARTS)]
     counts.append(run_rows("html5lib's tests of tree construction", "hq", (TESTS / "html5lib").glob("*.jsonl")))
     return tuple(sum(column) for column in zip(*counts))
+
+
+def built_unproved():
+    """Builds the programs that are run unproved, and looks whether the sources of tests/programs are formatted; returns how much of
+    this is well and how much isn't."""
+    with ThreadPoolExecutor() as pool:
+        is_built = list(pool.map(programs.build, sorted(UNPROVED)))
+    is_formatted = programs.formatted("--check")
+    if not is_formatted:
+        print("tests/programs: tests/tools/programs.py --fmt formats these sources", flush=True)
+    well = [*is_built, is_formatted]
+    return sum(well), len(well) - sum(well)
 
 
 def cleaned():
@@ -194,14 +215,14 @@ def cleaned():
 
 def asked_each_way():
     """Compares what selectors select in random forests by each way."""
-    passed, failed = ways.compared(built("test_queries"), SEED, WAYS)
+    passed, failed = ways.compared(started("queries"), SEED, WAYS)
     print(f"selectors in random forests, each way: {passed} passed, {failed} failed")
     return passed, failed
 
 
 def followed():
     """Compares what paths find in random forests with a meaning of our own."""
-    passed, failed = paths.compared(built("test_queries"), SEED, PATHS)
+    passed, failed = paths.compared(started("queries"), SEED, PATHS)
     print(f"paths in random forests: {passed} passed, {failed} failed")
     return passed, failed
 
@@ -275,22 +296,28 @@ def refused_callers():
 
 
 def main():
-    if sys.argv[1:] not in ([], ["--rows"], ["--anew"]):
-        print("usage: check [--rows | --anew]; the head of tests/tools/check.py says what it does", file=sys.stderr)
+    if sys.argv[1:] not in ([], ["--quick"], ["--rows"], ["--edits"], ["--anew"]):
+        print("usage: check [--quick | --rows | --edits | --anew]; the head of tests/tools/check.py says what it does", file=sys.stderr)
         return 2
     # (by default the prover returns its memory to the system again and again, which takes 2 % of its time)
     os.environ.setdefault("MIMALLOC_PURGE_DELAY", "-1")
-    clock, rows_alone = Clock(), sys.argv[1:] == ["--rows"]
-    counts, edits_left = (None, lambda: (0, 0)) if rows_alone else gate(clock)
+    clock, is_quick = Clock(), "--quick" in sys.argv
+    UNPROVED.update(("dq", "hq") if is_quick else ())
+    with ThreadPoolExecutor(1) as pool:
+        building = pool.submit(clock.timed, "building without proofs", built_unproved)
+        counts, edits_left = (None, lambda: (0, 0)) if is_quick or "--rows" in sys.argv else gate(clock)
+    built_well = building.result()
     tables = [rows, cleaned, followed, asked_each_way]
-    tables += [c_and_python.c_and_python, documents.documents, reference.reference, options.options, standard.standard]
-    tables += [standard_rules.checked, standard_parsing.checked, wrong_bodies, coverage.coverage, entries_of_tables.tables, hostile.hostile, decoded, pictures.checked]
-    counts = [counts] if counts else []
+    tables += [] if is_quick else [c_and_python.c_and_python]
+    tables += [documents.documents, reference.reference, options.options, standard.standard]
+    tables += [standard_rules.checked, standard_parsing.checked, wrong_bodies, line_lengths.line_lengths, coverage.coverage]
+    tables += [entries_of_tables.tables, hostile.hostile, decoded, pictures.checked]
+    counts = [built_well, counts] if counts else [built_well]
     with ThreadPoolExecutor() as pool:
         # (what is done beside the edits neither measures the processor time of others nor changes a child before it starts)
         beside = [("the edits, once the gate had ended", edits_left), ("the refusals", refusals.refusals)]
         beside = [pool.submit(clock.timed, *part) for part in beside]
-        counts += [clock.timed("the callers that must not compile", refused_callers)]
+        counts += [] if is_quick else [clock.timed("the callers that must not compile", refused_callers)]
         counts += clock.timed("the rows and checks", lambda: [each() for each in tables])
         counts += [it.result() for it in beside]
     alone = [("streams that fail", streams.streams), ("files written in place", in_place.in_place), ("small address spaces", refusals.limited)]

@@ -13,10 +13,14 @@ do, and it is reported as one elsewhere.
 
 `edits.py --control [CRATE ..]` tries the same functions without their edits: the prover must refuse none of them.
 
-`edits.py [CRATE ..]` tries the edits of these crates, or of all, with the libraries that are built in the workspace. As `rt ci` does,
-it keeps on this machine what was refused, by the checksum of all that it depends on; `--anew` tries all again. A library
+`edits.py [CRATE ..]` tries the edits of these crates, or of all, with the libraries that are built in the workspace, but for those
+that were refused before over the same files: on any machine, as tests/must-fail/refused.txt says, or on this one, where it keeps what
+was refused, as `rt ci` does. `--anew` tries all again. `--record` writes refused.txt: what was refused now or before over the same
+files, and nothing else. A line of it is the name of an edit and a checksum of the edit, of the kit, of the crate's files, and of the
+sources and definitions of the crates below it; proofs below aren't read by a check. A library
 says the paths of its public functions alone. With `--log=FILE`, the output of a gate that proved the crates, those of the
 others are known, too; without it, an edit of another function is tried over the whole crate, which takes minutes."""
+import functools
 import hashlib
 import importlib.machinery
 import importlib.util
@@ -32,9 +36,13 @@ import threading
 import time
 from concurrent.futures import ThreadPoolExecutor
 
+sys.path.insert(0, str(pathlib.Path(__file__).resolve().parent))
+import minutes  # noqa: E402
+
 ROOT = pathlib.Path(__file__).resolve().parents[2]
 EDITS = ROOT / "tests" / "must-fail"
-HEAD = re.compile(r"(\s*)(?:pub(?:\([^)]*\))? )?(?:const )?(?:unsafe )?fn (\w+)")
+RECORD = EDITS / "refused.txt"
+HEAD = re.compile(r'(\s*)(?:pub(?:\([^)]*\))? )?(?:const )?(?:unsafe )?(?:extern "C" )?fn (\w+)')
 NOTE = re.compile(r"(?:note: )?(?:\./)?(src/\S+?):(\d+):\d+: ")
 IMPL = re.compile(r"impl\b(?:<(.*?)>)? (?:(\w+)(?:<(?:'\w+,? ?)*&?(\w*).*>)? for )?(\w+)")
 HOLE = "use Rattle.{0}.Statement.{{statement}}\n\npub {1}_spec : {{M : Type 1}} → statement M\n{1}_spec = ?\n"
@@ -226,6 +234,13 @@ def name_of_functions(crate):
     return hashlib.sha256(repr((crate.name, "functions", [it.read_bytes() for it in files])).encode()).hexdigest()
 
 
+def sum_of_files(folder, parts):
+    """A checksum of the files in these parts of a crate's folder."""
+    files = sorted(file for part in parts for file in pathlib.Path(folder, part).rglob("*") if file.is_file())
+    read = [(str(file.relative_to(folder)), hashlib.sha256(file.read_bytes()).hexdigest()) for file in files]
+    return hashlib.sha256(repr(read).encode()).hexdigest()
+
+
 class Refusals:
     """What earlier runs on this machine had refused, where `rt` keeps what it proved; a kit whose `rt` keeps nothing has every
     edit tried. The name of an entry is a sum of the edit, of the crate with those below it, and of this script. The paths of
@@ -266,12 +281,46 @@ class Refusals:
         return proved or json.loads(self.tried(name) or "[]")
 
 
+class Record:
+    """The record of the repository: the edits that were refused, each with a checksum of what it was tried on."""
+
+    def __init__(self, rt, is_read):
+        lines = RECORD.read_text(encoding="utf-8").splitlines() if RECORD.exists() else []
+        self.lines, self.is_read, self.found = dict(line.split() for line in lines), is_read, {}
+        self.kit = (pathlib.Path(rt.rtlib.KIT) / "KIT-ID").read_text(encoding="utf-8")
+        self.files = functools.lru_cache(maxsize=None)(sum_of_files)
+
+    def sum_of(self, crate, edit):
+        """The checksum of an edit and of what a check of its crate reads."""
+        read = [self.files(crate.folder, ("src", "specs", "proofs"))]
+        read += sorted((low.name, self.files(low.folder, ("src", "specs"))) for low in crate.below())
+        return hashlib.sha256(repr((self.kit, edit.name, edit.text, read)).encode()).hexdigest()[:24]
+
+    def has(self, crate, edit):
+        """Whether the edit was refused over the same files."""
+        is_same = self.is_read and self.lines.get(edit.name) == self.sum_of(crate, edit)
+        if is_same:
+            self.keep(crate, edit)
+        return is_same
+
+    def keep(self, crate, edit):
+        """Notes that the edit was refused over these files."""
+        self.found[edit.name] = self.sum_of(crate, edit)
+
+    def write(self, names):
+        """Writes the record: for these crates what was found, for others what was there."""
+        others = {edit: of for edit, of in self.lines.items() if edit.partition("/")[0] not in names}
+        lines = sorted(f"{edit} {of}\n" for edit, of in {**others, **self.found}.items())
+        RECORD.write_text("".join(lines), encoding="utf-8")
+        print(f"{RECORD.relative_to(ROOT)}: {len(lines)} edits, {len(self.found)} of them found now")
+
+
 class Trial:
     """The edits of one crate, tried in rounds over what the rounds before proved."""
 
-    def __init__(self, rt, crate, jobs, proved, is_control, refusals):
-        self.rt, self.crate, self.jobs, self.is_control, self.wrong = rt, crate, jobs, is_control, []
-        self.refusals = refusals
+    def __init__(self, trials, crate, proved):
+        self.rt, self.crate, self.jobs, self.is_control, self.wrong = trials.rt, crate, trials.jobs, trials.is_control, []
+        self.refusals, self.record = trials.refusals, trials.record
         self.folder = pathlib.Path(crate.folder)
         # (what is derived may be in a cycle of calls, except `from`, and what is re-exported has no code here)
         owners, modules = {}, set()
@@ -365,6 +414,7 @@ class Trial:
         for edit, line in shown.items():
             print(f"must-fail {edit.name}: refused: {line[:160]}", flush=True)
             self.refusals.keep(self.crate, edit, line[:160])
+            self.record.keep(self.crate, edit)
         if len(edits) == 1 and not shown:
             why = "NOT REFUSED" if said else "NOT TRIED, for the prover was not reached"
             print(f"must-fail {edits[0].name}: {why}", flush=True)
@@ -402,8 +452,9 @@ class Trial:
 class Trials:
     """The edits of all crates, each crate's tried as soon as it is built, in a copy of the workspace."""
 
-    def __init__(self, is_control=False, anew=False):
+    def __init__(self, is_control=False, anew=False, writes=False):
         self.rt, self.room, self.is_control = toolchain(), tempfile.TemporaryDirectory(prefix="edits-workspace-"), is_control
+        minutes.measured(self.rt, "edits")
         self.processors = self.rt.processors()
         # (the gate's own proofs wait for one another, so they go first)
         self.lanes, self.is_beside, self.counts = max(1, self.processors // 4), True, []
@@ -413,8 +464,9 @@ class Trials:
         shutil.copy(ROOT / "crates.txt", root / "crates.txt")
         shutil.copytree(ROOT / "crates", root / "crates", ignore=shutil.ignore_patterns("out", "must-fail"))
         self.crates = {it.name: it for it in self.rt.rtlib.crates_below(str(root))}
-        self.refusals = Refusals(self.rt, list(self.crates.values()), anew)
-        self.left = {folder.name for folder in EDITS.iterdir()}
+        self.refusals, self.record = Refusals(self.rt, list(self.crates.values()), anew), Record(self.rt, not anew)
+        self.left = {folder.name for folder in EDITS.iterdir() if folder.is_dir()}
+        self.names, self.resting, self.writes = set(self.left), 0, writes
 
     def jobs(self):
         """How many jobs a check may take: one while the gate has the processors."""
@@ -454,17 +506,25 @@ class Trials:
             for edit in bad:
                 print(f"must-fail {edit.name}: BAD EDIT: {edit.fault}", flush=True)
             edits = [it for it in edits if not it.fault]
-            known = [] if self.is_control else [it for it in edits if self.refusals.of(crate, it)]
-            for edit in known:
-                print(f"must-fail {edit.name}: refused by an earlier run: {self.refusals.of(crate, edit)}", flush=True)
-            edits = [it for it in edits if it not in known]
-            trial = Trial(self.rt, crate, self.jobs, proved, self.is_control, self.refusals)
+            edits = edits if self.is_control else [it for it in edits if not self.is_known(crate, it)]
+            trial = Trial(self, crate, proved)
             wrong = trial.refused_without(edits) if self.is_control else trial.not_refused(edits)
         except (OSError, ValueError) as fault:
             print(f"must-fail {crate.name}: {fault}", flush=True)
             return 0, len(files)
         failed = len(bad) + len(wrong)
         return len(files) - failed, failed
+
+    def is_known(self, crate, edit):
+        """Whether the edit was refused before over the same files, as the record says, or as this machine keeps it."""
+        if self.record.has(crate, edit):
+            self.resting += 1
+            return True
+        line = self.refusals.of(crate, edit)
+        if line:
+            print(f"must-fail {edit.name}: refused by an earlier run: {line}", flush=True)
+            self.record.keep(crate, edit)
+        return bool(line)
 
     def finish(self):
         """Waits for the trials, and returns how many edits were refused and how many weren't: a crate that was not built
@@ -477,7 +537,9 @@ class Trials:
         self.pool.shutdown()
         self.room.cleanup()
         passed, failed = (sum(column) for column in zip(*counts, (0, len(self.left))))
-        print(f"must-fail edits: {passed} refused, {failed} not")
+        print(f"must-fail edits: {passed} refused, {failed} not; {self.resting} of them rest on {RECORD.relative_to(ROOT)}")
+        if self.writes:
+            self.record.write(self.names)
         return passed, failed
 
 
@@ -492,10 +554,11 @@ def proved_in(log):
 
 
 def main():
-    trials = Trials("--control" in sys.argv, "--anew" in sys.argv)
+    trials = Trials(*(word in sys.argv for word in ("--control", "--anew", "--record")))
     names = [it for it in sys.argv[1:] if not it.startswith("--")] or sorted(trials.left)
     proved = proved_in(next((it[len("--log=") :] for it in sys.argv[1:] if it.startswith("--log=")), None))
     trials.left &= set(names)
+    trials.names = set(names)
     for crate in list(trials.crates.values()):
         if crate.name in trials.left or any(crate in trials.crates[it].below() for it in names):
             trials.built(crate.name, proved.get(crate.name, []))

@@ -3,11 +3,25 @@ import pathlib
 
 ROOT = pathlib.Path(__file__).resolve().parents[2]
 SECONDS = 60
+# The parts of the test program, of which its first argument chooses one; the rows of each are a folder of its name.
+PARTS = ("batch", "calls", "clean", "encodings", "queries", "times")
+# The programs that programs.py built unproved; the gate proved and built the others. `check --quick` adds to these.
+UNPROVED = {"test_calls"}
 
 
 def built(name):
-    """The program of that name that the gate built."""
-    return ROOT / "crates" / name / "out" / name
+    """The program of that name."""
+    return ROOT / "tests" / "programs" / "out" / name if name in UNPROVED else ROOT / "crates" / name / "out" / name
+
+
+def started(name):
+    """The words that start a program, or the part of that name of the test program."""
+    return [built("test_calls"), name] if name in PARTS else [built(name)]
+
+
+def folder_of(name):
+    """The folder of the rows of a program, or of a part of the test program."""
+    return ROOT / "tests" / "rows" / "test_calls" / name if name in PARTS else ROOT / "tests" / "rows" / name
 
 
 def written(text):

@@ -126,7 +126,7 @@ OTHER_ARRAYS = {
     "STARTS": "as LETTERS",
     "FIRSTS": "as LETTERS",
     "SECONDS": "as LETTERS",
-    "CODES": "parse errors; tests/rows/test_batch/noted.jsonl has each",
+    "CODES": "parse errors; tests/rows/test_calls/batch/noted.jsonl has each",
     "NAMED": "the categories of element_kinds.rt; the names in each have the rows `calm`",
     "KNOWN": "names by their number in the tree; each name has rows",
     "VOID_NAMES": "they are proved to be those of the writer of HTML",

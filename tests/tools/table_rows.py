@@ -554,7 +554,7 @@ MODES_OF_PEER = {"no-quirks": "NoQuirks", "limited-quirks": "LimitedQuirks", "qu
 
 
 def quirks_rows(entries):
-    """The quirks mode for each identifier of a doctype, and for the doctypes of the rule of quirks: rows of `test_calls`."""
+    """The quirks mode for each identifier of a doctype, and for the doctypes of the rule of quirks: rows of the test program's part `calls`."""
     pages, rows = Pages(), {}
     quirks_pages(pages, entries, True)
     for page in rule_pages.RULES["quirks"]:
@@ -592,7 +592,7 @@ def main():
     write("characters", peers_rows(lambda pages: state_pages.mode_characters(pages, MODES)))
     write("states", peers_rows(state_pages.states))
     write("rules", peers_rows(rule_pages.rules))
-    write("quirks", quirks_rows(entries), "test_calls")
+    write("quirks", quirks_rows(entries), "test_calls/calls")
     made = [make(entries) for make in (calm_rows, address_rows, cleaning_rows, conflict_rows, hint_rows)]
     write("hq", [row for rows in [*made, option_rows(), not_calm_rows()] for row in rows])
 

@@ -559,6 +559,3 @@ pub extern "C" fn dq_fault_text(fault: i64, to: &mut [u8]) -> usize {
         None => 0,
     }
 }
-
-#[cfg(test)]
-mod tests;

@@ -1,7 +1,7 @@
 // browsers.js PROGRAM COUNT SEED BROWSER ..: random hostile fragments (fragments.js) and the attacks of attacks.json are cleaned by
-// PROGRAM, which is test_clean, and each BROWSER (chromium, firefox-esr) reads what is left. It reads each cleaned text in the body
+// PROGRAM, the test program's part `clean`, and each BROWSER (chromium, firefox-esr) reads what is left. It reads each cleaned text in the body
 // of a page, 25 of them in one page with a `wbr` between them; as `innerHTML` of a div, body, td, li and blockquote; and in a template,
-// where scripts are off. It also reads the page that `test_clean page` writes of every 25th fragment. What has to be found:
+// where scripts are off. It also reads the page that `test_calls clean page` writes of every 25th fragment. What has to be found:
 //
 // - the browser's tree, written as explicit markup, is the text;
 // - no script runs: each `alert` of a fragment calls `hit` of the outermost window;
@@ -32,7 +32,7 @@ const LOADED = /^(element (img|input|video|audio|source)|attribute (src|backgrou
 const OPEN = ["common", "element form", "element input", "element button", "element label", "element font", "element fieldset", "element menu", "element center", "attribute class", "attribute id", "attribute name", "attribute href", "attribute action", "attribute formaction", "data-attributes"];
 const payload = (source) => source.replace(/alert\(/g, "top.hit(");
 const byProgram = (words, input) => {
-  const ran = spawnSync(program, words, { input, maxBuffer: 1 << 30 });
+  const ran = spawnSync(program, ["clean", ...words], { input, maxBuffer: 1 << 30 });
   if (ran.status !== 0) throw new Error(`status ${ran.status} for ${words}: ${ran.stdout}`);
   return ran.stdout.toString();
 };

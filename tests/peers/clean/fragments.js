@@ -1,4 +1,4 @@
-// Random hostile fragments, and random policies as lines that test_clean reads: maker(SEED) has the functions `fragment` and
+// Random hostile fragments, and random policies as lines that the test program's part `clean` reads: maker(SEED) has the functions `fragment` and
 // `policyLines`. The same seed gives the same ones. They have no `select`, whose rules parse5 7.1 has as they were before 2025
 // (../browsers/compare.py is for those).
 "use strict";

@@ -12,7 +12,7 @@ const [program, count, seed] = [process.argv[2], Number(process.argv[3]), Number
 const { fragment, policyLines } = maker(seed);
 function byProgram(lines, sources) {
   if (program === "model") { const policy = policyOf(lines); return sources.map((source) => clean(policy, source)); }
-  const ran = spawnSync(program, ["each", ...lines], { input: sources.join("\x1e"), maxBuffer: 1 << 30 });
+  const ran = spawnSync(program, ["clean", "each", ...lines], { input: sources.join("\x1e"), maxBuffer: 1 << 30 });
   if (ran.status !== 0) throw new Error(`status ${ran.status} for ${lines}: ${ran.stdout}`);
   return ran.stdout.toString().split("\x1e").slice(0, -1);
 }

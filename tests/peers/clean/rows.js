@@ -1,4 +1,4 @@
-// rows.js FOLDER writes the rows of tests/rows/test_clean: the text is the model's, and `read` is what parse5 makes of that text in
+// rows.js FOLDER writes the rows of tests/rows/test_calls/clean: the text is the model's, and `read` is what parse5 makes of that text in
 // a div. Five rows are not the model's: the three with `noframes`, since parse5 7.1 reads what is in a `noframes` of a body as
 // markup, where the standard reads a text; and the two of "select and style", since parse5 7.1 has the rules of `select` of
 // before 2025, and today a `style` in a `select` is a text, as Chromium and Firefox read it.

@@ -1,13 +1,13 @@
-"""Time, instructions and memory of cleaning whole pages: test_clean beside ammonia, bleach and lxml's cleaner, in one run.
+"""Time, instructions and memory of cleaning whole pages: the test program's part `clean` beside ammonia, bleach and lxml's cleaner, in one run.
 
-    times.py TEST_CLEAN PEER RUNS PAGE..
+    times.py TEST_CALLS PEER RUNS PAGE..
 
 PEER is the program of the folder ammonia; built by cargo from Debian's librust-ammonia-dev and librust-markup5ever-rcdom-dev:
 
     cd ammonia && cargo build --release --offline --config 'source.crates-io.replace-with="debian"' \\
         --config 'source.debian.directory="/usr/share/cargo/registry"'
 
-Both programs read the page from standard input, clean it by their common rules (test_clean's are those of ammonia but for few), and
+Both programs read the page from standard input, clean it by their common rules (the test program's are those of ammonia but for few), and
 print what is left. They take turns; the least processor time of the runs counts, the memory is the largest part that was resident, and
 instructions are those that callgrind counts, if valgrind is there. What is the least for reading and printing without cleaning is
 `PEER read`. bleach and lxml.html.clean run within Python, and the time of the call alone counts."""
@@ -68,7 +68,7 @@ def in_python(page):
 
 
 def main(ours, peer, runs, *pages):
-    programs = {"test_clean": [ours, "common"], "ammonia": [peer, "clean"], "html5ever, reading": [peer, "parse"], "no cleaning": [peer, "read"]}
+    programs = {"test_calls": [ours, "clean", "common"], "ammonia": [peer, "clean"], "html5ever, reading": [peer, "parse"], "no cleaning": [peer, "read"]}
     for page in pages:
         print(f"{page}: {os.path.getsize(page)} bytes")
         found = {name: [] for name in programs}
@@ -79,9 +79,9 @@ def main(ours, peer, runs, *pages):
         counts = {name: instructions(words, page) for name, words in programs.items()}
         for name, (took, memory, length) in best.items():
             print(f"  {name:20} {took:9.1f} ms {memory:8.1f} MB {counts[name] or 0:10.1f} million instructions {length:9} bytes")
-        ratio = [a / b for a, b in zip(best["test_clean"][:2], best["ammonia"][:2])]
-        of_counts = counts["test_clean"] / counts["ammonia"] if counts["ammonia"] else 0
-        print(f"  test_clean / ammonia: time {ratio[0]:.2f}, memory {ratio[1]:.2f}, instructions {of_counts:.2f}", flush=True)
+        ratio = [a / b for a, b in zip(best["test_calls"][:2], best["ammonia"][:2])]
+        of_counts = counts["test_calls"] / counts["ammonia"] if counts["ammonia"] else 0
+        print(f"  test_calls / ammonia: time {ratio[0]:.2f}, memory {ratio[1]:.2f}, instructions {of_counts:.2f}", flush=True)
         # (in a process of its own, since the memory of this one counts for those that it starts)
         subprocess.run([sys.executable, __file__, "python", page])
 

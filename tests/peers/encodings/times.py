@@ -4,7 +4,7 @@ import subprocess
 import sys
 
 ROOT = pathlib.Path(__file__).resolve().parents[3]
-OURS = ROOT / "crates" / "test_encodings" / "out" / "test_encodings"
+OURS = [ROOT / "tests" / "programs" / "out" / "test_calls", "encodings"]
 SIZE = 10_000_000
 ENGLISH = "The quick brown fox jumps over the lazy dog, and then it reads <a href='/tea'>a page about tea</a>. "
 FRENCH = "Le café est déjà prêt à être servi; l'été, où l'on goûte le thé glacé, ça fait plaisir à nos hôtes. "
@@ -27,7 +27,7 @@ TEXTS = [
 
 
 def best(program, label, text, runs):
-    done = subprocess.run([program, "time", label, str(runs)], input=text, stdout=subprocess.PIPE, check=True)
+    done = subprocess.run([*program, "time", label, str(runs)], input=text, stdout=subprocess.PIPE, check=True)
     return int(done.stdout) / 1e6
 
 
@@ -35,7 +35,7 @@ def main(peer, runs=7):
     for label, codec, sample in TEXTS:
         piece = sample.encode(codec)
         text = piece * (SIZE // len(piece))
-        ours, theirs = best(OURS, label, text, runs), best(peer, label, text, runs)
+        ours, theirs = best(OURS, label, text, runs), best([peer], label, text, runs)
         print(f"{label}, {sample[:12]!r}: {ours:.1f} ms, encoding_rs {theirs:.1f} ms: {ours / theirs:.2f}", flush=True)
 
 

@@ -32,7 +32,7 @@ def main(program, count, seed):
         text = "".join(rng.choice(pieces) for _ in range(rng.randint(1, 24))).replace("\0", "")
         # (what is printed is the text before the end of the input, so the text doesn't end in a reference)
         text += " ."
-        ran = subprocess.run([program, f"web-tokens {text}"], input=b"", stdout=subprocess.PIPE)
+        ran = subprocess.run([program, "calls", f"web-tokens {text}"], input=b"", stdout=subprocess.PIPE)
         printed = ran.stdout.decode("utf-8").replace(NOTHING, "")
         done += 1
         if not any(printed.startswith(it) for it in expected(text)):

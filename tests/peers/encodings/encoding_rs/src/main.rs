@@ -1,4 +1,4 @@
-//! Asks `encoding_rs`, as the program `test_encodings` is asked: records in, records out.
+//! Asks `encoding_rs`, as the test program's part `encodings` is asked: records in, records out.
 use encoding_rs::Encoding;
 use std::io::{Read, Write};
 use std::time::Instant;
