@@ -55,6 +55,7 @@ import refusals  # noqa: E402
 import standard  # noqa: E402
 import standard_parsing  # noqa: E402
 import standard_rules  # noqa: E402
+import standard_trees  # noqa: E402
 import streams  # noqa: E402
 import tables as entries_of_tables  # noqa: E402
 import ways  # noqa: E402
@@ -282,7 +283,7 @@ def main():
     counts, edits_left = (None, lambda: (0, 0)) if rows_alone else gate(clock)
     tables = [rows, cleaned, followed, asked_each_way]
     tables += [c_and_python.c_and_python, documents.documents, reference.reference, options.options, standard.standard]
-    tables += [standard_rules.checked, standard_parsing.checked, wrong_bodies, coverage.coverage, entries_of_tables.tables, hostile.hostile, decoded]
+    tables += [standard_rules.checked, standard_parsing.checked, standard_trees.checked, wrong_bodies, coverage.coverage, entries_of_tables.tables, hostile.hostile, decoded]
     counts = [counts] if counts else []
     with ThreadPoolExecutor() as pool:
         # (what is done beside the edits neither measures the processor time of others nor changes a child before it starts)
