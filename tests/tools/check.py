@@ -65,6 +65,7 @@ import refusals  # noqa: E402
 import standard  # noqa: E402
 import standard_parsing  # noqa: E402
 import standard_rules  # noqa: E402
+import standard_trees  # noqa: E402
 import streams  # noqa: E402
 import tables as entries_of_tables  # noqa: E402
 import ways  # noqa: E402
@@ -310,7 +311,7 @@ def main():
     tables = [rows, cleaned, followed, asked_each_way]
     tables += [] if is_quick else [c_and_python.c_and_python]
     tables += [documents.documents, reference.reference, options.options, standard.standard]
-    tables += [standard_rules.checked, standard_parsing.checked, wrong_bodies, line_lengths.line_lengths, coverage.coverage]
+    tables += [standard_rules.checked, standard_parsing.checked, standard_trees.checked, wrong_bodies, line_lengths.line_lengths, coverage.coverage]
     tables += [entries_of_tables.tables, hostile.hostile, decoded, pictures.checked]
     counts = [built_well, counts] if counts else [built_well]
     with ThreadPoolExecutor() as pool:

@@ -1,0 +1,3 @@
+mod ExamplesComputed
+mod MoreDepth
+mod OneWay

@@ -1,0 +1,11 @@
+pub mod Building
+pub mod Examples
+pub mod Formatting
+pub mod GrowingTree
+pub mod Laws
+pub mod NameLists
+pub mod Parsing
+pub mod QuirksTexts
+pub mod RuleWords
+pub mod TreeRules
+pub mod TreeStore

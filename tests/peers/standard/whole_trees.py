@@ -1,0 +1,135 @@
+"""Trees by docs/standard/tree_construction.txt (tests/standard/trees/construction.py) beside those of others, outside the gate:
+
+    whole_trees.py rows                     adds to tests/standard/trees/rows.jsonl the trees that Chromium and Firefox have, and parse5 with scripting
+    whole_trees.py browsers COUNT SEED      random soups, without scripting, by Chromium and Firefox
+    whole_trees.py parse5 COUNT SEED        random soups by parse5 (NODE_PATH: a copy that mend_trees.py made); left out are those with `select` and
+                                            what stands in it, whose rules are newer than parse5 7.1.2, and with `search`, which it does not know
+    whole_trees.py seeds COUNT SEED..       the digests of soups for tests/standard/trees/soups.jsonl, where parse5 has the same trees
+
+Texts that differ are printed, made shorter. tests/peers/browsers/ask.py says how browsers are asked."""
+import collections
+import json
+import pathlib
+import random
+import re
+import subprocess
+import sys
+
+ROOT = pathlib.Path(__file__).resolve().parents[3]
+sys.dont_write_bytecode = True
+sys.path.insert(0, str(ROOT / "tests" / "standard" / "trees"))
+sys.path.insert(0, str(ROOT / "tests" / "peers" / "browsers"))
+import soups  # noqa: E402
+from whole_parsing import by_rules  # noqa: E402
+
+ROWS = ROOT / "tests" / "standard" / "trees" / "rows.jsonl"
+BATCH = 2000
+
+
+def by_parse5(batch):
+    """Trees with the quirks mode; of a fragment parse5 tells none."""
+    program = str(ROOT / "tests" / "peers" / "trees_parse5.js")
+    done = subprocess.run(["node", program], input=json.dumps(batch), text=True, capture_output=True, check=True)
+    return [(tree, quirks) for tree, quirks, _ in json.loads(done.stdout)]
+
+
+def by_browser(browser, batch):
+    import ask
+
+    return [tree for tree, _ in ask.ask(browser, [[text, context] for text, context, _ in batch])]
+
+
+def shrunk(differ, text):
+    """A shorter text for which `differ`, a function of a list of texts, is still true."""
+    while True:
+        pieces = re.findall("<[^<]*|^[^<]+", text)
+        shorter = ["".join(pieces[:i] + pieces[i + 1 :]) for i in range(len(pieces))]
+        shorter += ["".join(pieces[:i] + [re.sub(r"(<[^\s>/]*)[^>]*(>.*)", r"\1\2", p, flags=re.S)] + pieces[i + 1 :]) for i, p in enumerate(pieces)]
+        shorter += ["".join(pieces[:i] + [re.sub(r">.+", ">", p, flags=re.S)] + pieces[i + 1 :]) for i, p in enumerate(pieces)]
+        shorter = [s for s in shorter if len(s) < len(text)]
+        found = differ(shorter) if shorter else []
+        if True not in found:
+            return text
+        text = shorter[found.index(True)]
+
+
+def test_soups(rng, count, fits):
+    while count > 0:
+        batch = []
+        while len(batch) < min(BATCH, count):
+            test = soups.test(rng)
+            if fits(test):
+                batch.append(test)
+        count -= len(batch)
+        yield batch
+
+
+def parse5(count, seed):
+    seen = collections.Counter()
+    for batch in test_soups(random.Random(seed), count, soups.is_older):
+        for (text, context, scripting), (tree, quirks) in zip(batch, by_parse5(batch)):
+            found = by_rules(text, context, scripting)
+            seen["fragments" if context else "pages"] += 1
+            if found != (tree, quirks or found[1]):
+                seen["differ"] += 1
+
+                def differ(texts):
+                    peer = by_parse5([[t, context, scripting] for t in texts])
+                    own = [by_rules(t, context, scripting) for t in texts]
+                    return [f != (p, q or f[1]) for f, (p, q) in zip(own, peer)]
+
+                short = shrunk(differ, text)
+                peer = by_parse5([[short, context, scripting]])[0]
+                print("DIFFERS", repr(short), context, scripting, *by_rules(short, context, scripting), "parse5", *peer, sep="\n", flush=True)
+    print(dict(seen))
+
+
+def browsers(count, seed):
+    seen = collections.Counter()
+    for batch in test_soups(random.Random(seed), count, lambda t: True):
+        batch = [(text, context, False) for text, context, _ in batch]
+        own = [by_rules(*test)[0] for test in batch]
+        peers = {browser: by_browser(browser, batch) for browser in ("chromium", "firefox")}
+        for i, test in enumerate(batch):
+            same = [browser for browser in peers if peers[browser][i] == own[i]]
+            seen["as " + " and ".join(same) if same else "as none"] += 1
+            if not same:
+                alike = peers["chromium"][i] == peers["firefox"][i]
+                print("DIFFERS from both" if alike else "THREE WAYS", test, own[i], "chromium", peers["chromium"][i], "firefox", peers["firefox"][i], sep="\n", flush=True)
+        print(dict(seen), flush=True)
+
+
+def rows():
+    found = [json.loads(line) for line in ROWS.read_text(encoding="utf-8").splitlines()]
+    tests = [(row["text"], row["context"], row["scripting"]) for row in found]
+    peers = {browser: by_browser(browser, tests) for browser in ("chromium", "firefox")}
+    peers["parse5"] = [tree for tree, _ in by_parse5(tests)]
+    counts = collections.Counter()
+    for i, row in enumerate(found):
+        own = by_rules(*tests[i])[0]
+        same = [peer for peer in peers if peers[peer][i] == own]
+        row["by"] = [peer for peer in same if not row["scripting"] or peer == "parse5"]
+        row["tree"] = own if row["by"] else None
+        counts[", ".join(row["by"])] += 1
+        if len(row["by"]) < (1 if row["scripting"] else 2):
+            print("only by", row["by"], tests[i], own, *(f"{p}\n{t[i]}" for p, t in peers.items()), sep="\n")
+    ROWS.write_text("".join(json.dumps(row, ensure_ascii=True) + "\n" for row in found), encoding="utf-8")
+    print(dict(counts))
+
+
+def seeds(count, every):
+    for seed in every:
+        tests = soups.seeded(seed, count)
+        peer = by_parse5(tests)
+        if all(f == (p, q or f[1]) for f, (p, q) in zip((by_rules(*t) for t in tests), peer)):
+            print(json.dumps({"seed": seed, "count": count, "digest": soups.digest(tests)}))
+
+
+if __name__ == "__main__":
+    what, *numbers = sys.argv[1:]
+    if what == "rows":
+        rows()
+    elif what == "seeds":
+        seeds(int(numbers[0]), map(int, numbers[1:]))
+    else:
+        {"parse5": parse5, "browsers": browsers}[what](*map(int, numbers))

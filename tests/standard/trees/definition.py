@@ -1,0 +1,284 @@
+"""What is made for the crate standard_trees of docs/standard/tree_construction.txt: specs/NameLists.antt and specs/QuirksTexts.antt, the lists of
+names and texts; specs/TreeRules.antt, the rules and the two tables; and of rows.jsonl specs/Examples.antt, pages with the trees that
+construction.py gives, and proofs/ExamplesComputed.antt, in which the prover computes them. Run as a program it writes them;
+tests/checks/standard_trees.py makes them anew and compares."""
+import json
+import pathlib
+import re
+import sys
+import textwrap
+
+import whole_parsing
+from construction_rules import FIRST, MODES, NAMES, RESET, SECTIONS, TEXTS
+
+HERE = pathlib.Path(__file__).resolve().parent
+CRATE = HERE.parents[2] / "crates" / "standard_trees"
+WIDTH = 140
+SCOPES = {"in scope": "Scope", "in list item scope": "ListItemScope", "in button scope": "ButtonScope", "in table scope": "TableScope"}
+OWN_WORDS = {
+    "insert U+FFFD": "InsertReplacement", "end of file": "EndOfFile", "anything else": "Anything", "own before HTML": "OwnBeforeHtml",
+}  # fmt: skip
+TEXT_STATES = {"RCDATA": "RcdataText", "RAWTEXT": "RawText", "ScriptData": "ScriptText", "PLAINTEXT": "PlainText"}
+NODE_TESTS = {(): "Always", ((False, "topmost"),): "NotTopmost", ((True, "head pointer set"),): "HeadPointerIsSet"}
+WAYS = {"reprocess": "Reprocess", "use current mode": "UseCurrentMode"}
+# lists that have a name of their own in the text
+SHARED = {tuple(members): name.replace(" ", "_") for name, members in NAMES.items()}
+SHARED[tuple(NAMES["fostering"])] = "fostering_names"
+
+
+def camel(words):
+    return OWN_WORDS.get(words) or "".join(w[0].upper() + w[1:].lower() for w in words.replace("-", " ").split())
+
+
+def codes(text):
+    plain = text and text.isascii() and text.isprintable() and '"' not in text and "\\" not in text
+    return f'(codes "{text}")' if plain else "(" + " ∷ ".join([*(str(ord(c)) for c in text), "[]"]) + ")"
+
+
+def listed(items):
+    return " ∷ ".join([*items, "[]"])
+
+
+def names(words):
+    return SHARED.get(tuple(words)) or "(" + listed(f'codes "{w}"' for w in words) + ")"
+
+
+def either(words):
+    return "Own" if list(words) == ["own"] else f"(These {names(words)})"
+
+
+def pattern(p):
+    if p[0] in ("start", "end", "start but"):
+        return {"start": "StartTagOf ", "end": "EndTagOf ", "start but": "StartTagBut "}[p[0]] + names(p[1])
+    return camel(p[0])
+
+
+def condition(c):
+    if c[0] in SCOPES:
+        return f"(InScope {SCOPES[c[0]]} {either(c[1])})"
+    if c[0] == "any attribute":
+        return f"(AnyAttribute {names(c[1])})"
+    return camel(c[0]) if len(c) == 1 else f"({camel(c[0])} {either(c[1])})"
+
+
+def tests(conditions):
+    return "[]" if not conditions else "(" + listed(("is " if yes else "isnt ") + condition(c) for yes, c in conditions) + ")"
+
+
+def action(a):
+    kind, *rest = a
+    if not rest:
+        return camel(kind)
+    if kind in ("insert element", "insert root element"):
+        return {"insert element": "(InsertNamed ", "insert root element": "(InsertRootNamed "}[kind] + f'(codes "{rest[0][0]}"))'
+    if kind in ("switch to", "push template mode"):
+        return f"({camel(kind)} {camel(rest[0])})"
+    if kind == "tokenizer to":
+        return f"(TokenizerTo {TEXT_STATES[rest[0]]})"
+    if kind == "rename":
+        return f'(Rename (codes "{rest[0][0]}"))'
+    return f"({camel(kind)} {names(rest[0]) if kind == 'close items' else either(rest[0])})"
+
+
+def act(a, when):
+    if a[0] in WAYS:
+        assert not when, a
+        return "goes " + WAYS[a[0]]
+    if a[0] == "use":
+        assert not when, a
+        return f"goes (Use {camel(a[1])})"
+    if a[0] == "use for each pending":
+        return f"goes (UseForEachPending {camel(a[1])})"
+    return f"does {action(a)} {tests(when)}"
+
+
+def folded(text, indent):
+    """The text in lines of at most WIDTH columns, the first as it is and the others indented, cut at spaces outside of strings."""
+    lines, line = [], ""
+    for word in re.findall(r' *(?:"[^"]*"|[^ "])+', text):
+        if line and len(line) + len(word) > WIDTH:
+            lines.append(line)
+            line = indent + word.strip()
+        else:
+            line += word
+    return [*lines, line]
+
+
+def comment(text, indent=""):
+    return textwrap.wrap(text, WIDTH, initial_indent=indent + "-- ", subsequent_indent=indent + "--    ", break_long_words=False, break_on_hyphens=False)
+
+
+def uses(body, modules):
+    """Lines that import the words of a text: (module, words of that module)."""
+    plain = re.sub(r'codes "[^"]*"|--.*', "", body)
+    found = set(re.findall(r"[^\s(){}.,;\[\]]+", plain))
+    lines = []
+    for module, words in modules:
+        line = ""
+        for word in sorted(w for w in words if w in found or w.startswith("◌") or w == "[]" and "[]" in plain):
+            if line and len(line) + len(word) + 3 > WIDTH:
+                lines.append(line + "}")
+                line = ""
+            line = f"{line}, {word}" if line else f"use Rattle.{module}.{{{word}"
+        if line:
+            lines.append(line + "}")
+    return lines
+
+
+def constructors(path):
+    """The types, constructors and definitions of a file of specs/."""
+    text = path.read_text(encoding="utf-8")
+    found = set(re.findall(r"(?m)^(?:pub (?:data|record)|abbrev pub|unfoldable pub) (\S+)", text))
+    for line in re.findall(r"(?m)^  ([^:\n]+) : ", text):
+        found |= {word for word in line.split() if word[0].isupper() or word in ("is", "isnt", "does", "goes", "rule", "reset_to", "reset_to_template_mode") or word.endswith(("_tree", "_trees"))}
+    return found
+
+
+def name_lists():
+    out = []
+    for members, name in SHARED.items():
+        out += ["", f"abbrev pub {name} : List (List ℕ)", *folded(f"{name} = " + listed(f'codes "{w}"' for w in members), "    ")]
+    head = ["-- The lists of names of docs/standard/tree_construction.txt; made by tests/standard/trees/definition.py.",
+            "use Rattle.std.specs.Prelude.{ℕ, List, [], ◌∷◌, codes}"]
+    return "\n".join(head + out) + "\n"
+
+
+def quirks_texts():
+    out = []
+    for name, members in TEXTS.items():
+        own = name.replace(" ", "_")
+        out += ["", f"unfoldable pub {own} : List (List ℕ)", f"{own} ="] + [f"    {codes(t)} ∷" for t in members]
+        out[-1] += " []"
+    head = ["-- The identifiers of doctypes that set a Document to quirks mode (13.2.6.4.1), of docs/standard/tree_construction.txt; made by",
+            "-- tests/standard/trees/definition.py.", "use Rattle.std.specs.Prelude.{ℕ, List, [], ◌∷◌, codes}"]
+    return "\n".join(head + out) + "\n"
+
+
+def rule(r):
+    acts = listed(act(a, when) for a, when in r.actions)
+    return [*comment(r.line, "    "), *folded(f"    rule ({listed(map(pattern, r.patterns))}) {tests(r.conditions)} ({acts}) ∷", "        ")]
+
+
+def tree_rules():
+    out = ["", "unfoldable pub rules : Mode → List Rule"]
+    for mode, rules in MODES.items():
+        out += ["", f"-- {SECTIONS[mode]}", f"rules {camel(mode)} ="] + [line for r in rules for line in rule(r)]
+        out[-1] += " []"
+    out += ["", f"-- reset the insertion mode appropriately, {SECTIONS['reset mode']}; for the topmost element of another name it is in body",
+            "abbrev pub resets : List Reset", "resets ="]
+    for what, when, mode in RESET:
+        if what is not None:
+            test = NODE_TESTS[tuple((yes, c[0]) for yes, c in when)]
+            out.append(f"    reset_to_template_mode {names(what)} ∷" if mode.startswith("the current") else f"    reset_to {names(what)} {test} {camel(mode)} ∷")
+    out[-1] += " []"
+    out += ["", f"-- the state in which the tokenizer begins with a fragment, by the context element, {SECTIONS['first state']}; of others it is Data;",
+            "-- the flag says whether scripting is enabled", "abbrev pub first_states : Bool → List (List (List ℕ) × State)", "first_states scripting ="]
+    for what, when, state in FIRST:
+        if what is not None:
+            out.append(f"    ({names(what)}, {f'cond scripting {state} Data' if when else state}) ∷")
+    out[-1] += " []"
+    body = "\n".join(out) + "\n"
+    head = ["-- The rules of tree construction (13.2.6), each behind its line of docs/standard/tree_construction.txt; made by",
+            "-- tests/standard/trees/definition.py.",
+            *uses(body, [("std.specs.Prelude", ["ℕ", "Bool", "cond", "List", "[]", "◌∷◌", "codes"]),
+                         ("standard_tokens.specs.States", ["State", "Data", "RCDATA", "RAWTEXT", "ScriptData", "PLAINTEXT"]),
+                         ("standard_trees.specs.NameLists", SHARED.values()),
+                         ("standard_trees.specs.RuleWords", constructors(CRATE / "specs" / "RuleWords.antt"))])]
+    return "\n".join(head) + "\n" + body
+
+
+# ---- examples
+
+def attributes(attrs):
+    found = []
+    for n, v in attrs:
+        prefix, _, local = n.rpartition(" ")
+        space = {"": "NoSpace", "xlink": "XLink", "xml": "Xml", "xmlns": "XmlNs"}[prefix]
+        found.append(f"record {{ space = {space}; name = {codes(local)}; value = {codes(v)} }}")
+    return "(" + listed(found) + ")" if found else "[]"
+
+
+def trees(siblings):
+    if not siblings:
+        return "no_trees"
+    t, later = siblings[0], trees(siblings[1:])
+    if t[0] == "element":
+        _, space, name, attrs, contents, below = t
+        space = {"": "Html", "svg": "Svg", "math": "MathMl"}[space]
+        return f"(element_tree {space} {codes(name)} {attributes(attrs)} {trees(contents or [])} {trees(below)} {later})"
+    if t[0] == "doctype":
+        return f"(doctype_tree (plain_doctype {codes(t[1])}) {later})"
+    return f"({t[0]}_tree {codes(t[1])} {later})"
+
+
+def example_rows():
+    return [json.loads(line) for line in (HERE / "rows.jsonl").read_text(encoding="utf-8").splitlines()]
+
+
+def example_tree(row):
+    """The builder at the end of an example, and its call in the definition."""
+    flag = "true" if row["scripting"] else "false"
+    if row["context"] is None:
+        b = whole_parsing.page(row["text"], row["scripting"])
+        mode = {"no-quirks": "NoQuirks", "limited-quirks": "LimitedQuirks", "quirks": "FullQuirks"}[b.quirks]
+        return f"parse {flag} {codes(row['text'])} ≡ Some (record {{ quirks = {mode}; children = {trees(b.result())} }})"
+    space, _, name = row["context"].rpartition(" ")
+    b = whole_parsing.fragment(row["context"], row["text"], row["scripting"])
+    around = f"(plain_context {dict(svg='Svg', math='MathMl').get(space, 'Html')} {codes(name)})"
+    return f"parse_fragment {flag} {around} {codes(row['text'])} ≡ Some {trees(b.result())}"
+
+
+EXAMPLE_HEAD = """
+abbrev pub plain_doctype : List ℕ → Doctype
+plain_doctype name = record { name = Some name; public_id = None; system_id = None; force_quirks = false }
+
+-- an element without attributes, in a document that is not in quirks mode, and in no form
+abbrev pub plain_context : Space → List ℕ → Surroundings
+plain_context space name = record { space = space; name = name; attrs = []; in_form = false; quirks = NoQuirks }
+
+pub record PagesAreParsed : Type 0 where"""
+
+
+def examples():
+    """The pages and fragments of rows.jsonl with their trees."""
+    out = [EXAMPLE_HEAD]
+    for i, row in enumerate(example_rows(), 1):
+        out += folded(f"  pub page{i} : {example_tree(row)}", "      ")
+    body = "\n".join(out) + "\n"
+    head = ["-- Pages and fragments with their trees by tests/standard/trees/construction.py; made by tests/standard/trees/definition.py.",
+            *uses(body, [("std.specs.Prelude", ["◌≡◌", "ℕ", "true", "false", "List", "[]", "◌∷◌", "None", "Some", "codes"]),
+                         ("standard_tokens.specs.Tokens", ["Doctype"]),
+                         ("standard_trees.specs.TreeStore", constructors(CRATE / "specs" / "TreeStore.antt") | {"XLink", "Xml", "XmlNs"}),
+                         ("standard_trees.specs.Building", ["QuirksMode", "NoQuirks", "LimitedQuirks", "FullQuirks", "Surroundings"]),
+                         ("standard_trees.specs.Parsing", ["parse", "parse_fragment"])])]
+    return "\n".join(head) + "\n" + body
+
+
+UNFOLDED = [("standard_tokens.specs.Machine", ["longest_name", "step", "taken as taken_entry", "value_of"]),
+            ("standard_tokens.specs.NamedReferences", ["named_references"]), ("standard_tokens.specs.Table", ["entries"]),
+            ("standard_trees.specs.QuirksTexts", [name.replace(" ", "_") for name in TEXTS]), ("standard_trees.specs.TreeRules", ["rules"]),
+            ("standard_trees.specs.Building", ["perform", "run", "taken", "tree_step"]), ("standard_trees.specs.Parsing", ["parsed"])]
+
+
+def examples_computed():
+    opened = "unfolding " + " ".join(w.split()[-1] for _, words in UNFOLDED for w in words)
+    fields = "; ".join(f"page{i} = refl" for i in range(1, len(example_rows()) + 1))
+    out = ["-- The trees of the examples, computed by the prover; made by tests/standard/trees/definition.py.", "use Rattle.std.specs.Prelude.{refl}"]
+    for module, words in UNFOLDED:
+        out += folded(f"use Rattle.{module}.{{{', '.join(words)}}}", "    ")
+    out += ["use Rattle.standard_trees.specs.Examples.{PagesAreParsed}", "", "pub pages_are_parsed : PagesAreParsed", *folded(opened, "    "),
+            *folded(f"pages_are_parsed = record {{ {fields} }}", "    ")]
+    return "\n".join(out) + "\n"
+
+
+def targets():
+    """The files that are made, and the text that each must have."""
+    return {CRATE / "specs" / "NameLists.antt": name_lists(), CRATE / "specs" / "QuirksTexts.antt": quirks_texts(),
+            CRATE / "specs" / "TreeRules.antt": tree_rules(), CRATE / "specs" / "Examples.antt": examples(),
+            CRATE / "proofs" / "ExamplesComputed.antt": examples_computed()}
+
+
+if __name__ == "__main__":
+    sys.setrecursionlimit(10000)
+    for path, text in targets().items():
+        path.write_text(text, encoding="utf-8")
