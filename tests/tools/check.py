@@ -8,8 +8,9 @@ It does this, in this order:
    (html5lib's tests of tree construction, which are rows of the program `hq`).
 3. It runs the checks of tests/checks, the comparisons with the second definitions of tests/second_definitions, and the
    callers of tests/must-not-compile.
+4. Where nothing failed, it leaves a record of that for `./release` in out/gate-passed.json (tests/tools/passed.py).
 
-`check --rows` leaves out the first step. What an earlier run on this machine showed of the same files is kept; `check --anew`
+`check --rows` leaves out the first step and the last. What an earlier run on this machine showed of the same files is kept; `check --anew`
 shows all of it again.
 
 The fields of a row: `markup` is the standard input; `args` is the list of arguments, or `script` is the only argument; `output`
@@ -49,9 +50,11 @@ import encodings_of_pages  # noqa: E402
 import growth  # noqa: E402
 import hostile  # noqa: E402
 import options  # noqa: E402
+import passed as record  # noqa: E402
 import paths  # noqa: E402
 import reference  # noqa: E402
 import refusals  # noqa: E402
+import releases  # noqa: E402
 import standard  # noqa: E402
 import standard_parsing  # noqa: E402
 import standard_rules  # noqa: E402
@@ -72,6 +75,7 @@ class Clock:
 
     def __init__(self):
         self.parts, self.begun = [], time.monotonic()
+        self.last_lines = []  # of the gate
 
     def note(self, part, wall, processor):
         self.parts.append((part, wall, processor))
@@ -133,6 +137,7 @@ def gate(clock):
         sys.stdout.write(line)
         sys.stdout.flush()
         last = line.strip() or last
+        clock.last_lines = [*clock.last_lines[-9:], line.rstrip()]
     _, status, of_gate = os.wait4(ran.pid, 0)
     ran.returncode = os.waitstatus_to_exitcode(status)
     ended = time.monotonic()
@@ -279,9 +284,10 @@ def main():
     # (by default the prover returns its memory to the system again and again, which takes 2 % of its time)
     os.environ.setdefault("MIMALLOC_PURGE_DELAY", "-1")
     clock, rows_alone = Clock(), sys.argv[1:] == ["--rows"]
+    sources = None if rows_alone else record.begin()
     counts, edits_left = (None, lambda: (0, 0)) if rows_alone else gate(clock)
     tables = [rows, cleaned, followed, asked_each_way]
-    tables += [c_and_python.c_and_python, documents.documents, reference.reference, options.options, standard.standard]
+    tables += [c_and_python.c_and_python, releases.releases, documents.documents, reference.reference, options.options, standard.standard]
     tables += [standard_rules.checked, standard_parsing.checked, wrong_bodies, coverage.coverage, entries_of_tables.tables, hostile.hostile, decoded]
     counts = [counts] if counts else []
     with ThreadPoolExecutor() as pool:
@@ -297,6 +303,8 @@ def main():
     clock.note("all", time.monotonic() - clock.begun, used())
     clock.show()
     passed, failed = (sum(column) for column in zip(*counts))
+    if not failed and not rows_alone:
+        record.write(sources, clock.last_lines, f"{passed} passed, {failed} failed")
     print(f"{passed} passed, {failed} failed")
     return 1 if failed else 0
 
