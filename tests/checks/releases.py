@@ -224,7 +224,10 @@ def package(checks, made, name, wanted):
 def packages(checks, made):
     fields, _ = package(checks, made, "hq", ["usr/bin/hq", "usr/bin/dq", "usr/share/man/man1/hq.1.gz", "usr/share/bash-completion/completions/hq"])
     needs = symbols.glibc(ROOT / "crates" / "hq" / "out" / "hq")
-    checks.check("hq: what it depends on", f"libc6 (>= {'.'.join(map(str, needs))})" in fields["Depends"], fields["Depends"])
+    least = ".".join(map(str, needs))
+    checks.check("hq: what it depends on", f"libc6 (>= {least})" in fields["Depends"], fields["Depends"])
+    text = re.sub(r"\s+", " ", (ROOT / "README.md").read_text(encoding="utf-8"))
+    checks.check("README.md: the least glibc of hq", f"The programs need glibc {least} or later" in text, least)
     lib = "usr/lib/x86_64-linux-gnu"
     package(checks, made, "libdom-query0", [f"{lib}/libdom_query.so.0"])
     fields, data = package(checks, made, "libdom-query-dev", [f"{lib}/libdom_query.a", f"{lib}/pkgconfig/dom_query.pc", "usr/include/dom_query.h"])
@@ -262,9 +265,17 @@ def wheel(checks, made, folder):
     metadata(checks, "wheel", texts[f"{info}/METADATA"])
     library = pathlib.Path(folder) / "libdom_query.so"
     library.write_bytes(texts["dom_query/libdom_query.so"])
+    named(checks, files[0].name)
     needs = symbols.glibc(library)
     checks.check("wheel: the least glibc", int(tags[2]) == needs[1] or needs < (2, 5), f"{tags[2]}, and the library needs {needs}")
     installed(checks, files[0], folder)
+
+
+def named(checks, name):
+    """The documents name the wheel by its whole name."""
+    for page in ("README.md", "docs/PYTHON.md"):
+        found = set(re.findall(r"dom_query-\S*?\.whl", (ROOT / page).read_text(encoding="utf-8")))
+        checks.check(f"{page}: the name of the wheel", found == {name}, f"{found}, and it is {name}")
 
 
 def metadata(checks, what, text):

@@ -63,7 +63,8 @@ def listed(text):
 
 def written(functions, others):
     """The text of a list."""
-    lines = [f"function {version} {prototype}" for version, prototype in sorted(functions.values(), key=lambda it: (it[0], it[1].split("(")[0].split()[-1]))]
+    rows = sorted((version, name, prototype) for name, (version, prototype) in functions.items())
+    lines = [f"function {version} {prototype}" for version, _, prototype in rows]
     return "\n".join([f"library {LIBRARY}", *lines, *sorted(others)]) + "\n"
 
 
@@ -75,8 +76,8 @@ def faults():
         if functions.get(name) != prototype:
             yield f"{prototype}: a program may call this; the header has {functions.get(name, 'no such function')}"
     yield from (f"{line}: a program may rely on this; the header doesn't have it" for line in old_others if line not in others)
-    yield from (f"{functions[name]}: not in the list yet (tools/release/abi.py --write)" for name in sorted(functions) if name not in old_functions)
-    yield from (f"{line}: not in the list yet (tools/release/abi.py --write)" for line in others if line not in old_others)
+    new = [functions[name] for name in sorted(functions) if name not in old_functions] + [line for line in others if line not in old_others]
+    yield from (f"{line}: not in the list yet (tools/release/abi.py --write)" for line in new)
 
 
 def write(anew):

@@ -176,14 +176,14 @@ def deb_of_programs(made):
     entries.append(Entry("usr/share/bash-completion/completions/hq", read("docs/completions/hq.bash")))
     entries.append(Entry("usr/share/zsh/vendor-completions/_hq", read("docs/completions/_hq")))
     entries += documents_of(made, "hq", ("hq", "dq"))
-    return debian.package("hq", made.version, made.needs["hq"]["depends"], entries, [], made.epoch)
+    return debian.package(debian.Package("hq", made.version, made.needs["hq"]["depends"], made.epoch), entries)
 
 
 def deb_of_library(made, name):
     entries = [Entry(f"{MULTIARCH}/{abi.LIBRARY}", made.shared), *documents_of(made, name, ["libdom_query"])]
     more = debian.shared(name, made.version, abi.LIBRARY)
     more.append(debian.symbols(name, abi.LIBRARY, made.exported, made.version))
-    return debian.package(name, made.version, made.needs["library"]["depends"], entries, more, made.epoch)
+    return debian.package(debian.Package(name, made.version, made.needs["library"]["depends"], made.epoch), entries, more)
 
 
 def deb_of_headers(made, name, of):
@@ -193,7 +193,7 @@ def deb_of_headers(made, name, of):
     entries.append(Entry(f"{MULTIARCH}/pkgconfig/dom_query.pc", pc.encode()))
     entries.append(Entry("usr/include/dom_query.h", read("include/dom_query.h")))
     entries += documents_of(made, name, ["libdom_query"]) + in_folder(f"usr/share/doc/{name}", examples())
-    return debian.package(name, made.version, f"{of} (= {made.version})", entries, [], made.epoch)
+    return debian.package(debian.Package(name, made.version, f"{of} (= {made.version})", made.epoch), entries)
 
 
 def debs(made):

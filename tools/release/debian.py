@@ -3,6 +3,7 @@ import hashlib
 import re
 import time
 from email.utils import formatdate
+from typing import NamedTuple
 
 from archives import Entry, ar, folders_of, gz, tar, xz
 
@@ -38,20 +39,29 @@ SECTION = {"hq": "text", "libdom-query0": "libs", "libdom-query-dev": "libdevel"
 MULTI = {"hq": "foreign", "libdom-query0": "same", "libdom-query-dev": "same"}
 
 
-def control(name, version, depends, entries):
+class Package(NamedTuple):
+    """What a package is."""
+
+    name: str
+    version: str
+    depends: str
+    epoch: int
+
+
+def control(of, entries):
     """The file control of a package."""
-    short, long = ABOUT[name]
+    short, long = ABOUT[of.name]
     # (in units of 1,024 bytes, one for each folder and link, as dpkg-gencontrol counts)
     size = sum(max(1, -(-len(entry.data) // 1024)) for entry in entries) + len(folders_of(it.path for it in entries))
     fields = {
-        "Package": name,
-        "Version": version,
+        "Package": of.name,
+        "Version": of.version,
         "Architecture": "amd64",
-        "Multi-Arch": MULTI[name],
+        "Multi-Arch": MULTI[of.name],
         "Maintainer": MAINTAINER,
         "Installed-Size": size,
-        "Depends": depends,
-        "Section": SECTION[name],
+        "Depends": of.depends,
+        "Section": SECTION[of.name],
         "Priority": "optional",
         "Description": short + "".join(f"\n {line}" for line in long.splitlines()),
     }
@@ -105,10 +115,10 @@ def symbols(name, soname, exported, version):
     return Entry("symbols", ("\n".join(lines) + "\n").encode())
 
 
-def package(name, version, depends, entries, more, epoch):
+def package(of, entries, more=()):
     """A package with these entries; `more` are further files of its control archive."""
     sums = "".join(f"{hashlib.md5(it.data).hexdigest()}  {it.path}\n" for it in sorted(entries) if not it.to)
-    members = [Entry("control", control(name, version, depends, entries)), Entry("md5sums", sums.encode()), *more]
-    # (dpkg wants the archives to begin with ./)
-    made = [tar(part, epoch, before="./") for part in (members, entries)]
-    return ar([("debian-binary", b"2.0\n"), ("control.tar.xz", xz(made[0])), ("data.tar.xz", xz(made[1]))], epoch)
+    members = [Entry("control", control(of, entries)), Entry("md5sums", sums.encode()), *more]
+    # (dpkg wants the names in the archives to begin with ./)
+    made = [xz(tar(part, of.epoch, before="./")) for part in (members, entries)]
+    return ar([("debian-binary", b"2.0\n"), ("control.tar.xz", made[0]), ("data.tar.xz", made[1])], of.epoch)
