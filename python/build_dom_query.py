@@ -11,9 +11,9 @@ import gzip
 import hashlib
 import io
 import pathlib
+import re
 import sysconfig
 import tarfile
-import tomllib
 import zipfile
 
 HERE = pathlib.Path(__file__).resolve().parent
@@ -33,17 +33,23 @@ def version() -> str:
     return _above("VERSION").decode().strip()
 
 
+def project() -> tuple[dict[str, str], list[str]]:
+    """The texts of the table `project` of pyproject.toml, and its classifiers. (Python 3.10 has no reader of TOML.)"""
+    table = (HERE / "pyproject.toml").read_text(encoding="utf-8").partition("[project]\n")[2].partition("\n[")[0]
+    return dict(re.findall(r'(?m)^([\w-]+) = "([^"]*)"$', table)), re.findall(r'(?m)^    "([^"]*)",$', table)
+
+
 def metadata() -> bytes:
     """The file METADATA of the wheel, and PKG-INFO of the source archive."""
-    project = tomllib.loads((HERE / "pyproject.toml").read_text(encoding="utf-8"))["project"]
+    said, classifiers = project()
     fields = [
         ("Metadata-Version", "2.1"),
-        ("Name", project["name"]),
+        ("Name", said["name"]),
         ("Version", version()),
-        ("Summary", project["description"]),
-        ("License", project["license"]),
-        *(("Classifier", it) for it in project["classifiers"]),
-        ("Requires-Python", project["requires-python"]),
+        ("Summary", said["description"]),
+        ("License", said["license"]),
+        *(("Classifier", it) for it in classifiers),
+        ("Requires-Python", said["requires-python"]),
         ("Description-Content-Type", "text/markdown"),
     ]
     head = "".join(f"{name}: {value}\n" for name, value in fields)

@@ -86,6 +86,8 @@ def versions(checks):
         for file in sorted(ROOT.glob(names)):
             for found in re.findall(pattern, file.read_text(encoding="utf-8")):
                 checks.check(f"the version in {file.relative_to(ROOT)}", found == VERSION, f"{found}, and VERSION says {VERSION}")
+    numbers = dict(re.findall(r"#define DQ_VERSION_(MAJOR|MINOR|PATCH) (\d+)", abi.HEADER.read_text(encoding="utf-8")))
+    checks.check("the version in numbers in dom_query.h", list(numbers.values()) in ([], VERSION.split(".")), f"{numbers}")
     hq = ROOT / "crates" / "hq" / "out" / "hq"
     _, said = run([hq, "--version"])
     checks.check("hq --version", said.startswith(f"hq {VERSION} "), said)
@@ -282,7 +284,8 @@ def metadata(checks, what, text):
     """The head of a wheel's or a source archive's description."""
     head, _, body = text.decode().partition("\n\n")
     fields = dict(line.split(": ", 1) for line in head.splitlines())
-    wanted = {"Metadata-Version": "2.1", "Name": "dom_query", "Version": VERSION, "License": "MIT", "Requires-Python": ">=3.11"}
+    python = re.search(r'(?m)^requires-python = "(.*)"', (ROOT / "python" / "pyproject.toml").read_text(encoding="utf-8"))[1]
+    wanted = {"Metadata-Version": "2.1", "Name": "dom_query", "Version": VERSION, "License": "MIT", "Requires-Python": python}
     is_right = wanted.items() <= fields.items() and fields["Description-Content-Type"] == "text/markdown" and body.startswith("# dom_query")
     checks.check(f"{what}: the metadata", is_right, head)
 

@@ -31,7 +31,7 @@ def version_of_symbols():
 def plain(text):
     """A header without comments, directives and needless space."""
     text = re.sub(r"/\*.*?\*/", " ", text, flags=re.S)
-    text = re.sub(r'(?m)^\s*#.*$|extern "C" \{', " ", text)
+    text = re.sub(r'(?m)^\s*#.*$|extern "C" \{|\bDQ_API\b', " ", text)
     return re.sub(r"\s+", " ", text)
 
 
@@ -50,7 +50,8 @@ def declared(header):
         others.append(f"struct {name} {{ {fields.strip()} }}")
     for body in re.findall(r"enum \w+ \{([^}]*)\}", text):
         others += [f"constant {name} = {value}" for name, value in re.findall(r"(DQ_\w+) = (-?\w+)", body)]
-    defined = re.findall(r"(?m)^#define (DQ_\w+) (.+?)\s*(?:/\*.*)?$", header)
+    # (each release has a version of its own)
+    defined = re.findall(r"(?m)^#define (DQ_(?!VERSION|API\b)\w+) (.+?)\s*(?:/\*.*)?$", header)
     return functions, sorted(others + [f"constant {name} = {value}" for name, value in defined])
 
 

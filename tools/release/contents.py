@@ -1,6 +1,7 @@
 """What is in the files of a release: the programs and the library without data for debuggers, and all that goes with them."""
 import os
 import pathlib
+import shutil
 import subprocess
 import tempfile
 from typing import NamedTuple
@@ -40,6 +41,7 @@ Description: HTML documents: CSS selectors, edits, HTML, Markdown and text
 Version: {version}
 Cflags: {cflags}
 Libs: {libs}
+Libs.private: -pthread
 """
 
 
@@ -77,10 +79,16 @@ def stripped(file, folder, *words):
     return made, made.read_bytes()
 
 
+def compiler():
+    """The kit's own clang, so that no other compiler has to be the same, with the headers of this machine's C library."""
+    words = [str(kit.folder() / "toolchain" / "bin" / "clang"), "-fuse-ld=lld"]
+    own = subprocess.run(["gcc", "-print-file-name=include"], stdout=subprocess.PIPE).stdout.decode().strip() if shutil.which("gcc") else ""
+    return " ".join(words + [f"-isystem {it}" for it in (own, "/usr/include/x86_64-linux-gnu", "/usr/include") if it])
+
+
 def library(archive, folder):
-    """The shared library and the archive that ./install-c makes of what was built, linked by the kit's own clang."""
-    clang = kit.folder() / "toolchain" / "bin" / "clang"
-    env = {**os.environ, "CC": f"{clang} -fuse-ld=lld", "DOM_QUERY_ARCHIVE": str(archive), "DOM_QUERY_PYTHON": "no"}
+    """The shared library and the archive that ./install-c makes of what was built."""
+    env = {**os.environ, "CC": compiler(), "DOM_QUERY_ARCHIVE": str(archive), "DOM_QUERY_PYTHON": "no"}
     words = [ROOT / "install-c", pathlib.Path(folder) / "c"]
     ran = subprocess.run([str(it) for it in words], env=env, stdout=subprocess.PIPE, stderr=subprocess.STDOUT)
     if ran.returncode:
