@@ -74,7 +74,13 @@ def proved(name, head, log):
     words = ["rt", "run", "--", "--help"] if program else ["rt", "lib"]
     made, begun, at = made_of(name), time.monotonic(), time.time()
     child = subprocess.Popen(words, cwd=ROOT / "crates" / name, stdin=subprocess.DEVNULL, stdout=log, stderr=log)
-    status = wait(child, begun, head)
+    try:
+        status = wait(child, begun, head)
+    except KeyboardInterrupt:
+        # (at a terminal it was stopped by the same Ctrl-C)
+        child.terminate()
+        child.wait()
+        raise
     if sys.stdout.isatty():
         print("\r\033[K", end="")
     # (a program's own status on --help doesn't matter)
@@ -87,8 +93,8 @@ def proved(name, head, log):
 def begin(who, names, crates):
     """Says what is about to be done."""
     stand = len(crates) - len(names)
-    print(f"{who}: {' and '.join(names)} will be proved and built, with the {stand} crates below, one after the other.")
-    print(f"{who}: The first time this takes an hour or more; crates that were proved before take a second each.")
+    print(f"{who}: {' and '.join(names)} will be proved and built, and before them the {stand} crates below, one after the other.")
+    print(f"{who}: The first time this takes an hour or more; crates that were proved before are taken as they are.")
     print(f"{who}: Ctrl-C stops it, and the next run goes on from there. What rt says goes to {LOG.relative_to(ROOT)}.", flush=True)
 
 

@@ -8,6 +8,7 @@
 - In a copy of the repository `./release` refuses to make files without a record of a gate, after a change of a source, and with a
   program that the gate didn't build. With a record it makes them, and from another folder, in another place of the world and under another
   umask it makes the same bytes again.
+- `./install` says how far it is, stops at a crate that isn't proved, and goes on from there (with an `rt` that proves nothing).
 - In the files: the checksums hold, the programs run, the packages are as Debian wants them, the wheel can be installed and works, the
   list of what is inside is whole, and no path of this machine is named.
 
@@ -142,6 +143,32 @@ class Copy:
     def release(self, *words, **env):
         """Runs ./release there, from a folder elsewhere."""
         return run([sys.executable, self.at / "release", *words], cwd="/", env={**os.environ, **env})
+
+
+RT = """#!/bin/sh
+[ "$1" = run ] && exit 0
+[ "${PWD##*/}" = dom_clean ] && [ ! -e {0}/again ] && touch {0}/again && echo no proof of it && exit 1
+[ -e out/rlib/stamp ] && exit 0
+mkdir -p out/rlib && echo proved > out/rlib/stamp
+"""
+
+
+def installs(checks, copy, folder):
+    """./install with an `rt` that proves nothing, and fails once."""
+    rt, to = pathlib.Path(folder) / "bin" / "rt", pathlib.Path(folder) / "home" / "bin"
+    rt.parent.mkdir()
+    rt.write_text(RT.replace("{0}", str(folder)))
+    rt.chmod(0o755)
+    env = {**os.environ, "PATH": f"{rt.parent}:{os.environ['PATH']}"}
+    status, said = run([copy.at / "install", to], env=env)
+    first = re.search(r"(\d+) of (\d+)  dom_clean: not proved", said)
+    checks.check("./install stops", status != 0 and first and "no proof of it" in said and not (to / "hq").exists(), said)
+    status, said = run([copy.at / "install", to], env=env)
+    lines = re.findall(r"(?m)^install: +(\d+) of (\d+)  (\w+): (proved before|proved in)", said)
+    is_whole = first and [int(it[0]) for it in lines] == list(range(1, int(first[2]) + 1))
+    # (the stamps of the first run are of the same second, so what was before is told by rt alone)
+    checks.check("./install goes on", status == 0 and is_whole and lines[-1][2] == "dq", said)
+    checks.check("./install installs", run([to / "hq", "--version"])[1].startswith("hq ") and (to.parent / "share/man/man1/dq.1").exists())
 
 
 def refusals(checks, copy, into):
@@ -348,6 +375,7 @@ def texts(checks, made):
 def tried(checks, folder):
     """All checks of what ./release makes."""
     copy, made = Copy(pathlib.Path(folder) / "copy"), pathlib.Path(folder) / "made"
+    installs(checks, copy, folder)
     refusals(checks, copy, made)
     copy.record()
     status, said = copy.release(made)
