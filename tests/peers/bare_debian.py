@@ -11,6 +11,9 @@ without a network, with a home that can't be written and in a Turkish locale, it
 - installs the wheel in a venv, runs a program, and does the same with the source archive over the library of the .deb,
 - removes the packages, and compares which files are there with those from before.
 
+Before that, lintian and twine look at the files, where they are there, and another user makes them anew: of a clone in another folder, under
+another umask, with what the gate built here (for files of `./release --unproved`: with what is built).
+
 In bullseye, whose glibc is 2.31, hq must be refused for that, and the C library must work; its Python is too old for the package.
 Last it looks whether a mount, a process or a file is left. Each command's time is printed; the last line is 'N passed, M failed'."""
 import os
@@ -24,10 +27,13 @@ import time
 
 sys.dont_write_bytecode = True
 ROOT = pathlib.Path(__file__).resolve().parents[2]
+sys.path.insert(0, str(ROOT / "tests" / "tools"))
+import passed  # noqa: E402
+
 MIRROR = "http://deb.debian.org/debian"
 SUITES = ("bookworm", "trixie", "bullseye")
 OLD = ("bullseye",)
-TOOLS = "man-db bsdextrautils gcc libc6-dev pkg-config python3-venv python3-pip locales file"
+TOOLS = "man-db bsdextrautils gcc libc6-dev pkg-config python3-venv locales"
 HOME = {"HOME": "/home/guest", "LC_ALL": "tr_TR.UTF-8", "PATH": "/usr/sbin:/usr/bin:/sbin:/bin", "DEBIAN_FRONTEND": "noninteractive"}
 PROGRAM = """import dom_query
 page = dom_query.parse(open("/try/shop.html", "rb").read())
@@ -165,9 +171,38 @@ def lintian(release):
     ran = subprocess.run(["lintian", "--allow-root", *map(str, sorted(release.glob("*.deb")))], stdout=subprocess.PIPE, stderr=subprocess.STDOUT)
     said = ran.stdout.decode("utf-8", "replace")
     errors = re.findall(r"(?m)^E: .*", said)
-    print(said.strip() or "lintian: nothing to say")
-    print(f"lintian: {len(errors)} errors")
+    print((said.strip() + "\n" if said.strip() else "") + f"lintian: {len(errors)} errors")
     return int(not errors), int(bool(errors))
+
+
+def metadata(release):
+    """What twine says of the wheel and the source archive."""
+    twine = shutil.which("twine", path="/usr/bin") or shutil.which("twine")
+    if not twine:
+        return 0, 0
+    files = [*release.glob("*.whl"), *(it for it in release.glob("dom_query-*.tar.gz"))]
+    ran = subprocess.run([twine, "check", *map(str, files)], stdout=subprocess.PIPE, stderr=subprocess.STDOUT)
+    print(ran.stdout.decode("utf-8", "replace").strip())
+    return int(ran.returncode == 0), int(ran.returncode != 0)
+
+
+def other_user(release):
+    """Another user makes the same bytes, in another folder and under another umask."""
+    unproved = "NOT PROVED" in (release / "PROVED.txt").read_text(encoding="utf-8")
+    with tempfile.TemporaryDirectory(prefix="other-user-") as folder:
+        os.chmod(folder, 0o755)
+        clone = pathlib.Path(folder) / "a clone"
+        subprocess.run(["git", "clone", "-q", "--no-hardlinks", str(ROOT), str(clone)], check=True)
+        for name in [*passed.BUILT, *([] if unproved else ["out/gate-passed.json"])]:
+            (clone / name).parent.mkdir(parents=True, exist_ok=True)
+            shutil.copy2(ROOT / name, clone / name)
+        subprocess.run(["chown", "-R", "65534:65534", str(clone)], check=True)
+        words = ["setpriv", "--reuid=65534", "--regid=65534", "--clear-groups", "--no-new-privs", "sh", "-c"]
+        words += ['umask 077; exec python3 "$0"/release "$@"', str(clone), *["--unproved"] * unproved, "--check", str(release)]
+        env = {"PATH": f"/usr/bin:/bin:{passed.kit() / 'bin'}", "HOME": "/nonexistent", "TZ": "Asia/Kathmandu", "LC_ALL": "C"}
+        ran = subprocess.run(words, cwd="/", env=env, stdout=subprocess.PIPE, stderr=subprocess.STDOUT)
+        print("another user:", ran.stdout.decode("utf-8", "replace").strip())
+        return int(ran.returncode == 0), int(ran.returncode != 0)
 
 
 def left_behind(folder):
@@ -179,7 +214,7 @@ def left_behind(folder):
             rooted += os.readlink(process / "root").startswith(str(folder))
         except OSError:
             pass
-    return mounts or rooted or pathlib.Path(folder).exists()
+    return bool(mounts or rooted or pathlib.Path(folder).exists())
 
 
 def main(words):
@@ -188,7 +223,7 @@ def main(words):
         return 2
     release, suites = pathlib.Path(words[0]).resolve(), words[1:] or SUITES
     version = (ROOT / "VERSION").read_text(encoding="utf-8").strip()
-    passed, failed = lintian(release)
+    counts = [lintian(release), metadata(release), other_user(release)]
     for suite in suites:
         # (it is removed also where a try is stopped)
         with tempfile.TemporaryDirectory(prefix="bare-debian-") as folder:
@@ -198,12 +233,12 @@ def main(words):
                 of_suite(room, release, version)
             except subprocess.TimeoutExpired as stopped:
                 room.check("an end", False, str(stopped))
-        passed, failed = passed + room.passed, failed + room.failed
         is_left = left_behind(folder)
         print(f"{suite}: " + ("something is LEFT BEHIND" if is_left else "nothing is left behind"))
-        passed, failed = passed + (not is_left), failed + bool(is_left)
-    print(f"{passed} passed, {failed} failed")
-    return 1 if failed else 0
+        counts += [(room.passed, room.failed), (int(not is_left), int(is_left))]
+    right, wrong = (sum(column) for column in zip(*counts))
+    print(f"{right} passed, {wrong} failed")
+    return 1 if wrong else 0
 
 
 if __name__ == "__main__":
