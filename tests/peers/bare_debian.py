@@ -34,7 +34,7 @@ MIRROR = "http://deb.debian.org/debian"
 SUITES = ("bookworm", "trixie", "bullseye")
 OLD = ("bullseye",)
 TOOLS = "man-db bsdextrautils gcc libc6-dev pkg-config python3-venv locales"
-HOME = {"HOME": "/home/guest", "LC_ALL": "tr_TR.UTF-8", "PATH": "/usr/sbin:/usr/bin:/sbin:/bin", "DEBIAN_FRONTEND": "noninteractive"}
+HOME = {"HOME": "/home", "LC_ALL": "tr_TR.UTF-8", "PATH": "/usr/sbin:/usr/bin:/sbin:/bin", "DEBIAN_FRONTEND": "noninteractive"}
 PROGRAM = """import dom_query
 page = dom_query.parse(open("/try/shop.html", "rb").read())
 for item in page.select("ul li"):
@@ -84,7 +84,7 @@ class Room:
             return False
         shutil.copy2("/etc/resolv.conf", self.at / "etc" / "resolv.conf")
         more = "apt-get -qq update && apt-get -qq install -y --no-install-recommends " + TOOLS + " >/dev/null"
-        more += " && localedef -i tr_TR -f UTF-8 tr_TR.UTF-8 && mkdir -p /home/guest /try && chmod 555 /home/guest && ldd --version | head -1"
+        more += " && localedef -i tr_TR -f UTF-8 tr_TR.UTF-8 && mkdir -p /try && chmod 555 /home && ldd --version | head -1"
         status, said, _ = self.within(more, network=True)
         print(f"{self.suite}: {said.strip().splitlines()[-1] if said.strip() else ''}; made in {time.monotonic() - begun:.0f} s", flush=True)
         return self.check("gcc, man and Python", status == 0, said)

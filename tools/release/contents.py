@@ -31,7 +31,7 @@ README_C = """libdom_query {version} for Linux on x86-64, with glibc {glibc} or 
   PKG_CONFIG_PATH=$PWD/lib/pkgconfig; export PKG_CONFIG_PATH
   gcc -o links share/doc/libdom_query/examples/links.c $(pkg-config --cflags --libs dom_query) -Wl,-rpath,$PWD/lib
 
-Copy include and lib to /usr/local, say, run ldconfig, and the options but for -ldom_query aren't needed. include/dom_query.h describes
+Copy include and lib to where your compiler looks, run ldconfig, and -ldom_query is all that is needed. include/dom_query.h describes
 each function. PROVED.txt says which sources and which prover stand behind the library, LICENSES.txt what is linked in.
 """
 PC = """prefix={prefix}
