@@ -34,7 +34,7 @@ MIRROR = "http://deb.debian.org/debian"
 SUITES = ("bookworm", "trixie", "bullseye")
 OLD = ("bullseye",)
 TOOLS = "man-db bsdextrautils gcc libc6-dev pkg-config python3-venv locales"
-HOME = {"HOME": "/home", "LC_ALL": "tr_TR.UTF-8", "PATH": "/usr/sbin:/usr/bin:/sbin:/bin", "DEBIAN_FRONTEND": "noninteractive"}
+HOME = {"HOME": "/home", "LC_ALL": "tr_TR.UTF-8", "PATH": "/sbin:/usr/bin:/bin", "DEBIAN_FRONTEND": "noninteractive"}
 PROGRAM = """import dom_query
 page = dom_query.parse(open("/try/shop.html", "rb").read())
 for item in page.select("ul li"):
