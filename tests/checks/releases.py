@@ -130,7 +130,7 @@ class Copy:
         self.git("commit", "-q", "-m", "all")
 
     def git(self, *words):
-        who = ["-c", "user.name=a", "-c", "user.email=a@b.example", "-c", "commit.gpgsign=false"]
+        who = ["-c", "core.hooksPath=", "-c", "user.name=a", "-c", "user.email=a@b.example", "-c", "commit.gpgsign=false"]
         env = {**os.environ, "GIT_COMMITTER_DATE": "1800000000 +0000", "GIT_AUTHOR_DATE": "1800000000 +0000"}
         subprocess.run(["git", *who, *words], cwd=self.at, env=env, stdout=subprocess.DEVNULL, check=True)
 
