@@ -89,6 +89,9 @@ def versions(checks):
                 checks.check(f"the version in {file.relative_to(ROOT)}", found == VERSION, f"{found}, and VERSION says {VERSION}")
     numbers = dict(re.findall(r"#define DQ_VERSION_(MAJOR|MINOR|PATCH) (\d+)", abi.HEADER.read_text(encoding="utf-8")))
     checks.check("the version in numbers in dom_query.h", list(numbers.values()) in ([], VERSION.split(".")), f"{numbers}")
+    whole = re.search(r"#define DQ_VERSION_NUMBER (\d+)", abi.HEADER.read_text(encoding="utf-8"))
+    major, minor, patch = map(int, VERSION.split("."))
+    checks.check("the version as a number in dom_query.h", not whole or int(whole[1]) == 10_000 * major + 100 * minor + patch)
     hq = ROOT / "crates" / "hq" / "out" / "hq"
     _, said = run([hq, "--version"])
     checks.check("hq --version", said.startswith(f"hq {VERSION} "), said)
@@ -98,8 +101,7 @@ def interface(checks, library):
     """The header and the library against the list of what programs rely on."""
     faults = list(abi.faults())
     checks.check("dom_query.h and dom_query.abi", not faults, "\n".join(faults))
-    functions, _ = abi.listed(abi.LIST.read_text(encoding="utf-8"))
-    wanted = {name: version for name, (version, _) in functions.items()}
+    wanted = abi.functions()
     found = {name: version for name, version in symbols.exported(library).items() if name not in wanted.values()}
     checks.check("the symbols of the library", found == wanted, f"{sorted(found.items() ^ wanted.items())}")
     checks.check("what the library needs", set(symbols.needs(library)) <= {"libc.so.6"}, f"{symbols.needs(library)}")

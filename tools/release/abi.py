@@ -1,31 +1,52 @@
 """The list of what programs rely on that were built with the C library: include/dom_query.abi.
 
-Each line is a function with the version of its symbol, a constant, or the fields of a struct, as include/dom_query.h declares them:
+Each line is a function, a constant, or the fields of a struct, as include/dom_query.h declares them, with the version that it came with:
 
     library libdom_query.so.0
-    function DOM_QUERY_1.0 int64_t dq_kind(dq_document *, uint32_t)
-    constant DQ_ELEMENT = 1
-    struct dq_document { void *at; int64_t fault; size_t byte; bool full; }
+    DOM_QUERY_1.0 function int64_t dq_kind(dq_document *, uint32_t)
+    DOM_QUERY_1.0 constant DQ_ELEMENT = 1
+    DOM_QUERY_1.0 struct dq_document { void *at; int64_t fault; size_t byte; bool full; }
 
 A line of a released version is never changed or removed: programs that were built with it would break, and such a change needs a new
-name for the library. A new function gets the version of the release that it comes with.
+name for the library. What is new gets the version of the release that it comes with, and a function's symbol has that version.
 
     abi.py             compares the header with the list; the status is 1 where they differ
-    abi.py --write     adds what is new in the header to the list
-    abi.py --anew      writes the whole list anew: only before the first release
+    abi.py --write     writes the lines of the version that isn't released yet; those of released versions stay
     abi.py --map       prints the script by which the linker gives the symbols their versions"""
 import pathlib
 import re
 import sys
+from typing import NamedTuple
 
 ROOT = pathlib.Path(__file__).resolve().parents[2]
-HEADER, LIST, VERSION = (ROOT / name for name in ("include/dom_query.h", "include/dom_query.abi", "VERSION"))
+HEADER, LIST, VERSION, CHANGES = (ROOT / it for it in ("include/dom_query.h", "include/dom_query.abi", "VERSION", "CHANGELOG.md"))
 LIBRARY = "libdom_query.so.0"
 
 
-def version_of_symbols():
-    """The version of symbols that come with the next release: DOM_QUERY_1.0 for 1.0.0."""
+class Line(NamedTuple):
+    """A line of the list: a version, `function`, `constant` or `struct`, and what the header declares."""
+
+    version: str
+    kind: str
+    text: str
+
+    def name(self):
+        """The name that is declared."""
+        return re.search(r"\bdq_\w+(?=\()|\bDQ_\w+|\bdq_\w+", self.text)[0]
+
+    def in_words(self):
+        return " ".join(self)
+
+
+def next_version():
+    """The version of what comes with the next release: DOM_QUERY_1.0 for 1.0.0."""
     return "DOM_QUERY_" + ".".join(VERSION.read_text().strip().split(".")[:2])
+
+
+def is_released():
+    """Whether the version is released: the first heading of the changelog doesn't say that it isn't."""
+    heading = re.search(r"(?m)^## .*$", CHANGES.read_text(encoding="utf-8"))
+    return "not released yet" not in heading[0]
 
 
 def plain(text):
@@ -42,59 +63,59 @@ def parameter(text):
 
 
 def declared(header):
-    """What a header declares: the functions as {name: prototype}, and the lines of constants and structs."""
-    text, functions, others = plain(header), {}, []
+    """What a header declares, as lines of the next version."""
+    text, found = plain(header), []
     for kind, name, given in re.findall(r"([\w ]+[\w*] ?\*?)\b(dq_\w+)\(([^()]*)\);", text):
-        functions[name] = f"{kind.strip()} {name}({', '.join(parameter(it) for it in given.split(','))})"
-    for name, fields in re.findall(r"typedef struct (\w+) \{([^}]*)\}", text):
-        others.append(f"struct {name} {{ {fields.strip()} }}")
+        found.append(("function", f"{kind.strip()} {name}({', '.join(parameter(it) for it in given.split(','))})"))
+    found += [("struct", f"{name} {{ {fields.strip()} }}") for name, fields in re.findall(r"typedef struct (\w+) \{([^}]*)\}", text)]
     for body in re.findall(r"enum \w+ \{([^}]*)\}", text):
-        others += [f"constant {name} = {value}" for name, value in re.findall(r"(DQ_\w+) = (-?\w+)", body)]
+        found += [("constant", f"{name} = {value}") for name, value in re.findall(r"(DQ_\w+) = (-?\w+)", body)]
     # (each release has a version of its own)
     defined = re.findall(r"(?m)^#define (DQ_(?!VERSION|API\b)\w+) (.+?)\s*(?:/\*.*)?$", header)
-    return functions, sorted(others + [f"constant {name} = {value}" for name, value in defined])
+    found += [("constant", f"{name} = {value}") for name, value in defined]
+    return [Line(next_version(), *it) for it in found]
 
 
-def listed(text):
-    """What the list has: the functions as {name: (version, prototype)}, and its other lines."""
-    rows = re.findall(r"(?m)^function (\S+) (.*\b(dq_\w+)\(.*)$", text)
-    others = re.findall(r"(?m)^((?:struct|constant) .*)$", text)
-    return {name: (version, prototype) for version, prototype, name in rows}, others
+def listed():
+    """The lines of the list."""
+    rows = re.findall(r"(?m)^(DOM_QUERY_\S+) (function|constant|struct) (.*)$", LIST.read_text(encoding="utf-8"))
+    return [Line(*row) for row in rows]
 
 
-def written(functions, others):
-    """The text of a list."""
-    rows = sorted((version, name, prototype) for name, (version, prototype) in functions.items())
-    lines = [f"function {version} {prototype}" for version, _, prototype in rows]
-    return "\n".join([f"library {LIBRARY}", *lines, *sorted(others)]) + "\n"
+def order(version):
+    return [int(it) for it in re.findall(r"\d+", version)]
 
 
 def faults():
     """How the header differs from the list."""
-    functions, others = declared(HEADER.read_text(encoding="utf-8"))
-    old_functions, old_others = listed(LIST.read_text(encoding="utf-8"))
-    for name, (_, prototype) in sorted(old_functions.items()):
-        if functions.get(name) != prototype:
-            yield f"{prototype}: a program may call this; the header has {functions.get(name, 'no such function')}"
-    yield from (f"{line}: a program may rely on this; the header doesn't have it" for line in old_others if line not in others)
-    new = [functions[name] for name in sorted(functions) if name not in old_functions] + [line for line in others if line not in old_others]
-    yield from (f"{line}: not in the list yet (tools/release/abi.py --write)" for line in new)
+    header, old = declared(HEADER.read_text(encoding="utf-8")), listed()
+    there, known = {line[1:] for line in header}, {line[1:] for line in old}
+    yield from (f"{line.in_words()}: a program may rely on this, and the header doesn't have it" for line in old if line[1:] not in there)
+    yield from (f"{line.in_words()}: not in the list (tools/release/abi.py --write)" for line in header if line[1:] not in known)
 
 
-def write(anew):
-    """Adds what is new to the list, or makes it anew."""
-    functions, others = declared(HEADER.read_text(encoding="utf-8"))
-    old_functions, old_others = ({}, []) if anew or not LIST.exists() else listed(LIST.read_text(encoding="utf-8"))
-    new = {name: (version_of_symbols(), prototype) for name, prototype in functions.items()}
-    LIST.write_text(written({**new, **old_functions}, {*others, *old_others}), encoding="utf-8")
+def write():
+    """Writes the list: what was released stays, and what else the header declares comes with the next release. Returns why it can't."""
+    kept = [line for line in listed() if line.version != next_version() or is_released()] if LIST.exists() else []
+    known = {line[1:] for line in kept}
+    new = [line for line in declared(HEADER.read_text(encoding="utf-8")) if line[1:] not in known]
+    if new and is_released():
+        return f"{next_version()} is released, and {new[0].text} is new: raise VERSION first, and begin its part of CHANGELOG.md"
+    lines = sorted([*kept, *new], key=lambda it: (order(it.version), it.kind, it.name()))
+    LIST.write_text("\n".join([f"library {LIBRARY}", *(line.in_words() for line in lines)]) + "\n", encoding="utf-8")
+    return None
+
+
+def functions():
+    """The functions of the list with their versions."""
+    return {line.name(): line.version for line in listed() if line.kind == "function"}
 
 
 def script():
     """The linker's script of versions. Each version has those before it below it."""
-    functions, _ = listed(LIST.read_text(encoding="utf-8"))
-    lines, below = [], ""
-    for version in sorted({it for it, _ in functions.values()}, key=lambda it: [int(part) for part in re.findall(r"\d+", it)]):
-        names = " ".join(f"{name};" for name, (of, _) in sorted(functions.items()) if of == version)
+    found, lines, below = functions(), [], ""
+    for version in sorted(set(found.values()), key=order):
+        names = " ".join(f"{name};" for name in sorted(found) if found[name] == version)
         hidden = "" if below else " local: *;"
         lines.append(f"{version} {{ global: {names}{hidden} }}{below};")
         below = f" {version}"
@@ -102,8 +123,9 @@ def script():
 
 
 def main(words):
-    if words in (["--write"], ["--anew"]):
-        write(words == ["--anew"])
+    found = []
+    if words == ["--write"]:
+        found = [it for it in [write()] if it]
     elif words == ["--map"]:
         print(script(), end="")
     elif words:
@@ -111,9 +133,9 @@ def main(words):
         return 2
     else:
         found = list(faults())
-        print(*found, sep="\n", end="\n" if found else "")
-        return 1 if found else 0
-    return 0
+    for line in found:
+        print(line)
+    return 1 if found else 0
 
 
 if __name__ == "__main__":

@@ -190,7 +190,7 @@ def deb_of_programs(made):
 def deb_of_library(made, name):
     entries = [Entry(f"{MULTIARCH}/{abi.LIBRARY}", made.shared), *documents_of(made, name, ["libdom_query"])]
     more = debian.shared(name, made.version, abi.LIBRARY)
-    more.append(debian.symbols(name, abi.LIBRARY, made.exported, made.version))
+    more.append(debian.symbols(name, abi.LIBRARY, made.exported))
     return debian.package(debian.Package(name, made.version, made.needs["library"]["depends"], made.epoch), entries, more)
 
 

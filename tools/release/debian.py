@@ -107,11 +107,11 @@ def shared(name, version, soname):
     return [Entry("shlibs", f"{library} {number} {name} (>= {version})\n".encode()), Entry("triggers", b"activate-noawait ldconfig\n")]
 
 
-def symbols(name, soname, exported, version):
-    """The file symbols: since which version of the package each symbol has been there."""
-    nodes = sorted(set(exported.values()))
-    lines = [f"{soname} {name} #MINVER#"] + [f" {node}@{node} {version}" for node in nodes]
-    lines += [f" {symbol}@{node} {version}" for symbol, node in sorted(exported.items()) if symbol not in nodes]
+def symbols(name, soname, exported):
+    """The file symbols: since which version of the package each symbol has been there, which its own version says."""
+    since = {node: node.rpartition("_")[2] for node in exported.values()}
+    lines = [f"{soname} {name} #MINVER#"] + [f" {node}@{node} {since[node]}" for node in sorted(since)]
+    lines += [f" {symbol}@{node} {since[node]}" for symbol, node in sorted(exported.items())]
     return Entry("symbols", ("\n".join(lines) + "\n").encode())
 
 
