@@ -1,79 +1,121 @@
-"""Builds the wheel of dom_query. It needs nothing but Python, so `pip install ./python` works without a network.
+"""Builds the wheel and the source archive of dom_query. It needs nothing but Python, so `pip install ./python` works without a network.
 
-The shared library must be in dom_query/: ./install-c puts it there.
+The shared library is dom_query/libdom_query.so: ./install-c puts it there. A wheel that is built without it, as from the source archive,
+uses the library libdom_query.so.0 of the system, such as that of the Debian package libdom-query0.
 """
 
 from __future__ import annotations
 
 import base64
+import gzip
 import hashlib
+import io
 import pathlib
+import re
 import sysconfig
-import tomllib
+import tarfile
 import zipfile
 
 HERE = pathlib.Path(__file__).resolve().parent
-FILES = ("*.py", "py.typed", "libdom_query.so")
+MODULES = ("*.py", "py.typed")
+SOURCES = ("pyproject.toml", "build_dom_query.py", "README.md")
+FIRST = (1980, 1, 1, 0, 0, 0)
 
 
-def _project() -> dict[str, str]:
-    return tomllib.loads((HERE / "pyproject.toml").read_text(encoding="utf-8"))["project"]
+def _above(name: str) -> bytes:
+    """A file that stands at the top of the repository, and in the source archive beside this one."""
+    beside = HERE / name
+    return (beside if beside.exists() else HERE.parent / name).read_bytes()
 
 
-def _metadata() -> str:
-    project = _project()
-    fields = {
-        "Metadata-Version": "2.1",
-        "Name": project["name"],
-        "Version": project["version"],
-        "Summary": project["description"],
-        "Requires-Python": project["requires-python"],
-        "License": project["license"],
-    }
-    return "".join(f"{name}: {value}\n" for name, value in fields.items())
+def version() -> str:
+    """The version of the release, which is in the file VERSION."""
+    return _above("VERSION").decode().strip()
 
 
-def _contents() -> dict[str, bytes]:
-    """The files of the wheel, but for the list of them."""
-    project, package = _project(), HERE / "dom_query"
-    if not (package / "libdom_query.so").exists():
-        raise RuntimeError("there is no dom_query/libdom_query.so: run ./install-c at the top of the clone first")
-    files = [file for pattern in FILES for file in sorted(package.glob(pattern))]
-    info = f"{project['name']}-{project['version']}.dist-info"
-    wheel = f"Wheel-Version: 1.0\nGenerator: build_dom_query\nRoot-Is-Purelib: false\nTag: {_tag()}\n"
-    return {
-        **{f"dom_query/{file.name}": file.read_bytes() for file in files},
-        f"{info}/METADATA": _metadata().encode(),
-        f"{info}/WHEEL": wheel.encode(),
-    }
+def project() -> tuple[dict[str, str], list[str]]:
+    """The texts of the table `project` of pyproject.toml, and its classifiers. (Python 3.10 has no reader of TOML.)"""
+    table = (HERE / "pyproject.toml").read_text(encoding="utf-8").partition("[project]\n")[2].partition("\n[")[0]
+    return dict(re.findall(r'(?m)^([\w-]+) = "([^"]*)"$', table)), re.findall(r'(?m)^    "([^"]*)",$', table)
 
 
-def _tag() -> str:
-    """Any Python 3, on machines as this one."""
-    return "py3-none-" + sysconfig.get_platform().replace("-", "_").replace(".", "_")
+def metadata() -> bytes:
+    """The file METADATA of the wheel, and PKG-INFO of the source archive."""
+    said, classifiers = project()
+    fields = [
+        ("Metadata-Version", "2.1"),
+        ("Name", said["name"]),
+        ("Version", version()),
+        ("Summary", said["description"]),
+        ("License", said["license"]),
+        *(("Classifier", it) for it in classifiers),
+        ("Requires-Python", said["requires-python"]),
+        ("Description-Content-Type", "text/markdown"),
+    ]
+    head = "".join(f"{name}: {value}\n" for name, value in fields)
+    return head.encode() + b"\n" + (HERE / "README.md").read_bytes()
 
 
-def _record(contents: dict[str, bytes], name: str) -> str:
+def _modules() -> dict[str, bytes]:
+    files = [file for pattern in MODULES for file in sorted((HERE / "dom_query").glob(pattern))]
+    return {f"dom_query/{file.name}": file.read_bytes() for file in files}
+
+
+def _record(files: dict[str, bytes], name: str) -> bytes:
     lines = []
-    for path, data in contents.items():
+    for path, data in files.items():
         digest = base64.urlsafe_b64encode(hashlib.sha256(data).digest()).rstrip(b"=").decode()
         lines.append(f"{path},sha256={digest},{len(data)}\n")
-    return "".join(lines) + f"{name},,\n"
+    return "".join([*lines, f"{name},,\n"]).encode()
+
+
+def contents(library: bytes | None, tag: str, licences: dict[str, bytes]) -> dict[str, bytes]:
+    """The files of the wheel by their paths, with this library, or without one, and further files about licences."""
+    info, files = f"dom_query-{version()}.dist-info", _modules()
+    if library is not None:
+        files["dom_query/libdom_query.so"] = library
+    pure = "true" if library is None else "false"
+    files[f"{info}/METADATA"] = metadata()
+    files[f"{info}/WHEEL"] = f"Wheel-Version: 1.0\nGenerator: build_dom_query\nRoot-Is-Purelib: {pure}\nTag: {tag}\n".encode()
+    for name, data in {"LICENSE": _above("LICENSE"), **licences}.items():
+        files[f"{info}/licenses/{name}"] = data
+    files[f"{info}/RECORD"] = _record(files, f"{info}/RECORD")
+    return files
+
+
+def wheel_name(tag: str) -> str:
+    return f"dom_query-{version()}-{tag}.whl"
 
 
 def build_wheel(wheel_directory: str, config_settings: object = None, metadata_directory: str | None = None) -> str:
-    """Writes the wheel into the folder, and returns its name."""
-    project, contents = _project(), _contents()
-    stem = f"{project['name']}-{project['version']}"
-    record = f"{stem}.dist-info/RECORD"
-    contents[record] = _record(contents, record).encode()
-    name = f"{stem}-{_tag()}.whl"
+    """Writes the wheel for machines as this one into the folder, and returns its name."""
+    file = HERE / "dom_query" / "libdom_query.so"
+    library = file.read_bytes() if file.exists() else None
+    platform = sysconfig.get_platform().replace("-", "_").replace(".", "_") if library is not None else "any"
+    name = wheel_name(f"py3-none-{platform}")
     with zipfile.ZipFile(pathlib.Path(wheel_directory) / name, "w", zipfile.ZIP_DEFLATED) as wheel:
-        for path, data in contents.items():
-            wheel.writestr(path, data)
+        for path, data in contents(library, f"py3-none-{platform}", {}).items():
+            wheel.writestr(zipfile.ZipInfo(path, FIRST), data, zipfile.ZIP_DEFLATED)
     return name
 
 
+def source_contents() -> dict[str, bytes]:
+    """The files of the source archive by their paths: the package without its library."""
+    files = {name: (HERE / name).read_bytes() for name in SOURCES} | {name: _above(name) for name in ("VERSION", "LICENSE")}
+    files |= {**_modules(), "PKG-INFO": metadata()}
+    return {f"dom_query-{version()}/{path}": data for path, data in files.items()}
+
+
+def sdist_name() -> str:
+    return f"dom_query-{version()}.tar.gz"
+
+
 def build_sdist(sdist_directory: str, config_settings: object = None) -> str:
-    """A source archive is not made: the library is built from the repository."""
-    raise RuntimeError("make a wheel: pip wheel ./python")
+    """Writes the source archive into the folder, and returns its name."""
+    with gzip.GzipFile(pathlib.Path(sdist_directory) / sdist_name(), "wb", mtime=0) as packed:
+        with tarfile.open(fileobj=packed, mode="w", format=tarfile.USTAR_FORMAT) as archive:
+            for path, data in source_contents().items():
+                info = tarfile.TarInfo(path)
+                info.size, info.mode = len(data), 0o644
+                archive.addfile(info, io.BytesIO(data))
+    return sdist_name()

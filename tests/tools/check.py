@@ -10,8 +10,9 @@ It does this, in this order:
    program `hq`).
 3. It runs the checks of tests/checks, the comparisons with the second definitions of tests/second_definitions, and the
    callers of tests/must-not-compile.
+4. Where nothing failed, it leaves a record of that for `./release` in out/gate-passed.json (tests/tools/passed.py).
 
-`check --rows` leaves out the gate. `check --quick` leaves it out, too, and builds the programs without proofs: it needs nothing that
+`check --rows` leaves out the gate and the record. `check --quick` leaves them out, too, and builds the programs without proofs: it needs nothing that
 was built before, and leaves out the library for C with the package for Python, which are built of what was proved, the programs
 of crates/examples, and the callers of tests/must-not-compile. `check --edits` tries the must-fail edits, too, that were refused before over the same files, and then
 writes tests/must-fail/refused.txt, where it finds them the next time. What an earlier run on this machine showed of the same files is kept; `check --anew`
@@ -57,11 +58,13 @@ import in_place  # noqa: E402
 import line_lengths  # noqa: E402
 import minutes  # noqa: E402
 import options  # noqa: E402
+import passed as record  # noqa: E402
 import paths  # noqa: E402
 import pictures  # noqa: E402
 import programs  # noqa: E402
 import reference  # noqa: E402
 import refusals  # noqa: E402
+import releases  # noqa: E402
 import standard  # noqa: E402
 import standard_parsing  # noqa: E402
 import standard_rules  # noqa: E402
@@ -83,6 +86,7 @@ class Clock:
 
     def __init__(self):
         self.parts, self.begun = [], time.monotonic()
+        self.last_lines = []  # of the gate
 
     def note(self, part, wall, processor):
         self.parts.append((part, wall, processor))
@@ -147,6 +151,7 @@ def gate(clock):
         sys.stdout.write(line)
         sys.stdout.flush()
         last = line.strip() or last
+        clock.last_lines = [*clock.last_lines[-9:], line.rstrip()]
     _, status, of_gate = os.wait4(ran.pid, 0)
     ran.returncode = os.waitstatus_to_exitcode(status)
     if ran.returncode == 0:
@@ -303,13 +308,14 @@ def main():
     # (by default the prover returns its memory to the system again and again, which takes 2 % of its time)
     os.environ.setdefault("MIMALLOC_PURGE_DELAY", "-1")
     clock, is_quick = Clock(), "--quick" in sys.argv
+    sources = None if is_quick or "--rows" in sys.argv else record.begin()
     UNPROVED.update(("dq", "hq") if is_quick else ())
     with ThreadPoolExecutor(1) as pool:
         building = pool.submit(clock.timed, "building without proofs", built_unproved)
         counts, edits_left = (None, lambda: (0, 0)) if is_quick or "--rows" in sys.argv else gate(clock)
     built_well = building.result()
     tables = [rows, cleaned, followed, asked_each_way]
-    tables += [] if is_quick else [c_and_python.c_and_python]
+    tables += [] if is_quick else [c_and_python.c_and_python, releases.releases]
     tables += [documents.documents, reference.reference, options.options, standard.standard]
     tables += [standard_rules.checked, standard_parsing.checked, standard_trees.checked, wrong_bodies, line_lengths.line_lengths, coverage.coverage]
     tables += [entries_of_tables.tables, hostile.hostile, decoded, pictures.checked]
@@ -327,6 +333,8 @@ def main():
     clock.note("all", time.monotonic() - clock.begun, used())
     clock.show()
     passed, failed = (sum(column) for column in zip(*counts))
+    if not failed and not rows_alone:
+        record.write(sources, clock.last_lines, f"{passed} passed, {failed} failed")
     print(f"{passed} passed, {failed} failed")
     return 1 if failed else 0
 
