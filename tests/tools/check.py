@@ -333,7 +333,7 @@ def main():
     clock.note("all", time.monotonic() - clock.begun, used())
     clock.show()
     passed, failed = (sum(column) for column in zip(*counts))
-    if not failed and not rows_alone:
+    if not failed and sources is not None:
         record.write(sources, clock.last_lines, f"{passed} passed, {failed} failed")
     print(f"{passed} passed, {failed} failed")
     return 1 if failed else 0
