@@ -42,7 +42,7 @@ LIMITED += [("queries", line) for line in (b"places", b"select p b", b"selection
 PARAGRAPH, PARAGRAPHS = b"<p class='a'>text that a node keeps apart, for it is long<b>b</b></p>", 1_000
 # Address spaces differ by whole pages. The heap grows by pages too, so that a small request is refused where the space ends.
 PAGE, BELOW, ABOVE = 4096, 64, 4
-LEAST, MOST = 1 << 20, 1 << 24
+LEAST, MOST = 1 << 20, 1 << 26
 BY_PAGES = {"GLIBC_TUNABLES": "glibc.malloc.top_pad=0"}
 # Groups of calls whose second word names the call.
 NAMED = {b"move", b"make", b"change", b"copy", b"sink-make", b"sink-put", b"sink-change"}
