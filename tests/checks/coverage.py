@@ -13,6 +13,7 @@ answers is compared by the rows of tests/; this finds only that it is made.
 Of the other public functions of the crates, but for laws, it finds that something calls one of that name, in a library too."""
 import collections
 import dataclasses
+import functools
 import pathlib
 import re
 import sys
@@ -26,7 +27,6 @@ ROOTS = ("callers", "examples", "dq", "hq", "hq_pages")
 # Public functions that no program calls, with the reason. One that a program calls is a fault here.
 UNCALLED = {
     ("Tree", "move_allowed"): "its caller proves that the move is allowed, which only tree construction (page_trees) does",
-    ("", "plain_trees_are_built"): "a law: it has no body",
 }
 # Comments, strings, characters, and imports of specs.
 BLANK = re.compile(r'//[^\n]*|"(?:\\.|[^"\\])*"|\'(?:\\[^\']+|[^\'\\])\'|\bghost use [^;]*;', re.S)
@@ -152,9 +152,10 @@ def body_at(text, at):
     return None
 
 
+@functools.lru_cache(maxsize=None)
 def functions_of(file):
     """The functions of a file."""
-    text = source_of(file)
+    text, functions = source_of(file), []
     blocks = list(blocks_of(text))
     for found in FUNCTION.finditer(text):
         _, _, block, owners = next((it for it in reversed(blocks) if it[0] <= found.start() < it[1]), (0, 0, "", ()))
@@ -163,7 +164,8 @@ def functions_of(file):
         arrow = re.match(r"\s*->\s*", text[close:])
         result = re.split(r"[{;]", CLAUSE.split(text[close:])[0])[0].strip()[2:] if arrow else ""
         params = parts_of(text[found.end() : close - 1])
-        yield Function(owners, block, bool(found[1]), found[2], bounds, params, result, body_at(text, close))
+        functions.append(Function(owners, block, bool(found[1]), found[2], bounds, params, result, body_at(text, close)))
+    return functions
 
 
 class Known:
@@ -394,6 +396,11 @@ def calls_of(program, known):
                     yield whose, name
 
 
+def is_law(file, function):
+    """Whether a function is a law: it has an empty body, or calls laws alone, as those in a crate or a module of that name do."""
+    return function.body is not None and not function.body.strip("{} \n") or any(part.endswith("laws") for part in file.with_suffix("").parts)
+
+
 def programs():
     """The files of each program, and of each part of the test program with what the parts share."""
     files = {name: sorted((CRATES / name / "src").rglob("*.rt")) for name in ROOTS}
@@ -411,7 +418,7 @@ def uncalled_below(libraries, others, names):
     below = set()
     for file, function in every:
         owner = function.owners[-1] if function.owners else ""
-        is_own = function.is_public and len(function.owners) < 2 and not any(part.endswith("laws") for part in file.with_suffix("").parts)
+        is_own = function.is_public and len(function.owners) < 2 and not is_law(file, function)
         if is_own and (owner or function.name) not in names:
             below.add((owner, function.name))
     return below, {(owner, name) for owner, name in below if name not in called}
