@@ -16,11 +16,15 @@ LOG = ROOT / "out" / "install.log"
 MOST = 9  # the minutes behind which a line says again that a proof is still going on
 
 
-def named():
-    """What crates.txt says: the crates that each crate names."""
+def listed():
+    """The lines of crates.txt: the name of each crate with its kind, and the crates that it names."""
     lines = (ROOT / "crates.txt").read_text(encoding="utf-8").splitlines()
-    pairs = [line.split(":", 1) for line in lines if ":" in line and not line.startswith("#")]
-    return {name.split()[0]: uses.split() for name, uses in pairs}
+    return [line.split(":", 1) for line in lines if ":" in line and not line.startswith("#")]
+
+
+def named():
+    """The crates that each crate names."""
+    return {head.split()[0]: uses.split() for head, uses in listed()}
 
 
 def in_order(names, uses):
@@ -44,8 +48,8 @@ def made_of(name):
     folder = ROOT / "crates" / name
     if (folder / "src" / "main.rt").exists():
         return folder / "out" / name
-    stamp = folder / "out" / "rlib" / "stamp"
-    return folder / "out" / f"lib{name}.a" if name == "dom_query_c" else stamp
+    is_archive = any(head.split() == [name, "staticlib"] for head, _ in listed())
+    return folder / "out" / f"lib{name}.a" if is_archive else folder / "out" / "rlib" / "stamp"
 
 
 def spoken(seconds):
