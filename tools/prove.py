@@ -76,7 +76,7 @@ def proved(name, head, log):
     """Proves a crate, and returns whether it is proved and a word on it. Ctrl-C stops `rt`, which keeps what it has."""
     program = (ROOT / "crates" / name / "src" / "main.rt").exists()
     words = ["rt", "run", "--", "--help"] if program else ["rt", "lib"]
-    made, begun, at = made_of(name), time.monotonic(), time.time()
+    made, begun, at, start = made_of(name), time.monotonic(), time.time(), LOG.stat().st_size
     child = subprocess.Popen(words, cwd=ROOT / "crates" / name, stdin=subprocess.DEVNULL, stdout=log, stderr=log)
     try:
         status = wait(child, begun, head)
@@ -87,8 +87,9 @@ def proved(name, head, log):
         raise
     if sys.stdout.isatty():
         print("\r\033[K", end="")
-    # (a program's own status on --help doesn't matter)
-    if not made.exists() or (status and not program):
+    # (a program is run only once it is proved, and then its own status doesn't matter)
+    is_proved = f"rt: running out/{name};".encode() in LOG.read_bytes()[start:] if program else status == 0
+    if not is_proved or not made.exists():
         return False, "not proved"
     kept = made.stat().st_mtime < at - 1
     return True, "proved before" if kept else f"proved in {spoken(time.monotonic() - begun)}"
