@@ -16,11 +16,15 @@ LOG = ROOT / "out" / "install.log"
 MOST = 9  # the minutes behind which a line says again that a proof is still going on
 
 
-def named():
-    """What crates.txt says: the crates that each crate names."""
+def listed():
+    """The lines of crates.txt: the name of each crate with its kind, and the crates that it names."""
     lines = (ROOT / "crates.txt").read_text(encoding="utf-8").splitlines()
-    pairs = [line.split(":", 1) for line in lines if ":" in line and not line.startswith("#")]
-    return {name.split()[0]: uses.split() for name, uses in pairs}
+    return [line.split(":", 1) for line in lines if ":" in line and not line.startswith("#")]
+
+
+def named():
+    """The crates that each crate names."""
+    return {head.split()[0]: uses.split() for head, uses in listed()}
 
 
 def in_order(names, uses):
@@ -44,8 +48,8 @@ def made_of(name):
     folder = ROOT / "crates" / name
     if (folder / "src" / "main.rt").exists():
         return folder / "out" / name
-    stamp = folder / "out" / "rlib" / "stamp"
-    return folder / "out" / f"lib{name}.a" if name == "dom_query_c" else stamp
+    is_archive = any(head.split() == [name, "staticlib"] for head, _ in listed())
+    return folder / "out" / f"lib{name}.a" if is_archive else folder / "out" / "rlib" / "stamp"
 
 
 def spoken(seconds):
@@ -72,7 +76,7 @@ def proved(name, head, log):
     """Proves a crate, and returns whether it is proved and a word on it. Ctrl-C stops `rt`, which keeps what it has."""
     program = (ROOT / "crates" / name / "src" / "main.rt").exists()
     words = ["rt", "run", "--", "--help"] if program else ["rt", "lib"]
-    made, begun, at = made_of(name), time.monotonic(), time.time()
+    made, begun, at, start = made_of(name), time.monotonic(), time.time(), LOG.stat().st_size
     child = subprocess.Popen(words, cwd=ROOT / "crates" / name, stdin=subprocess.DEVNULL, stdout=log, stderr=log)
     try:
         status = wait(child, begun, head)
@@ -83,8 +87,9 @@ def proved(name, head, log):
         raise
     if sys.stdout.isatty():
         print("\r\033[K", end="")
-    # (a program's own status on --help doesn't matter)
-    if not made.exists() or (status and not program):
+    # (a program is run only once it is proved, and then its own status doesn't matter)
+    is_proved = f"rt: running out/{name};".encode() in LOG.read_bytes()[start:] if program else status == 0
+    if not is_proved or not made.exists():
         return False, "not proved"
     kept = made.stat().st_mtime < at - 1
     return True, "proved before" if kept else f"proved in {spoken(time.monotonic() - begun)}"

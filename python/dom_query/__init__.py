@@ -46,4 +46,4 @@ __all__ = [
     "parse_fragment",
     "parse_strict",
 ]
-__version__ = "0.1.0"
+__version__ = "1.0.0"

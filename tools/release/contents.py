@@ -17,7 +17,7 @@ from archives import Entry, gz, tar
 from kit import ROOT, Stop
 
 MULTIARCH = "usr/lib/x86_64-linux-gnu"
-README = """hq and dq {version} for Linux on x86-64, with glibc {glibc} or later
+README = """hq and dq {version} for Linux on x86-64-v2, with glibc {glibc} or later
 
   bin/hq      prints what a CSS selector matches in pages of the web: bin/hq --text h1 page.html, or bin/hq --help
   bin/dq      runs a script over explicit markup
@@ -26,7 +26,7 @@ README = """hq and dq {version} for Linux on x86-64, with glibc {glibc} or later
 Copy bin and share to {home}, say, and hq, dq, their manuals and the completions for bash and zsh are found. Nothing else is needed.
 PROVED.txt says which sources and which prover stand behind the programs, LICENSES.txt what is linked in.
 """
-README_C = """libdom_query {version} for Linux on x86-64, with glibc {glibc} or later: HTML documents for C
+README_C = """libdom_query {version} for Linux on x86-64-v2, with glibc {glibc} or later: HTML documents for C
 
   PKG_CONFIG_PATH=$PWD/lib/pkgconfig; export PKG_CONFIG_PATH
   gcc -o links share/doc/libdom_query/examples/links.c $(pkg-config --cflags --libs dom_query) -Wl,-rpath,$PWD/lib

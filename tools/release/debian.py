@@ -17,7 +17,7 @@ strangers by a policy, and reads the archives of crawls (WARC). dq runs a
 script over explicit markup.
 .
 That no call panics, that every call ends, and what selectors, edits and
-the cleaner do is proved.""",
+the cleaner do is proved. A processor of x86-64-v2 (SSE 4.2) is needed.""",
     ),
     "libdom-query0": (
         "HTML documents: CSS selectors, edits, HTML, Markdown and text",
@@ -26,7 +26,7 @@ selectors, changes them, cleans HTML from strangers by a policy, and writes
 HTML, Markdown or text.
 .
 That no call panics, that every call ends, and what selectors, edits and
-the cleaner do is proved.""",
+the cleaner do is proved. A processor of x86-64-v2 (SSE 4.2) is needed.""",
     ),
     "libdom-query-dev": (
         "HTML documents: CSS selectors and edits, files for C programs",
