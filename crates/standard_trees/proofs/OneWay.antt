@@ -24,8 +24,8 @@ step_more : (d e n m : ℕ) → BelowIn (run d) (run e) → ((p : Parser) (c : B
 unfolding parsed
 step_more d e n m deeper below p c h =
     then_below (behind (parsed d n) (step_of p)) (behind (parsed e m) (step_of p)) (λ x y k. behind_below (parsed d n) (parsed e m) below (step_of p) x y k)
-      (tree_steps d (record p.building { tokenizer = None }) (step_of p).tokens) (tree_steps e (record p.building { tokenizer = None }) (step_of p).tokens)
-      (λ x k. steps_below d e deeper (step_of p).tokens (record p.building { tokenizer = None }) x k) c h
+    (tree_steps d (record p.building { tokenizer = None }) (step_of p).tokens) (tree_steps e (record p.building { tokenizer = None }) (step_of p).tokens)
+    (λ x k. steps_below d e deeper (step_of p).tokens (record p.building { tokenizer = None }) x k) c h
 
 no_steps : (d : ℕ) (p : Parser) (c : Building) → parsed d zero p ≡ Some c → ⊥
 unfolding parsed

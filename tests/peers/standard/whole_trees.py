@@ -1,7 +1,7 @@
 """Trees by docs/standard/tree_construction.txt (tests/standard/trees/construction.py) beside those of others, outside the gate:
 
     whole_trees.py rows                     adds to tests/standard/trees/rows.jsonl the trees that Chromium and Firefox have, and parse5 with scripting
-    whole_trees.py browsers COUNT SEED      random soups, without scripting, by Chromium and Firefox
+    whole_trees.py browsers COUNT SEED      random soups, without scripting, by Chromium and Firefox; left out are those of `is_asked`
     whole_trees.py parse5 COUNT SEED        random soups by parse5 (NODE_PATH: a copy that mend_trees.py made); left out are those with `select` and
                                             what stands in it, whose rules are newer than parse5 7.1.2, and with `search`, which it does not know
     whole_trees.py seeds COUNT SEED..       the digests of soups for tests/standard/trees/soups.jsonl, where parse5 has the same trees
@@ -81,12 +81,19 @@ def parse5(count, seed):
                 short = shrunk(differ, text)
                 peer = by_parse5([[short, context, scripting]])[0]
                 print("DIFFERS", repr(short), context, scripting, *by_rules(short, context, scripting), "parse5", *peer, sep="\n", flush=True)
-    print(dict(seen))
+        print(dict(seen), flush=True)
+
+
+def is_asked(test):
+    """Browsers and the Standard agree on such texts: Chromium makes processing instructions, Firefox takes `noscript` as with scripting in a
+    fragment, and both drop null characters where a fragment is the text of an element."""
+    text, context, _ = test
+    return "<?" not in text and "noscript" not in text + (context or "") and not ("\0" in text and context)
 
 
 def browsers(count, seed):
     seen = collections.Counter()
-    for batch in test_soups(random.Random(seed), count, lambda t: True):
+    for batch in test_soups(random.Random(seed), count, is_asked):
         batch = [(text, context, False) for text, context, _ in batch]
         own = [by_rules(*test)[0] for test in batch]
         peers = {browser: by_browser(browser, batch) for browser in ("chromium", "firefox")}
