@@ -2,7 +2,7 @@
 use Rattle.std.specs.Prelude.{◌≡◌, ℕ, zero, suc, Bool, true, false, ◌&&◌, List, [], ◌∷◌, reverse, Option, None, Some, option_map, refl}
 use Rattle.std.specs.List.{list_all}
 use Rattle.std.specs.Option.{option_and_then}
-use mathlib.Core.Path.{◌∙◌, sym, ap}
+use mathlib.Core.Path.{◌∙◌, ap}
 use Rattle.standard_tokens.specs.Tokens.{Token, AChar}
 use Rattle.standard_trees.specs.Building.{Building, each_char, gone, is_line_feed, is_met, perform, performed, run, taken, tree_step, tree_steps}
 use Rattle.standard_trees.specs.Building.{with_next, with_token}

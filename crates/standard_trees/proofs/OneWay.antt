@@ -1,9 +1,8 @@
 -- Parsing has one result at most: more steps and a greater depth change nothing.
-use Rattle.std.specs.Prelude.{◌≡◌, ℕ, zero, suc, Bool, true, false, List, Option, None, Some, option_map, refl}
-use Rattle.std.specs.Option.{option_and_then}
+use Rattle.std.specs.Prelude.{◌≡◌, ℕ, zero, suc, Bool, true, false, Option, None, Some, option_map, refl}
 use Rattle.std.proofs.lemmas.Option.{same_Some}
 use mathlib.Core.Path.{◌∙◌, sym, ap}
-use Rattle.standard_tokens.specs.Machine.{Step, step}
+use Rattle.standard_tokens.specs.Machine.{Step}
 use Rattle.standard_trees.specs.Building.{Building, run, tree_steps}
 use Rattle.standard_trees.specs.Laws.{DocumentsAreParsedOneWay, FragmentsAreParsedOneWay, FunctionsParse}
 use Rattle.standard_trees.specs.Parsing.{Parser, after_step, behind, document_of, fragment_parser, nodes_of, page_parser, parsed, step_of}

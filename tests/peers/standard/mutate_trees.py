@@ -1,6 +1,7 @@
-"""mutate_trees.py LIMIT SOUPS: leaves one thing out of docs/standard/tree_construction.txt at a time (a rule, an action, a condition of a rule or of
+"""mutate_trees.py LIMIT SOUPS [LIST]: leaves one thing out of docs/standard/tree_construction.txt at a time (a rule, an action, a condition of a rule or of
 an action, a name of a pattern) and lists the changes that no text shows. The texts are the rows of tests/standard/trees, html5lib's
-tests, the rows of `hq`, and so many random soups; of those that take a rule about LIMIT are tried."""
+tests, the rows of `hq`, and so many random soups; of those that take a rule about LIMIT are tried. With a file of such a list only its
+changes are tried again."""
 import collections
 import json
 import pathlib
@@ -51,12 +52,12 @@ def sample(rng, items, count):
     return items if len(items) <= count else rng.sample(items, count)
 
 
-def main(limit, count):
+def main(limit, count, again=None):
     sys.setrecursionlimit(1500)
     rows = (ROOT / "tests" / "standard" / "trees" / "rows.jsonl").read_text(encoding="utf-8").splitlines()
     tests = [(row["text"], row["context"], row["scripting"]) for row in map(json.loads, rows)]
     tests += choose_rows.candidates(0)
-    rng = random.Random(7)
+    rng = random.Random(7 if again is None else 8)
     tests += [soups.test(rng) for _ in range(count)]
     takers, right = collections.defaultdict(list), {}
     for i, test in enumerate(tests):
@@ -69,6 +70,9 @@ def main(limit, count):
         for index, r in enumerate(list(rules)):
             own = takers[mode, index]
             for what, new in changes(r):
+                line = f"{mode}: {r.line[:110]}: {what}"
+                if again is not None and line not in again:
+                    continue
                 word = what.split()[-1].strip("'[](),")
                 some = own[:8] + [i for i in own if word in tests[i][0]][:limit] + sample(rng, own, limit)
                 if "without" in what or "condition" in what:  # texts that take a later rule of the mode, too
@@ -82,9 +86,9 @@ def main(limit, count):
                     rules[index] = r
                 counts["shown" if shown else "not shown"] += 1
                 if not shown:
-                    print(f"{mode}: {r.line[:110]}: {what}", flush=True)
+                    print(line, flush=True)
     print(dict(counts))
 
 
 if __name__ == "__main__":
-    main(*map(int, sys.argv[1:]))
+    main(int(sys.argv[1]), int(sys.argv[2]), *(set(pathlib.Path(file).read_text(encoding="utf-8").splitlines()) for file in sys.argv[3:]))
