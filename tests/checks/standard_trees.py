@@ -77,7 +77,7 @@ def random_soups():
     """Random soups by their seeds."""
     for line in SOUPS.read_text(encoding="utf-8").splitlines():
         row = json.loads(line)
-        tests = soups.seeded(row["seed"], row["count"])
+        tests = soups.seeded(row["seed"], row["count"], row.get("selects", False))
         yield soups.digest(tests) == row["digest"], f"the soups of seed {row['seed']} have other trees"
 
 
