@@ -16,6 +16,7 @@ import soups  # noqa: E402
 from whole_parsing import by_rules  # noqa: E402
 
 ROWS = ROOT / "tests" / "standard" / "trees" / "rows.jsonl"
+FRAGMENTS = ROOT / "tests" / "standard" / "trees" / "fragments.jsonl"
 SOUPS = ROOT / "tests" / "standard" / "trees" / "soups.jsonl"
 
 # rules that no token comes to: in these modes such an element is always in table scope
@@ -37,7 +38,8 @@ OLDER_SELECT = {
 def made():
     """The files of the crate that are not what is made."""
     for path, text in definition.targets().items():
-        yield path.read_text(encoding="utf-8") == text, f"{path.relative_to(ROOT)} is not what tests/standard/trees/definition.py makes"
+        same = definition.without_layout(path.read_text(encoding="utf-8")) == definition.without_layout(text)
+        yield same, f"{path.relative_to(ROOT)} is not what tests/standard/trees/definition.py makes"
 
 
 def rows():
@@ -47,6 +49,11 @@ def rows():
         row = json.loads(line)
         tree = by_rules(row["text"], row["context"], row["scripting"])[0]
         yield tree == row["tree"] and row["by"], f"tests/standard/trees/rows.jsonl, line {number}: the rules give\n{tree}"
+    for number, line in enumerate(FRAGMENTS.read_text(encoding="utf-8").splitlines(), 1):
+        row = json.loads(line)
+        around = {key: row[key] for key in ("attrs", "in_form", "quirks")}
+        tree = by_rules(row["text"], row["context"], False, **around)[0]
+        yield tree == row["tree"], f"tests/standard/trees/fragments.jsonl, line {number}: the rules give\n{tree}"
     for mode, rules in construction.MODES.items():
         for i, rule in enumerate(rules):
             never = (mode, rule.line) in NEVER_TAKEN
@@ -70,7 +77,7 @@ def random_soups():
     """Random soups by their seeds."""
     for line in SOUPS.read_text(encoding="utf-8").splitlines():
         row = json.loads(line)
-        tests = soups.seeded(row["seed"], row["count"])
+        tests = soups.seeded(row["seed"], row["count"], row.get("selects", False))
         yield soups.digest(tests) == row["digest"], f"the soups of seed {row['seed']} have other trees"
 
 

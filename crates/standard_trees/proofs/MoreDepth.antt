@@ -2,7 +2,7 @@
 use Rattle.std.specs.Prelude.{◌≡◌, ℕ, zero, suc, Bool, true, false, ◌&&◌, List, [], ◌∷◌, reverse, Option, None, Some, option_map, refl}
 use Rattle.std.specs.List.{list_all}
 use Rattle.std.specs.Option.{option_and_then}
-use mathlib.Core.Path.{◌∙◌, sym, ap}
+use mathlib.Core.Path.{◌∙◌, ap}
 use Rattle.standard_tokens.specs.Tokens.{Token, AChar}
 use Rattle.standard_trees.specs.Building.{Building, each_char, gone, is_line_feed, is_met, perform, performed, run, taken, tree_step, tree_steps}
 use Rattle.standard_trees.specs.Building.{with_next, with_token}
@@ -25,7 +25,7 @@ each_below : (again other : Building → Option Building) → Below again other 
 each_below again other below [] b c h = h
 each_below again other below (d ∷ cs) b c h =
     then_below (each_char again cs) (each_char other cs) (each_below again other below cs) (again (with_token (AChar d) [] b))
-      (other (with_token (AChar d) [] b)) (λ x e. below (with_token (AChar d) [] b) x e) c h
+    (other (with_token (AChar d) [] b)) (λ x e. below (with_token (AChar d) [] b) x e) c h
 
 map_below : (f : Building → Building) (o p : Option Building) → ((x : Building) → o ≡ Some x → p ≡ Some x) → (c : Building) →
     option_map f o ≡ Some c → option_map f p ≡ Some c
@@ -38,7 +38,7 @@ gone_below again other below UseCurrentMode b c h = below b.mode b c h
 gone_below again other below (Use mode) b c h = below mode b c h
 gone_below again other below (UseForEachPending mode) b c h =
     map_below (with_token b.token b.attrs) (each_char (again mode) (reverse b.pending) b) (each_char (other mode) (reverse b.pending) b)
-      (λ x e. each_below (again mode) (other mode) (below mode) (reverse b.pending) b x e) c h
+    (λ x e. each_below (again mode) (other mode) (below mode) (reverse b.pending) b x e) c h
 
 pub performed_below : (again other : Mode → Building → Option Building) → BelowIn again other → (acts : List Act) →
     Below (performed again acts) (performed other acts)
@@ -47,7 +47,7 @@ performed_below again other below (does action tests ∷ acts) b c h =
     performed_below again other below acts (elim (list_all (is_met b) tests) [ true ↦ perform action b | false ↦ b ]) c h
 performed_below again other below (goes way ∷ acts) b c h =
     then_below (performed again acts) (performed other acts) (performed_below again other below acts) (gone again way b) (gone other way b)
-      (λ x e. gone_below again other below way b x e) c h
+    (λ x e. gone_below again other below way b x e) c h
 
 -- ---- sums of bounds
 
@@ -83,4 +83,4 @@ pub steps_below : (d e : ℕ) → BelowIn (run d) (run e) → (tokens : List Tok
 steps_below d e below [] b c h = h
 steps_below d e below (token ∷ tokens) b c h =
     then_below (λ after. tree_steps d after tokens) (λ after. tree_steps e after tokens) (λ x y k. steps_below d e below tokens x y k)
-      (tree_step d b token) (tree_step e b token) (λ x k. step_below d e below token b x k) c h
+    (tree_step d b token) (tree_step e b token) (λ x k. step_below d e below token b x k) c h

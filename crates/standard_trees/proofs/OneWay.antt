@@ -1,9 +1,8 @@
 -- Parsing has one result at most: more steps and a greater depth change nothing.
-use Rattle.std.specs.Prelude.{◌≡◌, ℕ, zero, suc, Bool, true, false, List, Option, None, Some, option_map, refl}
-use Rattle.std.specs.Option.{option_and_then}
+use Rattle.std.specs.Prelude.{◌≡◌, ℕ, zero, suc, Bool, true, false, Option, None, Some, option_map, refl}
 use Rattle.std.proofs.lemmas.Option.{same_Some}
 use mathlib.Core.Path.{◌∙◌, sym, ap}
-use Rattle.standard_tokens.specs.Machine.{Step, step}
+use Rattle.standard_tokens.specs.Machine.{Step}
 use Rattle.standard_trees.specs.Building.{Building, run, tree_steps}
 use Rattle.standard_trees.specs.Laws.{DocumentsAreParsedOneWay, FragmentsAreParsedOneWay, FunctionsParse}
 use Rattle.standard_trees.specs.Parsing.{Parser, after_step, behind, document_of, fragment_parser, nodes_of, page_parser, parsed, step_of}
@@ -24,8 +23,8 @@ step_more : (d e n m : ℕ) → BelowIn (run d) (run e) → ((p : Parser) (c : B
 unfolding parsed
 step_more d e n m deeper below p c h =
     then_below (behind (parsed d n) (step_of p)) (behind (parsed e m) (step_of p)) (λ x y k. behind_below (parsed d n) (parsed e m) below (step_of p) x y k)
-      (tree_steps d (record p.building { tokenizer = None }) (step_of p).tokens) (tree_steps e (record p.building { tokenizer = None }) (step_of p).tokens)
-      (λ x k. steps_below d e deeper (step_of p).tokens (record p.building { tokenizer = None }) x k) c h
+    (tree_steps d (record p.building { tokenizer = None }) (step_of p).tokens) (tree_steps e (record p.building { tokenizer = None }) (step_of p).tokens)
+    (λ x k. steps_below d e deeper (step_of p).tokens (record p.building { tokenizer = None }) x k) c h
 
 no_steps : (d : ℕ) (p : Parser) (c : Building) → parsed d zero p ≡ Some c → ⊥
 unfolding parsed

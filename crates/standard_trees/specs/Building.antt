@@ -112,9 +112,9 @@ with_space a =
           elim (starts_with nat_eq a.name (codes "xlink:")) [
             | true ↦ record a { space = XLink; name = drop 6 a.name }
             | false ↦ elim (starts_with nat_eq a.name (codes "xml:")) [
-                | true ↦ record a { space = Xml; name = drop 4 a.name }
-                | false ↦ record a { space = XmlNs; name = cond (bytes_eq a.name (codes "xmlns")) a.name (drop 6 a.name) }
-              ]
+              | true ↦ record a { space = Xml; name = drop 4 a.name }
+              | false ↦ record a { space = XmlNs; name = cond (bytes_eq a.name (codes "xmlns")) a.name (drop 6 a.name) }
+            ]
           ]
     ]
 
@@ -137,8 +137,8 @@ is_missing (Some text) = false
 abbrev pub is_quirky : DoctypeToken → Bool
 is_quirky d =
     d.force_quirks || not (option_map_or (bytes_eq (codes "html")) d.name false) || passes is_text d.public_id quirks_public_is ||
-      passes is_text d.system_id quirks_system_is || passes begins d.public_id quirks_public_begins ||
-      (is_missing d.system_id && passes begins d.public_id either_quirks_public_begins)
+    passes is_text d.system_id quirks_system_is || passes begins d.public_id quirks_public_begins ||
+    (is_missing d.system_id && passes begins d.public_id either_quirks_public_begins)
 
 -- "otherwise, set it to limited-quirks mode" for these
 abbrev pub is_half_quirky : DoctypeToken → Bool
@@ -398,12 +398,31 @@ tree_steps depth b (token ∷ more) = option_and_then (λ after. tree_steps dept
 -- before the first token of a page
 abbrev pub empty_tree : GrowingTree
 empty_tree = record {
-    nodes = leaf DocumentNode ∷ []; stack = []; listed = []; head = None; form = NoForm; found = None; fostering = false; context = None }
+  nodes = leaf DocumentNode ∷ [];
+  stack = [];
+  listed = [];
+  head = None;
+  form = NoForm;
+  found = None;
+  fostering = false;
+  context = None;
+}
 
 abbrev pub start : Bool → Building
 start scripting = record {
-    tree = empty_tree; mode = Initial; original = Initial; template_modes = []; frameset_ok = true; scripting = scripting;
-    quirks = NoQuirks; pending = []; skip = false; token = AnEof; attrs = []; tokenizer = None }
+  tree = empty_tree;
+  mode = Initial;
+  original = Initial;
+  template_modes = [];
+  frameset_ok = true;
+  scripting = scripting;
+  quirks = NoQuirks;
+  pending = [];
+  skip = false;
+  token = AnEof;
+  attrs = [];
+  tokenizer = None;
+}
 
 -- the context element of a fragment, with what its document and the elements above it say (13.4)
 pub record Surroundings : Type 0 where
@@ -427,8 +446,10 @@ abbrev pub fragment_start : Bool → Surroundings → Building
 fragment_start scripting around =
     let tree : GrowingTree = inserted_at (EndOf 0) Html (codes "html") [] empty_tree in
     reset (record (start scripting) {
-        tree = record tree { form = form_of around; context = Some (context_of around) }; quirks = around.quirks;
-        template_modes = cond (is_template around.space around.name) (InTemplate ∷ []) [] })
+      tree = record tree { form = form_of around; context = Some (context_of around) };
+      quirks = around.quirks;
+      template_modes = cond (is_template around.space around.name) (InTemplate ∷ []) [];
+    })
 
 -- the children of a node of the tree
 abbrev pub children_at : GrowingTree → ℕ → Trees

@@ -209,9 +209,9 @@ adopted_for (Some formatting) name again t =
     elim (is_member formatting t.stack) [
       | false ↦ unlisted formatting t
       | true ↦ elim (in_scope (nat_eq formatting) (ends_scope Scope t) t.stack) [
-          | false ↦ t
-          | true ↦ adopted_once formatting (last_special t None (before_in formatting t.stack)) again t
-        ]
+        | false ↦ t
+        | true ↦ adopted_once formatting (last_special t None (before_in formatting t.stack)) again t
+      ]
     ]
 
 -- the outer loop: "if outer loop counter is greater than or equal to 8, then return"

@@ -145,9 +145,9 @@ foster_place t (n ∷ m ∷ ns) =
     elim (is_one t (codes "template" ∷ []) n) [
       | true ↦ EndOf n
       | false ↦ elim (is_one t (codes "table" ∷ []) n) [
-          | true ↦ elim (parent_of t.nodes n) [ Some p ↦ Before p n | None ↦ EndOf m ]
-          | false ↦ foster_place t (m ∷ ns)
-        ]
+        | true ↦ elim (parent_of t.nodes n) [ Some p ↦ Before p n | None ↦ EndOf m ]
+        | false ↦ foster_place t (m ∷ ns)
+      ]
     ]
 
 -- "if the adjusted insertion location is inside a template element, let it instead be inside the template element's template contents,
@@ -260,7 +260,7 @@ has_value name values attrs = option_map_or (λ value. is_among (lower value) va
 abbrev pub is_html_point : Kind → Bool
 is_html_point kind =
     is_named html_points kind ||
-      (is_named (codes "math annotation-xml" ∷ []) kind && has_value (codes "encoding") html_encodings (attrs_in kind))
+    (is_named (codes "math annotation-xml" ∷ []) kind && has_value (codes "encoding") html_encodings (attrs_in kind))
 
 -- an element that is neither a MathML text integration point, nor an HTML integration point, nor in the HTML namespace
 abbrev pub is_foreign : GrowingTree → ℕ → Bool

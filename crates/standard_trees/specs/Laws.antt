@@ -18,5 +18,5 @@ FragmentsAreParsedOneWay = (scripting : Bool) (around : Surroundings) (text : Li
 abbrev pub FunctionsParse : Type 0
 FunctionsParse =
     ((scripting : Bool) (text : List ℕ) (document : Document) → parse scripting text ≡ Some document → IsDocumentOf scripting text document) ×
-      ((scripting : Bool) (around : Surroundings) (text : List ℕ) (nodes : Trees) →
-        parse_fragment scripting around text ≡ Some nodes → IsFragmentOf scripting around text nodes)
+    ((scripting : Bool) (around : Surroundings) (text : List ℕ) (nodes : Trees) →
+    parse_fragment scripting around text ≡ Some nodes → IsFragmentOf scripting around text nodes)

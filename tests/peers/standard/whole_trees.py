@@ -1,10 +1,11 @@
 """Trees by docs/standard/tree_construction.txt (tests/standard/trees/construction.py) beside those of others, outside the gate:
 
     whole_trees.py rows                     adds to tests/standard/trees/rows.jsonl the trees that Chromium and Firefox have, and parse5 with scripting
-    whole_trees.py browsers COUNT SEED      random soups, without scripting, by Chromium and Firefox
+    whole_trees.py browsers COUNT SEED      random soups, without scripting, by Chromium and Firefox; left out are those of `is_asked`
     whole_trees.py parse5 COUNT SEED        random soups by parse5 (NODE_PATH: a copy that mend_trees.py made); left out are those with `select` and
                                             what stands in it, whose rules are newer than parse5 7.1.2, and with `search`, which it does not know
     whole_trees.py seeds COUNT SEED..       the digests of soups for tests/standard/trees/soups.jsonl, where parse5 has the same trees
+    whole_trees.py selects COUNT SEED..     the same of soups with `select`, where Chromium and Firefox have the same trees
 
 Texts that differ are printed, made shorter. tests/peers/browsers/ask.py says how browsers are asked."""
 import collections
@@ -81,12 +82,19 @@ def parse5(count, seed):
                 short = shrunk(differ, text)
                 peer = by_parse5([[short, context, scripting]])[0]
                 print("DIFFERS", repr(short), context, scripting, *by_rules(short, context, scripting), "parse5", *peer, sep="\n", flush=True)
-    print(dict(seen))
+        print(dict(seen), flush=True)
+
+
+def is_asked(test):
+    """Browsers and the Standard agree on such texts: Chromium makes processing instructions, Firefox takes `noscript` as with scripting in a
+    fragment, and both drop null characters where a fragment is the text of an element."""
+    text, context, _ = test
+    return "<?" not in text and "noscript" not in text + (context or "") and not ("\0" in text and context)
 
 
 def browsers(count, seed):
     seen = collections.Counter()
-    for batch in test_soups(random.Random(seed), count, lambda t: True):
+    for batch in test_soups(random.Random(seed), count, is_asked):
         batch = [(text, context, False) for text, context, _ in batch]
         own = [by_rules(*test)[0] for test in batch]
         peers = {browser: by_browser(browser, batch) for browser in ("chromium", "firefox")}
@@ -125,11 +133,23 @@ def seeds(count, every):
             print(json.dumps({"seed": seed, "count": count, "digest": soups.digest(tests)}))
 
 
+def selects(count, every):
+    for seed in every:
+        tests = soups.seeded(seed, count, True)
+        own = [by_rules(*one)[0] for one in tests]
+        peers = {browser: by_browser(browser, tests) for browser in ("chromium", "firefox")}
+        other = [(one, *(peers[browser][i] for browser in peers)) for i, one in enumerate(tests) if any(own[i] != trees[i] for trees in peers.values())]
+        for one in other:
+            print(*one, sep="\n", file=sys.stderr)
+        if not other:
+            print(json.dumps({"seed": seed, "count": count, "selects": True, "digest": soups.digest(tests)}), flush=True)
+
+
 if __name__ == "__main__":
     what, *numbers = sys.argv[1:]
     if what == "rows":
         rows()
-    elif what == "seeds":
-        seeds(int(numbers[0]), map(int, numbers[1:]))
+    elif what in ("seeds", "selects"):
+        {"seeds": seeds, "selects": selects}[what](int(numbers[0]), map(int, numbers[1:]))
     else:
         {"parse5": parse5, "browsers": browsers}[what](*map(int, numbers))

@@ -1,7 +1,7 @@
 """What is made for the crate standard_trees of docs/standard/tree_construction.txt: specs/NameLists.antt and specs/QuirksTexts.antt, the lists of
-names and texts; specs/TreeRules.antt, the rules and the two tables; and of rows.jsonl specs/Examples.antt, pages with the trees that
-construction.py gives, and proofs/ExamplesComputed.antt, in which the prover computes them. Run as a program it writes them;
-tests/checks/standard_trees.py makes them anew and compares."""
+names and texts; specs/TreeRules.antt, the rules and the two tables; and of rows.jsonl and fragments.jsonl specs/Examples.antt, pages and fragments
+with the trees that construction.py gives, and proofs/ExamplesComputed.antt, in which the prover computes them. Run as a program it writes them;
+`rt fmt` in the crate lays them out; tests/checks/standard_trees.py makes them anew and compares."""
 import json
 import pathlib
 import re
@@ -92,16 +92,21 @@ def act(a, when):
     return f"does {action(a)} {tests(when)}"
 
 
-def folded(text, indent):
-    """The text in lines of at most WIDTH columns, the first as it is and the others indented, cut at spaces outside of strings."""
+def folded(text, indent, cut=r"(?<=∷) "):
+    """The text in lines of at most WIDTH columns, the first as it is and the others indented, cut at places that fit."""
     lines, line = [], ""
-    for word in re.findall(r' *(?:"[^"]*"|[^ "])+', text):
-        if line and len(line) + len(word) > WIDTH:
+    for piece in re.split(cut, text):
+        if line and len(line) + 1 + len(piece) > WIDTH:
             lines.append(line)
-            line = indent + word.strip()
+            line = indent + piece
         else:
-            line += word
+            line = f"{line} {piece}" if line else piece
     return [*lines, line]
+
+
+def without_layout(text):
+    """What `rt fmt` leaves of a text: it chooses line breaks and white space, and closes lists that it breaks with a comma or semicolon."""
+    return re.sub("[,;]}", "}", re.sub(r"\s", "", text))
 
 
 def comment(text, indent=""):
@@ -110,7 +115,7 @@ def comment(text, indent=""):
 
 def uses(body, modules):
     """Lines that import the words of a text: (module, words of that module)."""
-    plain = re.sub(r'codes "[^"]*"|--.*', "", body)
+    plain = re.sub(r'codes "[^"]*"', "codes", re.sub("--.*", "", body))
     found = set(re.findall(r"[^\s(){}.,;\[\]]+", plain))
     lines = []
     for module, words in modules:
@@ -211,21 +216,30 @@ def trees(siblings):
     return f"({t[0]}_tree {codes(t[1])} {later})"
 
 
+MODES_OF_QUIRKS = {"no-quirks": "NoQuirks", "limited-quirks": "LimitedQuirks", "quirks": "FullQuirks"}
+
+
 def example_rows():
-    return [json.loads(line) for line in (HERE / "rows.jsonl").read_text(encoding="utf-8").splitlines()]
+    lines = [line for file in ("rows.jsonl", "fragments.jsonl") for line in (HERE / file).read_text(encoding="utf-8").splitlines()]
+    return list(map(json.loads, lines))
 
 
 def example_tree(row):
-    """The builder at the end of an example, and its call in the definition."""
-    flag = "true" if row["scripting"] else "false"
+    """What the definition says of an example."""
+    flag = "true" if row.get("scripting") else "false"
     if row["context"] is None:
         b = whole_parsing.page(row["text"], row["scripting"])
-        mode = {"no-quirks": "NoQuirks", "limited-quirks": "LimitedQuirks", "quirks": "FullQuirks"}[b.quirks]
-        return f"parse {flag} {codes(row['text'])} ≡ Some (record {{ quirks = {mode}; children = {trees(b.result())} }})"
+        document = f"record {{ quirks = {MODES_OF_QUIRKS[b.quirks]}; children = {trees(b.result())} }}"
+        return f"parse {flag} {codes(row['text'])} ≡ Some ({document})"
     space, _, name = row["context"].rpartition(" ")
-    b = whole_parsing.fragment(row["context"], row["text"], row["scripting"])
-    around = f"(plain_context {dict(svg='Svg', math='MathMl').get(space, 'Html')} {codes(name)})"
-    return f"parse_fragment {flag} {around} {codes(row['text'])} ≡ Some {trees(b.result())}"
+    space = {"svg": "Svg", "math": "MathMl"}.get(space, "Html")
+    around = {key: row[key] for key in ("attrs", "in_form", "quirks") if key in row}
+    b = whole_parsing.fragment(row["context"], row["text"], row.get("scripting", False), **around)
+    call = f"(plain_context {space} {codes(name)})"
+    if around:
+        attrs, in_form = attributes(row["attrs"]), "true" if row["in_form"] else "false"
+        call = f"(record {{ space = {space}; name = {codes(name)}; attrs = {attrs}; in_form = {in_form}; quirks = {MODES_OF_QUIRKS[row['quirks']]} }})"
+    return f"parse_fragment {flag} {call} {codes(row['text'])} ≡ Some {trees(b.result())}"
 
 
 EXAMPLE_HEAD = """
@@ -243,7 +257,7 @@ def examples():
     """The pages and fragments of rows.jsonl with their trees."""
     out = [EXAMPLE_HEAD]
     for i, row in enumerate(example_rows(), 1):
-        out += folded(f"  pub page{i} : {example_tree(row)}", "      ")
+        out += folded(f"  pub page{i} : {example_tree(row)}", "      ", r" (?=\((?:element|text|comment|doctype)_tree )|(?<=∷) ")
     body = "\n".join(out) + "\n"
     head = ["-- Pages and fragments with their trees by tests/standard/trees/construction.py; made by tests/standard/trees/definition.py.",
             *uses(body, [("std.specs.Prelude", ["◌≡◌", "ℕ", "true", "false", "List", "[]", "◌∷◌", "None", "Some", "codes"]),
@@ -265,9 +279,9 @@ def examples_computed():
     fields = "; ".join(f"page{i} = refl" for i in range(1, len(example_rows()) + 1))
     out = ["-- The trees of the examples, computed by the prover; made by tests/standard/trees/definition.py.", "use Rattle.std.specs.Prelude.{refl}"]
     for module, words in UNFOLDED:
-        out += folded(f"use Rattle.{module}.{{{', '.join(words)}}}", "    ")
-    out += ["use Rattle.standard_trees.specs.Examples.{PagesAreParsed}", "", "pub pages_are_parsed : PagesAreParsed", *folded(opened, "    "),
-            *folded(f"pages_are_parsed = record {{ {fields} }}", "    ")]
+        out += folded(f"use Rattle.{module}.{{{', '.join(words)}}}", "    ", "(?<=,) ")
+    out += ["use Rattle.standard_trees.specs.Examples.{PagesAreParsed}", "", "pub pages_are_parsed : PagesAreParsed", *folded(opened, "    ", " "),
+            *folded(f"pages_are_parsed = record {{ {fields} }}", "    ", "(?<=;) ")]
     return "\n".join(out) + "\n"
 
 

@@ -11,7 +11,7 @@ import whole_parsing
 
 SPECS = pathlib.Path(__file__).resolve().parents[3] / "crates" / "standard_trees" / "specs"
 FILES = ("TreeStore", "RuleWords", "NameLists", "QuirksTexts", "TreeRules", "GrowingTree", "Formatting", "Building", "Parsing")
-LEFT_OUT = ("behind", "parsed", "parse", "parse_fragment", "step_of", "parser", "page_parser", "fragment_parser",
+LEFT_OUT = ("after_step", "behind", "parsed", "parse", "parse_fragment", "step_of", "parser", "page_parser", "fragment_parser",
             "IsDocumentOf", "IsFragmentOf")  # of Parsing: the tokenizer is machine.py
 sys.setrecursionlimit(200000)
 
@@ -196,7 +196,7 @@ def load(name, aliases):
         line = strip_comment(line)
         if not line.strip():
             continue
-        if line[0] == " ":
+        if line[0] in " }":
             items[-1] += "\n" + line
         else:
             items.append(line)

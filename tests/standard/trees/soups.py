@@ -1,5 +1,5 @@
 """Random soups of tags, texts, comments and doctypes: `test(rng)` is a text, a context or None for a page, and whether scripting is enabled.
-soups.jsonl has the digests of the trees of some, which parse5 had, too."""
+soups.jsonl has the digests of the trees of some, which parse5 had, too; for soups with `select` Chromium and Firefox."""
 import hashlib
 import random
 import re
@@ -85,9 +85,22 @@ def is_older(one):
     return not NEWER.search(one[0]) and one[1] not in ("select", "option")
 
 
-def seeded(seed, count):
-    """The soups of a seed that parse5 can read."""
+SELECTS = "select select select option option optgroup optgroup hr input button p div b a table tr td caption template svg desc textarea".split()
+
+
+def with_selects(rng):
+    """A page, or a fragment, most of whose tags are those of `select` and of what stands in it."""
+    out, opened = [], []
+    for _ in range(rng.choice([3, 6, 12, 20])):
+        out.append(tag(rng, SELECTS, opened) if rng.random() < 0.8 else rng.choice(["x", " ", "y z", "<!--c-->"]))
+    return "".join(out), rng.choice([None, None, None, "select", "option", "td", "template", "table"]), False
+
+
+def seeded(seed, count, selects=False):
+    """The soups of a seed: those that parse5 can read, or those with `select`, without what Firefox and Chromium read in two ways."""
     rng = random.Random(seed)
+    if selects:
+        return [one for one in (with_selects(rng) for _ in range(count)) if one[1] != "select" or "<input" not in one[0]]
     return [one for one in (test(rng) for _ in range(count)) if is_older(one)]
 
 

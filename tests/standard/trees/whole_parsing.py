@@ -61,9 +61,9 @@ def printed(trees):
     return "".join(line + "\n" for line in lines(trees))
 
 
-def by_rules(text, context, scripting):
+def by_rules(text, context, scripting, **around):
     """The tree of a page, or of a fragment in a context, and the mode of its Document."""
-    b = fragment(context, text, scripting) if context else page(text, scripting)
+    b = fragment(context, text, scripting, **around) if context else page(text, scripting)
     return printed(b.result()), b.quirks
 
 
