@@ -49,7 +49,7 @@ class Server(http.server.ThreadingHTTPServer):
         """Says nothing of a browser that was ended while it asked for something."""
 
 
-def ask(browser, cases, seconds=300):
+def ask(browser, cases, seconds=900):
     """What a browser makes of a list of [text, context or None]: a list of [tree, HTML]."""
     server = Server(("127.0.0.1", 0), Handler)
     server.cases, server.trees, server.done = json.dumps(cases).encode("ascii"), None, threading.Event()
