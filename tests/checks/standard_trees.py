@@ -24,15 +24,6 @@ NEVER_TAKEN = {
     ("in row", "</tbody tfoot thead> if not in table scope tr: ignore"),
     ("in cell", "<caption col colgroup tbody td tfoot th thead tr> if not in table scope td th: ignore"),
 }  # fmt: skip
-# html5lib's tests that expect the insertion modes "in select" and "in select in table", which the Standard had until 2025
-OLDER_SELECT = {
-    "<!DOCTYPE html><select><menuitem></select>", "<select><b><option><select><option></b></select>X",
-    "<!DOCTYPE html><body><select><svg></svg></select>", "<!DOCTYPE html><body><select><option><svg></svg></option></select>",
-    "<!doctype html><select><plaintext></plaintext>X", "<!doctype html><table><select><plaintext>a<caption>b", "<select><keygen>",
-    "<!DOCTYPE html><body><select><option><math></math></option></select>",
-    "<!DOCTYPE html><body><table><tr><td><select><math><mi>foo</mi><mi>bar</mi><p>baz</table><p>quux",
-    "<!DOCTYPE html><body><table><select><math><mi>foo</mi><mi>bar</mi><p>baz</table><p>quux",
-}  # fmt: skip
 
 
 def made():
@@ -70,7 +61,7 @@ def html5lib():
                 context = args[args.index("--context") + 1] if "--context" in args else None
                 tree = by_rules(row["markup"], context, "--scripting" in args)[0]
                 same = tree.rstrip("\n") == row["output"].rstrip("\n")
-                yield same or row["markup"] in OLDER_SELECT, f"tests/html5lib/{file.name}, line {number}: the rules give\n{tree}"
+                yield same, f"tests/html5lib/{file.name}, line {number}: the rules give\n{tree}"
 
 
 def random_soups():
