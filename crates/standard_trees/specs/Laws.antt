@@ -17,6 +17,7 @@ FragmentsAreParsedOneWay = (scripting : Bool) (around : Surroundings) (text : Li
 -- what the functions give is what the text is parsed as
 abbrev pub FunctionsParse : Type 0
 FunctionsParse =
-    ((scripting : Bool) (text : List ℕ) (document : Document) → parse scripting text ≡ Some document → IsDocumentOf scripting text document) ×
+    ((scripting : Bool) (text : List ℕ) (document : Document) →
+    parse scripting text ≡ Some document → IsDocumentOf scripting text document) ×
     ((scripting : Bool) (around : Surroundings) (text : List ℕ) (nodes : Trees) →
     parse_fragment scripting around text ≡ Some nodes → IsFragmentOf scripting around text nodes)

@@ -92,11 +92,11 @@ def act(a, when):
     return f"does {action(a)} {tests(when)}"
 
 
-def folded(text, indent, cut=r"(?<=∷) "):
-    """The text in lines of at most WIDTH columns, the first as it is and the others indented, cut at places that fit."""
+def folded(text, indent, cut=r"(?<=∷) ", width=WIDTH):
+    """The text in lines of at most that many columns, the first as it is and the others indented, cut at places that fit."""
     lines, line = [], ""
     for piece in re.split(cut, text):
-        if line and len(line) + 1 + len(piece) > WIDTH:
+        if line and len(line) + 1 + len(piece) > width:
             lines.append(line)
             line = indent + piece
         else:
@@ -110,7 +110,8 @@ def without_layout(text):
 
 
 def comment(text, indent=""):
-    return textwrap.wrap(text, WIDTH, initial_indent=indent + "-- ", subsequent_indent=indent + "--    ", break_long_words=False, break_on_hyphens=False)
+    first, later = indent + "-- ", indent + "--    "
+    return textwrap.wrap(text, WIDTH, initial_indent=first, subsequent_indent=later, break_long_words=False, break_on_hyphens=False)
 
 
 def uses(body, modules):
@@ -135,7 +136,8 @@ def constructors(path):
     text = path.read_text(encoding="utf-8")
     found = set(re.findall(r"(?m)^(?:pub (?:data|record)|abbrev pub|unfoldable pub) (\S+)", text))
     for line in re.findall(r"(?m)^  ([^:\n]+) : ", text):
-        found |= {word for word in line.split() if word[0].isupper() or word in ("is", "isnt", "does", "goes", "rule", "reset_to", "reset_to_template_mode") or word.endswith(("_tree", "_trees"))}
+        words = {"is", "isnt", "does", "goes", "rule", "reset_to", "reset_to_template_mode"}
+        found |= {word for word in line.split() if word[0].isupper() or word in words or word.endswith(("_tree", "_trees"))}
     return found
 
 
@@ -174,7 +176,8 @@ def tree_rules():
     for what, when, mode in RESET:
         if what is not None:
             test = NODE_TESTS[tuple((yes, c[0]) for yes, c in when)]
-            out.append(f"    reset_to_template_mode {names(what)} ∷" if mode.startswith("the current") else f"    reset_to {names(what)} {test} {camel(mode)} ∷")
+            to_template = mode.startswith("the current")
+            out.append(f"    reset_to_template_mode {names(what)} ∷" if to_template else f"    reset_to {names(what)} {test} {camel(mode)} ∷")
     out[-1] += " []"
     out += ["", f"-- the state in which the tokenizer begins with a fragment, by the context element, {SECTIONS['first state']}; of others it is Data;",
             "-- the flag says whether scripting is enabled", "abbrev pub first_states : Bool → List (List (List ℕ) × State)", "first_states scripting ="]
@@ -199,7 +202,7 @@ def attributes(attrs):
     for n, v in attrs:
         prefix, _, local = n.rpartition(" ")
         space = {"": "NoSpace", "xlink": "XLink", "xml": "Xml", "xmlns": "XmlNs"}[prefix]
-        found.append(f"record {{ space = {space}; name = {codes(local)}; value = {codes(v)} }}")
+        found.append(f"attr {space} {codes(local)} {codes(v)}")
     return "(" + listed(found) + ")" if found else "[]"
 
 
@@ -210,6 +213,9 @@ def trees(siblings):
     if t[0] == "element":
         _, space, name, attrs, contents, below = t
         space = {"": "Html", "svg": "Svg", "math": "MathMl"}[space]
+        if not attrs and contents is None:
+            plain = {"Html": "element", "Svg": "svg_element", "MathMl": "math_element"}[space]
+            return f"({plain} {codes(name)} {trees(below)} {later})"
         return f"(element_tree {space} {codes(name)} {attributes(attrs)} {trees(contents or [])} {trees(below)} {later})"
     if t[0] == "doctype":
         return f"(doctype_tree (plain_doctype {codes(t[1])}) {later})"
@@ -229,8 +235,7 @@ def example_tree(row):
     flag = "true" if row.get("scripting") else "false"
     if row["context"] is None:
         b = whole_parsing.page(row["text"], row["scripting"])
-        document = f"record {{ quirks = {MODES_OF_QUIRKS[b.quirks]}; children = {trees(b.result())} }}"
-        return f"parse {flag} {codes(row['text'])} ≡ Some ({document})"
+        return f"parse {flag} {codes(row['text'])} ≡ Some (document {MODES_OF_QUIRKS[b.quirks]} {trees(b.result())})"
     space, _, name = row["context"].rpartition(" ")
     space = {"svg": "Svg", "math": "MathMl"}.get(space, "Html")
     around = {key: row[key] for key in ("attrs", "in_form", "quirks") if key in row}
@@ -238,17 +243,40 @@ def example_tree(row):
     call = f"(plain_context {space} {codes(name)})"
     if around:
         attrs, in_form = attributes(row["attrs"]), "true" if row["in_form"] else "false"
-        call = f"(record {{ space = {space}; name = {codes(name)}; attrs = {attrs}; in_form = {in_form}; quirks = {MODES_OF_QUIRKS[row['quirks']]} }})"
+        call = f"(surroundings {space} {codes(name)} {attrs} {in_form} {MODES_OF_QUIRKS[row['quirks']]})"
     return f"parse_fragment {flag} {call} {codes(row['text'])} ≡ Some {trees(b.result())}"
 
 
+# where a line of an example may end
+NODES = "element|svg_element|math_element|element_tree|text_tree|comment_tree|doctype_tree"
+EXAMPLE_CUT = rf" (?=\((?:{NODES}) )|(?<=∷) |(?<=≡ Some) |(?<=\)\)) (?=\(codes|no_trees)|(?<=Quirks\)) "
 EXAMPLE_HEAD = """
 abbrev pub plain_doctype : List ℕ → Doctype
 plain_doctype name = record { name = Some name; public_id = None; system_id = None; force_quirks = false }
 
+abbrev pub attr : AttrSpace → List ℕ → List ℕ → NodeAttr
+attr of name value = record { space = of; name = name; value = value }
+
+-- an element without attributes: its children, and the siblings after it
+abbrev pub element : List ℕ → Trees → Trees → Trees
+element name below later = element_tree Html name [] no_trees below later
+
+abbrev pub svg_element : List ℕ → Trees → Trees → Trees
+svg_element name below later = element_tree Svg name [] no_trees below later
+
+abbrev pub math_element : List ℕ → Trees → Trees → Trees
+math_element name below later = element_tree MathMl name [] no_trees below later
+
+abbrev pub document : QuirksMode → Trees → Document
+document mode nodes = record { quirks = mode; children = nodes }
+
+abbrev pub surroundings : Space → List ℕ → List NodeAttr → Bool → QuirksMode → Surroundings
+surroundings around name attrs is_in_form mode =
+    record { space = around; name = name; attrs = attrs; in_form = is_in_form; quirks = mode }
+
 -- an element without attributes, in a document that is not in quirks mode, and in no form
 abbrev pub plain_context : Space → List ℕ → Surroundings
-plain_context space name = record { space = space; name = name; attrs = []; in_form = false; quirks = NoQuirks }
+plain_context around name = surroundings around name [] false NoQuirks
 
 pub record PagesAreParsed : Type 0 where"""
 
@@ -257,14 +285,14 @@ def examples():
     """The pages and fragments of rows.jsonl with their trees."""
     out = [EXAMPLE_HEAD]
     for i, row in enumerate(example_rows(), 1):
-        out += folded(f"  pub page{i} : {example_tree(row)}", "      ", r" (?=\((?:element|text|comment|doctype)_tree )|(?<=∷) ")
+        out += folded(f"  pub page{i} : {example_tree(row)}", "      ", EXAMPLE_CUT, 130)
     body = "\n".join(out) + "\n"
     head = ["-- Pages and fragments with their trees by tests/standard/trees/construction.py; made by tests/standard/trees/definition.py.",
-            *uses(body, [("std.specs.Prelude", ["◌≡◌", "ℕ", "true", "false", "List", "[]", "◌∷◌", "None", "Some", "codes"]),
+            *uses(body, [("std.specs.Prelude", ["◌≡◌", "ℕ", "Bool", "true", "false", "List", "[]", "◌∷◌", "None", "Some", "codes"]),
                          ("standard_tokens.specs.Tokens", ["Doctype"]),
                          ("standard_trees.specs.TreeStore", constructors(CRATE / "specs" / "TreeStore.antt") | {"XLink", "Xml", "XmlNs"}),
                          ("standard_trees.specs.Building", ["QuirksMode", "NoQuirks", "LimitedQuirks", "FullQuirks", "Surroundings"]),
-                         ("standard_trees.specs.Parsing", ["parse", "parse_fragment"])])]
+                         ("standard_trees.specs.Parsing", ["Document", "parse", "parse_fragment"])])]
     return "\n".join(head) + "\n" + body
 
 
