@@ -8,8 +8,8 @@ from __future__ import annotations
 import base64
 import hashlib
 import pathlib
+import re
 import sysconfig
-import tomllib
 import zipfile
 
 HERE = pathlib.Path(__file__).resolve().parent
@@ -17,7 +17,9 @@ FILES = ("*.py", "py.typed", "libdom_query.so")
 
 
 def _project() -> dict[str, str]:
-    return tomllib.loads((HERE / "pyproject.toml").read_text(encoding="utf-8"))["project"]
+    """The table `project` of pyproject.toml, whose values are texts on a line of their own. Python 3.10 has no reader of TOML."""
+    table = (HERE / "pyproject.toml").read_text(encoding="utf-8").partition("[project]\n")[2].partition("\n[")[0]
+    return dict(re.findall(r'(?m)^([\w-]+) = "([^"]*)"$', table))
 
 
 def _metadata() -> str:
