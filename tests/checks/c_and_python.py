@@ -23,6 +23,8 @@ import sys
 import tempfile
 
 sys.path.insert(0, str(pathlib.Path(__file__).resolve().parents[1] / "tools"))
+sys.path.insert(0, str(pathlib.Path(__file__).resolve().parents[2] / "tools" / "release"))
+import contents  # noqa: E402
 import documents  # noqa: E402
 from rows import ROOT  # noqa: E402
 
@@ -354,7 +356,7 @@ def linked(checks, archive, folder):
     kit = pathlib.Path(run(["rt", "doc"])[1].strip()).parent
     clang = kit / "toolchain" / "bin" / "clang"
     if clang.exists():
-        install(checks, archive, folder / "by_clang", f"{clang} -fuse-ld=lld")
+        install(checks, archive, folder / "by_clang", contents.compiler())
 
 
 if __name__ == "__main__":
