@@ -1,56 +1,43 @@
-/* Prints the text and the address of each link of the page on standard input.
+/* Prints the text and the address of each link of the page on standard input, which is read in pieces.
  *
  *   gcc -o links links.c $(pkg-config --cflags --libs dom_query)
  *   curl -s https://example.com/ | ./links
  */
 #include <dom_query.h>
 #include <stdio.h>
-#include <stdlib.h>
 #include <string.h>
 
-/* What is left of a stream; the caller frees it. NULL if there is no memory. */
-static uint8_t *read_all(FILE *in, size_t *length) {
-    size_t room = 1 << 16;
-    uint8_t *page = malloc(room);
-    *length = 0;
-    while (page) {
-        *length += fread(page + *length, 1, room - *length, in);
-        if (*length < room) return page;
-        uint8_t *larger = realloc(page, room *= 2);
-        if (!larger) free(page);
-        page = larger;
-    }
-    return NULL;
-}
-
-/* Prints the text, or the attribute, of a node, as far as 1,000 bytes hold it. */
-static void print(int64_t length, const uint8_t *text, const char *end) {
-    if (length > 1000) length = 1000;
-    printf("%.*s%s", (int)(length < 0 ? 0 : length), (const char *)text, end);
+/* Reads the page on a stream: 0, or a fault. */
+static int64_t read_page(FILE *in, dq_document *page) {
+    dq_reader reader = DQ_READER_INIT;
+    char piece[1 << 16];
+    size_t length;
+    int64_t answer = dq_reader_begin(&reader, NULL, 0, 512);
+    while (answer >= 0 && (length = fread(piece, 1, sizeof piece, in)) > 0) answer = dq_reader_feed(&reader, piece, length);
+    if (answer >= 0) answer = dq_reader_end(&reader, page);
+    dq_reader_free(&reader);
+    return answer;
 }
 
 int main(void) {
-    size_t length;
-    uint8_t *page = read_all(stdin, &length);
-    dq_document document = {0};
-    if (!page || dq_parse_page(&document, page, length, 512) < 0) {
-        fprintf(stderr, "links: out of memory\n");
-        return 1;
+    dq_document page = DQ_DOCUMENT_INIT;
+    dq_nodes links = DQ_NODES_INIT;
+    dq_string text = DQ_STRING_INIT, address = DQ_STRING_INIT;
+    int64_t answer = read_page(stdin, &page);
+    if (answer >= 0) answer = dq_select(&page, 0, "a[href]", strlen("a[href]"), &links);
+    for (size_t at = 0; at < links.count && answer >= 0; at++) {
+        answer = dq_text(&page, links.numbers[at], &text);
+        if (answer >= 0) answer = dq_attr(&page, links.numbers[at], "href", 4, &address);
+        if (answer >= 0) printf("%s: %s\n", text.bytes, address.bytes);
     }
-    free(page);
-
-    const char *selector = "a[href]";
-    uint32_t none = 0;
-    int64_t count = dq_select(&document, 0, (const uint8_t *)selector, strlen(selector), &none, 0);
-    uint32_t *links = malloc((count > 0 ? (size_t)count : 1) * sizeof *links);
-    if (count < 0 || !links || dq_found(&document, links, (size_t)count) < 0) return 1;
-
-    for (int64_t at = 0; at < count; at++) {
-        uint8_t text[1000];
-        print(dq_text(&document, links[at], text, sizeof text), text, ": ");
-        print(dq_attr(&document, links[at], (const uint8_t *)"href", 4, text, sizeof text), text, "\n");
+    if (answer < 0) {
+        char fault[100];
+        dq_fault_text(answer, fault, sizeof fault);
+        fprintf(stderr, "links: %s\n", fault);
     }
-    free(links);
-    dq_free(&document);
-    return 0;
+    dq_string_free(&text);
+    dq_string_free(&address);
+    dq_nodes_free(&links);
+    dq_document_free(&page);
+    return answer < 0;
 }

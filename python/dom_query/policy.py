@@ -3,11 +3,13 @@
 from __future__ import annotations
 
 import ctypes
+import re
 from collections.abc import Iterable, Mapping
 from typing import Any
 
-from ._library import ROOM, PolicyHandle, lib, policy_fault, scratch, unlocked
-from .document import LIMIT, Document, _utf8
+from ._library import BAD_NAME, PolicyHandle, String, lib, policy_fault, text_of, unlocked, utf8
+from .document import Document, _depth
+from .errors import PolicyError
 
 ELEMENT, DROP, ATTRIBUTE, SCHEME, CLASS, REL, PREFIX = range(7)
 DEPTH, DATA_ATTRIBUTES, KEEP_RELATIVE, NO_REL = range(4)
@@ -53,7 +55,7 @@ class Policy:
     - `tags`: the elements that stay. Any other is replaced by its children.
     - `clean_content_tags`: the elements that vanish with everything in them, also where `tags` has them.
     - `attributes`: for the name of an element, or `"*"` for every element, the attributes that stay.
-    - `tag_attribute_values`: the same, where only some values stay: `{"input": {"type": {"checkbox"}}}`.
+    - `tag_attribute_values`: the same, where only some values stay: `{"ol": {"type": {"a", "i"}}}`.
     - `url_schemes`: the schemes of addresses that stay, as in `href` and `src`.
     - `relative`: what becomes of addresses without a scheme: `"keep"`, `"drop"`, or an absolute URL, to which they are joined.
     - `link_rel`: the `rel` that each link gets, or None.
@@ -62,7 +64,8 @@ class Policy:
     - `data_attributes`: whether attributes whose names begin with `data-` stay.
     - `max_depth`: how deep the elements that stay may be nested, 256 at most; deeper ones are replaced by their children.
 
-    Raises `PolicyError` for rules whose result would not be safe, as for the element `svg` or the attribute `onclick`. A policy
+    Names of elements, attributes and schemes are read in lower case, as those of pages are. Raises `PolicyError` for rules whose
+    result would not be safe, as for the element `svg` or the attribute `onclick`, and for names that nothing can have. A policy
     never changes; `changed` makes another. Threads may share a policy, and clean at once.
     """
 
@@ -83,21 +86,19 @@ class Policy:
         data_attributes: bool = False,
         max_depth: int = 256,
     ) -> None:
-        if max_depth < 0:
-            raise ValueError("max_depth is 0 or more")
         values = _mapping("tag_attribute_values", tag_attribute_values or {})
         self._rules: dict[str, Any] = {
-            "tags": _names("tags", tags),
-            "clean_content_tags": _names("clean_content_tags", clean_content_tags),
+            "tags": _lowered("tags", tags),
+            "clean_content_tags": _lowered("clean_content_tags", clean_content_tags),
             "attributes": _lists("attributes", attributes),
-            "tag_attribute_values": {tag: _lists("tag_attribute_values", names) for tag, names in values.items()},
-            "url_schemes": _names("url_schemes", url_schemes),
-            "relative": relative,
-            "link_rel": link_rel,
-            "id_prefix": id_prefix,
+            "tag_attribute_values": _values(values),
+            "url_schemes": _lowered("url_schemes", url_schemes),
+            "relative": _text("relative", relative),
+            "link_rel": None if link_rel is None else _text("link_rel", link_rel),
+            "id_prefix": _text("id_prefix", id_prefix),
             "classes": None if classes is None else _names("classes", classes),
             "data_attributes": bool(data_attributes),
-            "max_depth": min(max_depth, LIMIT),
+            "max_depth": _depth(max_depth),
         }
         if self.classes == frozenset():
             raise ValueError("classes is None or has a class; for no class at all, leave class out of attributes")
@@ -202,8 +203,7 @@ class Policy:
     def clean(self, html: str | Document) -> str:
         """What the policy leaves of a fragment, or of a document, as `dom_query.clean` returns it."""
         if isinstance(html, Document):
-            with html._lock:
-                return self._cleaned(lib.dq_clean_document, html._handle)
+            return self._cleaned(html._slow.dq_clean_document, html._handle)
         text = _source(html)
         return self._cleaned(unlocked.dq_clean, text, len(text))
 
@@ -217,15 +217,11 @@ class Policy:
             handle = self._idle.pop()
         except IndexError:
             handle = self._made()  # another thread is cleaning
-        try:
-            count = call(handle, *arguments, scratch.text_at, ROOM)
-            if count <= ROOM:
-                return ctypes.string_at(scratch.text_at, _checked(count)).decode()
-            text = (ctypes.c_char * count)()
-            _checked(lib.dq_policy_taken(handle, ctypes.addressof(text), count))
-            return str(text, "utf-8")
-        finally:
-            self._idle.append(handle)
+        cleaned: str | int = text_of(call, handle, *arguments)
+        self._idle.append(handle)
+        if isinstance(cleaned, int):
+            raise policy_fault(cleaned, "")
+        return cleaned
 
     # ---- the library's policy
 
@@ -235,10 +231,11 @@ class Policy:
         try:
             _checked(lib.dq_policy_empty(handle))
             self._give(handle)
-            code = lib.dq_policy_finish(handle)
+            why = String()
+            code = lib.dq_policy_finish(handle, why)
             if code < 0:
-                count = max(0, lib.dq_policy_taken(handle, scratch.text_at, ROOM))
-                raise policy_fault(code, ctypes.string_at(scratch.text_at, min(count, ROOM)).decode(errors="replace"))
+                said = ctypes.string_at(why.bytes, why.length).decode(errors="replace") if why.bytes else ""
+                raise policy_fault(code, said)
         except BaseException:
             lib.dq_policy_free(handle)
             raise
@@ -256,9 +253,10 @@ class Policy:
             _attribute(handle, "*", "class")
         for tag, attributes in self.tag_attribute_values.items():
             for name, values in attributes.items():
-                for value in sorted(values):
-                    parts = [_utf8(part) for part in (tag, name, value)]
-                    lib.dq_policy_value(handle, *(word for part in parts for word in (part, len(part))))
+                for element in sorted(self.tags) if tag == "*" else (tag,):
+                    for value in sorted(values):
+                        parts = [utf8(part) for part in (element, name, value)]
+                        lib.dq_policy_value(handle, *(word for part in parts for word in (part, len(part))))
         lib.dq_policy_set(handle, DATA_ATTRIBUTES, int(self.data_attributes))
         lib.dq_policy_set(handle, DEPTH, self.max_depth)
         _rule(handle, PREFIX, self.id_prefix)
@@ -267,7 +265,7 @@ class Policy:
         if self.relative in ("keep", "drop"):
             lib.dq_policy_set(handle, KEEP_RELATIVE, int(self.relative == "keep"))
         else:
-            base = _utf8(self.relative)
+            base = utf8(self.relative)
             lib.dq_policy_base(handle, base, len(base))
 
     def __del__(self) -> None:
@@ -294,12 +292,63 @@ def _mapping(rule: str, given: Mapping[str, Any]) -> Mapping[str, Any]:
     return given
 
 
+_WRITTEN = {
+    "tags": re.compile(r"[a-z][^\t\n\f\r />\0]*"),
+    "attributes": re.compile(r"[^\t\n\f\r />=\0]+"),
+    "url_schemes": re.compile(r"[a-z][a-z0-9+.-]*"),
+}
+_WRITTEN["clean_content_tags"] = _WRITTEN["tags"]
+_LOWER = str.maketrans({chr(upper): chr(upper + 32) for upper in range(ord("A"), ord("Z") + 1)})
+
+
+def _lowered(rule: str, names: Iterable[str], said: str = "") -> frozenset[str]:
+    """The names in lower case, as those of elements, attributes and schemes in a page are read."""
+    found = frozenset(name.translate(_LOWER) for name in _names(said or rule, names))
+    for name in found:
+        if not _WRITTEN[rule].fullmatch(name):
+            hint = f"; write {name.rstrip(':/')!r}" if _WRITTEN[rule].fullmatch(name.rstrip(":/")) else ""
+            raise PolicyError(f"no page can have {name!r}, which {said or rule} has{hint}", BAD_NAME, rule, name)
+    return found
+
+
+def _tag(rule: str, tag: object) -> str:
+    """The name of an element for which there are rules, or `*`."""
+    if not isinstance(tag, str):
+        raise TypeError(f"{rule} is a dict from names of elements, and {tag!r} is none")
+    lower = tag.translate(_LOWER)
+    if lower != "*" and not _WRITTEN["tags"].fullmatch(lower):
+        raise PolicyError(f"no page can have the element {tag!r}, which {rule} has", BAD_NAME, rule, tag)
+    return lower
+
+
 def _lists(rule: str, given: Mapping[str, Iterable[str]]) -> dict[str, frozenset[str]]:
-    return {name: _names(f"{rule}[{name!r}]", names) for name, names in _mapping(rule, given).items()}
+    lists: dict[str, frozenset[str]] = {}
+    for tag, names in _mapping(rule, given).items():
+        lower = _tag(rule, tag)
+        lists[lower] = lists.get(lower, frozenset()) | _lowered("attributes", names, f"{rule}[{tag!r}]")
+    return lists
+
+
+def _values(given: Mapping[str, Mapping[str, Iterable[str]]]) -> dict[str, dict[str, frozenset[str]]]:
+    """The values that stay, by elements and attributes in lower case."""
+    rule = "tag_attribute_values"
+    lists: dict[str, dict[str, frozenset[str]]] = {}
+    for tag, attributes in given.items():
+        of_tag = lists.setdefault(_tag(rule, tag), {})
+        for name, values in _mapping(f"{rule}[{tag!r}]", attributes).items():
+            (lower,) = _lowered("attributes", [name], f"{rule}[{tag!r}]")
+            of_tag[lower] = of_tag.get(lower, frozenset()) | _names(f"{rule}[{tag!r}][{name!r}]", values)
+    return lists
+
+
+def _text(rule: str, text: str) -> str:
+    if not isinstance(text, str):
+        raise TypeError(f"{rule} is a str, and not {text!r}")
+    return text
 
 
 def _rule(handle: PolicyHandle, rule: int, text: str) -> None:
-    given = _utf8(text)
+    given = utf8(text)
     lib.dq_policy_rule(handle, rule, given, len(given))
 
 
@@ -307,7 +356,7 @@ def _attribute(handle: PolicyHandle, tag: str, name: str) -> None:
     if tag == "*":
         _rule(handle, ATTRIBUTE, name)
     else:
-        element, attribute = _utf8(tag), _utf8(name)
+        element, attribute = utf8(tag), utf8(name)
         lib.dq_policy_attribute_of(handle, element, len(element), attribute, len(attribute))
 
 
@@ -320,7 +369,7 @@ def _checked(code: int) -> int:
 def _source(html: str) -> bytes:
     if not isinstance(html, str):
         raise TypeError(f"a str is wanted, and not {type(html).__name__}; decode bytes first, or read them by parse_bytes")
-    return _utf8(html)
+    return utf8(html)
 
 
 def _policy(rules: dict[str, Any]) -> Policy:

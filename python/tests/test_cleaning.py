@@ -5,7 +5,6 @@ import json
 import pathlib
 import pickle
 import re
-import resource
 import sys
 import threading
 import unittest
@@ -156,29 +155,27 @@ class Cleaning(unittest.TestCase):
             Policy({"b"})
 
     def test_a_closed_policy(self):
-        lib, handle, scratch = library.lib, library.PolicyHandle(), library.scratch
+        lib, handle, text = library.lib, library.PolicyHandle(), library.String()
         for call in (
             lambda: lib.dq_policy_rule(handle, 0, b"b", 1),
             lambda: lib.dq_policy_attribute_of(handle, b"b", 1, b"id", 2),
             lambda: lib.dq_policy_value(handle, b"b", 1, b"id", 2, b"x", 1),
             lambda: lib.dq_policy_base(handle, b"http://a/", 9),
             lambda: lib.dq_policy_set(handle, 0, 1),
-            lambda: lib.dq_policy_finish(handle),
-            lambda: lib.dq_clean(handle, b"<b>", 3, scratch.text_at, 0),
-            lambda: lib.dq_clean_page(handle, b"<b>", 3, scratch.text_at, 0),
-            lambda: lib.dq_clean_document(handle, dom_query.parse("<b>")._handle, scratch.text_at, 0),
-            lambda: lib.dq_policy_taken(handle, scratch.text_at, 0),
-            lambda: lib.dq_policy_fault(handle),
+            lambda: lib.dq_policy_finish(handle, None),
+            lambda: lib.dq_clean(handle, b"<b>", 3, text),
+            lambda: lib.dq_clean_page(handle, b"<b>", 3, text),
+            lambda: lib.dq_clean_document(handle, dom_query.parse("<b>")._handle, text),
         ):
             self.assertEqual(call(), library.CLOSED)
         lib.dq_policy_free(handle)
         lib.dq_policy_free(handle)
         self.assertEqual(lib.dq_policy_common(handle), 0)
-        self.assertEqual(lib.dq_clean(handle, b"<b>", 3, scratch.text_at, 0), library.UNFINISHED)
-        self.assertEqual(lib.dq_policy_finish(handle), 0)
-        self.assertEqual(lib.dq_clean(handle, b"\xff", 1, scratch.text_at, 0), library.NOT_UTF8)
-        self.assertEqual(lib.dq_policy_finish(handle), library.FINISHED)
-        self.assertEqual(lib.dq_clean(handle, b"<b>", 3, scratch.text_at, 0), library.FINISHED)
+        self.assertEqual(lib.dq_clean(handle, b"<b>", 3, text), library.UNFINISHED)
+        self.assertEqual(lib.dq_policy_finish(handle, None), 0)
+        self.assertEqual(lib.dq_clean(handle, b"\xff", 1, text), library.NOT_UTF8)
+        self.assertEqual(lib.dq_policy_finish(handle, None), library.FINISHED)
+        self.assertEqual(lib.dq_clean(handle, b"<b>", 3, text), library.FINISHED)
         lib.dq_policy_free(handle)
 
     def test_the_common_rules(self):
@@ -193,12 +190,11 @@ class Cleaning(unittest.TestCase):
         own = set(zip(names["OWN_ATTRIBUTES"][::2], names["OWN_ATTRIBUTES"][1::2], strict=True))
         own |= {("*", name) for name in names["ATTRIBUTES"]}
         self.assertEqual({(tag, name) for tag, found in policy.attributes.items() for name in found}, own)
-        handle, lib, scratch = library.PolicyHandle(), library.lib, library.scratch
-        self.assertEqual((lib.dq_policy_common(handle), lib.dq_policy_finish(handle)), (0, 0))
+        handle, lib = library.PolicyHandle(), library.lib
+        self.assertEqual((lib.dq_policy_common(handle), lib.dq_policy_finish(handle, None)), (0, 0))
         for case in rows("common"):
             html = given(case, "markup")
-            count = lib.dq_clean(handle, html, len(html), scratch.text_at, library.ROOM)
-            self.assertEqual(scratch.text.raw[:count].decode(), policy.clean(html.decode()))
+            self.assertEqual(library.text_of(lib.dq_clean, handle, html, len(html)), policy.clean(html.decode()))
         lib.dq_policy_free(handle)
 
     def test_threads_with_one_policy(self):
@@ -233,21 +229,6 @@ class Cleaning(unittest.TestCase):
         finally:
             threading.stack_size(old)
         self.assertEqual(done, [256 * len("<div></div>")])
-
-    def test_memory_is_given_back(self):
-        def used():
-            return resource.getrusage(resource.RUSAGE_SELF).ru_maxrss
-
-        def work(times):
-            for _ in range(times):
-                Policy(tags={"b"}).clean("<b>1</b><i>2</i>")
-                with self.assertRaises(PolicyError):
-                    Policy(tags={"svg"})
-
-        work(200)
-        before = used()
-        work(3000)
-        self.assertLess(used() - before, 4096)
 
 
 def rows(name):

@@ -1,16 +1,31 @@
 """Closed documents, foreign nodes, threads, names of other libraries, and many documents."""
 
 import copy
+import ctypes
+import gc
 import pickle
-import resource
 import threading
 import unittest
 
 import dom_query
-from dom_query import ClosedError, NodeError
+from dom_query import ClosedError, NodeError, PageReader, PolicyError, SelectorError
 from dom_query import _library as library
 
 DEEP = 1_000_000
+LIBC = ctypes.CDLL(None)
+
+
+class Usage(ctypes.Structure):
+    """What mallinfo2 of the C library returns."""
+
+    _fields_ = [(name, ctypes.c_size_t) for name in "arena ordblks smblks hblks hblkhd usmblks fsmblks uordblks fordblks keepcost".split()]
+
+
+def used():
+    """How many bytes of memory from malloc are in use."""
+    LIBC.mallinfo2.restype = Usage
+    usage = LIBC.mallinfo2()
+    return usage.uordblks + usage.hblkhd
 
 
 class Misuse(unittest.TestCase):
@@ -38,6 +53,13 @@ class Misuse(unittest.TestCase):
             lambda: node.remove(),
             lambda: node.append("x"),
             lambda: node.set_text("x"),
+            lambda: node.template_contents,
+            lambda: node.next,
+            lambda: node.get("id"),
+            lambda: node.select_attrs("p", "id"),
+            lambda: node.__setitem__("id", "x"),
+            lambda: setattr(node, "inner_html", "x"),
+            lambda: list(node.iter_descendants()),
             lambda: document.root,
             lambda: document.node(1),
             lambda: document.html,
@@ -61,7 +83,7 @@ class Misuse(unittest.TestCase):
 
     def test_nodes_of_other_documents(self):
         one, two = dom_query.parse("<p>a"), dom_query.parse("<p>b")
-        with self.assertRaises(ValueError):
+        with self.assertRaises(NodeError):
             one.select_one("p").append(two.select_one("p"))
 
     def test_numbers_past_the_end(self):
@@ -81,24 +103,18 @@ class Misuse(unittest.TestCase):
             node.select(b"p")
         with self.assertRaises(TypeError):
             node["id"] = 1
-        with self.assertRaises(UnicodeEncodeError):
-            node["id"] = "\ud800"
-        handle = document._handle
+        handle, text, nodes = document._handle, library.String(), library.Nodes()
         self.assertEqual(library.lib.dq_step(handle, 0, 99), library.ARGUMENT)
-        self.assertEqual(library.lib.dq_list(handle, 0, 99, library.scratch.numbers_at, 0), library.ARGUMENT)
-        self.assertEqual(library.lib.dq_put_html(handle, 1, 99, b"", 0), library.ARGUMENT)
+        self.assertEqual(library.lib.dq_list(handle, 0, 99, nodes), library.ARGUMENT)
+        self.assertEqual(library.lib.dq_put_html(handle, 1, 99, b"", 0, None), library.ARGUMENT)
         self.assertEqual(library.lib.dq_move(handle, 1, 0, 1), library.ARGUMENT)
         self.assertEqual(library.lib.dq_set_text(handle, 1, b"\xff", 1), library.NOT_UTF8)
         self.assertEqual(library.lib.dq_select_first(handle, 0, b"\xff", 1), library.NOT_UTF8)
-        self.assertEqual(library.lib.dq_text(handle, node.number, library.scratch.text_at, 0), 1)
-        self.assertEqual(library.lib.dq_fault_text(1, library.scratch.text_at, 10), 0)
-        self.assertEqual(library.message(-2), "the document or the policy is closed")
-
-    def test_every_fault_has_a_text(self):
-        codes = [*range(-7, 0), *range(-13, -9), *range(-24, -19), *range(-38, -29), *range(-43, -39), *range(-58, -49)]
-        texts = [library.message(code) for code in codes]
-        self.assertFalse([text for text in texts if text.startswith("fault")])
-        self.assertEqual(len(set(texts)), len(codes))
+        self.assertEqual(library.lib.dq_text(handle, node.number, text), 1)
+        self.assertEqual(ctypes.string_at(text.bytes), b"a")
+        self.assertEqual(library.lib.dq_text(None, 0, text), -8)
+        self.assertEqual(library.lib.dq_text(handle, 0, None), -8)
+        self.assertEqual(library.lib.dq_fault_text(1, None, 0), 0)
 
     def test_nul(self):
         document = dom_query.parse_strict("<p>a</p>")
@@ -180,15 +196,54 @@ class Misuse(unittest.TestCase):
         self.assertEqual(done, [11 * DEEP + len("<html><head></head><body></body></html>"), DEEP - 1, 0, 11 * DEEP])
 
     def test_memory_is_given_back(self):
-        def used():
-            return resource.getrusage(resource.RUSAGE_SELF).ru_maxrss
+        """Nothing is left of documents, answers, refused calls, policies and hints, as malloc counts it."""
+        page = dom_query.parse("<p id=a>é<b>c</b>" * 50)
+        node, policy = page.select_one("p"), dom_query.Policy(tags={"b"})
 
-        for _ in range(2000):
-            dom_query.parse("<p>a<b>c").select("b")
-        before = used()
-        for _ in range(100_000):
-            dom_query.parse("<p>a<b>c").select("b")
-        self.assertLess(used() - before, 4096)
+        def refused(kind, call):
+            try:
+                call()
+            except kind:
+                return
+            raise AssertionError(kind)
+
+        def leave_a_reader():
+            reader = PageReader()
+            reader.feed(b"<p>a")
+
+        uses = {
+            "a document": lambda: dom_query.parse("<p>a<b>c").select("b"),
+            "a document in bytes": lambda: dom_query.parse_bytes(b"<p>a", "koi8-r").encoding,
+            "a text": lambda: node.text,
+            "long texts": lambda: (page.html, page.html_bytes(), page.markdown),
+            "nodes": lambda: (page.select("p"), page.root.descendants),
+            "texts": lambda: (page.select_texts("p"), page.select_attrs("p", "id"), dict(node.attrs), node.classes),
+            "a policy": lambda: dom_query.Policy(tags={"b"}).clean("<b>1</b><i>2</i>"),
+            "cleaning": lambda: (policy.clean("<b>1" * 9000), policy.clean_page("<b>"), policy.clean(page)),
+            "a refused policy": lambda: refused(PolicyError, lambda: dom_query.Policy(tags={"svg"})),
+            "a refused base": lambda: refused(PolicyError, lambda: dom_query.Policy(relative="/x")),
+            "a refused rule": lambda: refused(PolicyError, lambda: dom_query.Policy(tags={"b c"})),
+            "a hint": lambda: refused(LookupError, lambda: dom_query.parse_bytes(b"", "euc_kr")),
+            "a wrong selector": lambda: refused(SelectorError, lambda: page.select("p:nope")),
+            "a wrong checked selector": lambda: refused(SelectorError, lambda: dom_query.Selector("p[")),
+            "wrong markup": lambda: refused(ValueError, lambda: dom_query.parse_strict("<p>")),
+            "a refused edit": lambda: refused(ValueError, lambda: node.first_child.append("x")),
+            "a refused name": lambda: refused(ValueError, lambda: page.new_element("a b")),
+            "a closed document": lambda: dom_query.parse("<p>").close(),
+            "a reader": lambda: PageReader("koi8-r").finish(),
+            "a reader that isn't finished": leave_a_reader,
+            "a refused reader": lambda: refused(LookupError, lambda: PageReader("koi9")),
+        }
+        for name, use in uses.items():
+            with self.subTest(use=name):
+                for _ in range(50):
+                    use()
+                gc.collect()
+                before = used()
+                for _ in range(400):
+                    use()
+                gc.collect()
+                self.assertLess(used() - before, 400 * 16)
 
 
 if __name__ == "__main__":

@@ -5,12 +5,14 @@
 - The archive is the one that the gate built, or an earlier run on this machine of the same; what was built last is kept in
   ~/.cache/dom_query. Where there is none, it is built over the libraries that the gate left in crates/*/out, which proves it once more.
 - `./install-c` links the archive into a folder of its own, by gcc and, where it is there, by the kit's clang.
-- tests/checks/c_exports.c asks every function of include/dom_query.h: as C and as C++, under Valgrind or AddressSanitizer where there
-  is one, and with each request for memory refused in turn (tests/checks/refuse.c), after which no block may be left.
-- Each function of the header is one that the archive defines, and the other way around, and c_exports.c and the package name each.
+- tests/checks/c_exports.c asks every function of include/dom_query.h: as C99 and as C++, linked statically, under Valgrind, under the sanitizers
+  for addresses and for undefined behaviour, with c/dom_query.c compiled with them too, and with each request for memory refused in turn
+  (tests/checks/refuse.c), after which no block may be left. tests/checks/c_threads.c shares handles between threads, also under ThreadSanitizer.
+- Each function of the header is one that the shared library shows, and the other way around, each proved function is called by
+  c/dom_query.c, and c_exports.c and the package name each.
 - The programs of examples/c are built with the pkg-config file and run, and so is each program that docs/C.md shows.
-- The tests of the package (python/tests), which ask the rows of `dq` and of the test program's part `clean` again, and the programs of examples/python are run, and
-  its types are checked, where mypy is there. A wheel is made and installed."""
+- The tests of the package (python/tests), which ask the rows of `dq` and of the test program's part `clean` again, and the programs of examples/python are run, with
+  each Python from 3.10 on that the machine has, and its types are checked, where mypy is there. A wheel is made and installed."""
 import hashlib
 import os
 import pathlib
@@ -21,6 +23,8 @@ import sys
 import tempfile
 
 sys.path.insert(0, str(pathlib.Path(__file__).resolve().parents[1] / "tools"))
+sys.path.insert(0, str(pathlib.Path(__file__).resolve().parents[2] / "tools" / "release"))
+import contents  # noqa: E402
 import documents  # noqa: E402
 from rows import ROOT  # noqa: E402
 
@@ -63,38 +67,52 @@ def install(checks, archive, folder, compiler):
 
 
 def names(checks, folder):
-    """The header, the archive, the test program and the package agree on the functions."""
+    """The header, the library, the test program and the package agree on the functions, and c/dom_query.c calls all that are proved."""
     header = set(re.findall(r"\b(dq_[a-z0-9_]+)\(", (ROOT / "include" / "dom_query.h").read_text()))
     status, printed = run(["nm", "-D", "--defined-only", folder / "lib" / "libdom_query.so"])
-    built = set(re.findall(r" T (dq_[a-z0-9_]+)", printed))
+    built = set(re.findall(r" T (\w+)", printed))
     checks.check("functions of the header", status == 0 and header == built, f"{sorted(header ^ built)}")
     for path in (HERE / "c_exports.c", ROOT / "python" / "dom_query" / "_library.py"):
         missing = {name for name in header if not re.search(rf"\b{name}\b", path.read_text())}
         checks.check(f"functions in {path.name}", not missing, f"{sorted(missing)}")
+    sources = "".join(it.read_text() for it in sorted((ROOT / "crates" / "dom_query_c" / "src").glob("*.rt")))
+    proved = set(re.findall(r'pub extern "C" fn (\w+)', sources))
+    missing = {name for name in proved if len(re.findall(rf"\b{name}\b", (ROOT / "c" / "dom_query.c").read_text())) < 2}
+    checks.check("proved functions in dom_query.c", len(proved) > 60 and not missing, f"{sorted(missing)}")
 
 
-def build(checks, folder, name, words, source=HERE / "c_exports.c"):
+def build(checks, folder, name, words, source=HERE / "c_exports.c", link=None):
     program = folder / name
-    flags = ["-Wall", "-Wextra", "-I", folder / "include", "-o", program, source, "-L", folder / "lib", "-ldom_query"]
-    flags.append(f"-Wl,-rpath,{folder / 'lib'}")
-    return program if checks.runs(f"building {name}", [*words, *flags]) else None
+    flags = ["-Wall", "-Wextra", "-I", folder / "include", "-o", program, source]
+    flags += link or ["-L", folder / "lib", "-ldom_query", f"-Wl,-rpath,{folder / 'lib'}"]
+    return program if checks.runs(f"building {name}", [*words, *flags, "-pthread"]) else None
 
 
-def programs(checks, folder):
-    """The test program, in each way."""
-    plain = build(checks, folder, "c_exports", ["gcc", "-std=c11", "-O1", "-g"])
+def programs(checks, folder, archive, kit):
+    """The test programs, in each way."""
+    plain = build(checks, folder, "c_exports", ["gcc", "-std=c99", "-pedantic", "-O1", "-g"])
     if not plain:
         return
     checks.runs("c_exports", [plain])
+    threads = build(checks, folder, "c_threads", ["gcc", "-std=c11", "-O1", "-g"], HERE / "c_threads.c")
+    if threads:
+        checks.runs("c_threads", [threads])
+    static = build(checks, folder, "c_exports_static", ["gcc", "-std=c11"], link=[folder / "lib" / "libdom_query.a"])
+    if static:
+        checks.runs("c_exports, linked statically", [static])
     if shutil.which("g++"):
-        as_cpp = build(checks, folder, "c_exports_cpp", ["g++", "-x", "c++", "-fpermissive", "-w", "-x", "c++"])
+        as_cpp = build(checks, folder, "c_exports_cpp", ["g++", "-std=c++17", "-x", "c++"])
         if as_cpp:
             checks.runs("c_exports as C++", [as_cpp])
     if shutil.which("valgrind"):
         checks.runs("c_exports under Valgrind", ["valgrind", "-q", "--error-exitcode=9", "--leak-check=full", plain])
-    sanitized = build(checks, folder, "c_exports_asan", ["gcc", "-std=c11", "-g", "-fsanitize=address"])
-    if sanitized:
-        checks.runs("c_exports under AddressSanitizer", [sanitized])
+    below = [ROOT / "c" / "dom_query.c", archive, kit / "c" / "liblibc_c.a"]
+    for kind, source in (("address,undefined", "c_exports.c"), ("thread", "c_threads.c")):
+        name = source.replace(".c", "_") + kind.replace(",", "_")
+        words = ["gcc", "-std=c11", "-g", f"-fsanitize={kind}", "-fno-sanitize-recover=all"]
+        sanitized = build(checks, folder, name, words, HERE / source, below)
+        if sanitized:
+            checks.runs(f"{source} with -fsanitize={kind}", [sanitized])
     refusals(checks, folder, plain)
 
 
@@ -160,18 +178,34 @@ def documented(checks, folder):
             checks.check(f"C.md:{start}", status == 0 and printed == "\n".join(lines) + "\n", printed)
 
 
+def pythons():
+    """This Python, and each other one from 3.10 on that the machine has, by its version."""
+    found = {sys.version_info[:2]: sys.executable}
+    names = [f"python3.{minor}" for minor in range(10, 30)]
+    names += sorted(str(it) for it in pathlib.Path.home().glob(".pyenv/versions/3.*/bin/python3"))
+    for name in names:
+        path = shutil.which(name)
+        if path:
+            status, printed = run([path, "-c", "import sys; print(*sys.version_info[:2])"])
+            if status == 0 and (version := tuple(int(word) for word in printed.split())) >= (3, 10):
+                found.setdefault(version, path)
+    return found
+
+
 def package(checks, folder):
-    """The tests of the Python package, and its types."""
+    """The tests of the Python package, with each Python, and its types."""
     env = {**os.environ, "PYTHONPATH": str(ROOT / "python"), "DOM_QUERY_LIBRARY": str(folder / "lib" / "libdom_query.so")}
-    words = [sys.executable, "-W", "error::ResourceWarning", "-m", "unittest", "discover", "-s", ROOT / "python" / "tests", "-t", ROOT / "python"]
-    status, printed = run(words, env=env)
-    count = re.search(r"Ran (\d+) tests?", printed)
-    checks.check("tests of the package", status == 0 and count and int(count[1]) >= 30, printed)
-    checks.passed += int(count[1]) - 1 if status == 0 and count else 0
+    for version, python in sorted(pythons().items()):
+        words = [python, "-W", "error::ResourceWarning", "-m", "unittest", "discover", "-s", ROOT / "python" / "tests", "-t", ROOT / "python"]
+        status, printed = run(words, env=env)
+        count = re.search(r"Ran (\d+) tests?", printed)
+        name = ".".join(str(number) for number in version)
+        checks.check(f"tests of the package with Python {name}", status == 0 and count and int(count[1]) >= 70, printed)
+        checks.passed += int(count[1]) - 1 if status == 0 and count else 0
     scripts(checks, env)
     wheel(checks, folder)
     if shutil.which("mypy"):
-        checks.runs("types of the package", ["mypy", "--strict", ROOT / "python" / "dom_query"])
+        checks.runs("types of the package", ["mypy", "--strict", "--cache-dir", folder / "mypy", ROOT / "python" / "dom_query"])
 
 
 SCRIPTS = {
@@ -315,14 +349,14 @@ def linked(checks, archive, folder):
     """All checks of what is linked from the archive."""
     if install(checks, archive, folder, None):
         names(checks, folder)
-        programs(checks, folder)
+        programs(checks, folder, archive, pathlib.Path(run(["rt", "doc"])[1].strip()).parent)
         examples(checks, folder)
         documented(checks, folder)
         package(checks, folder)
     kit = pathlib.Path(run(["rt", "doc"])[1].strip()).parent
     clang = kit / "toolchain" / "bin" / "clang"
     if clang.exists():
-        install(checks, archive, folder / "by_clang", f"{clang} -fuse-ld=lld")
+        install(checks, archive, folder / "by_clang", contents.compiler())
 
 
 if __name__ == "__main__":

@@ -41,6 +41,7 @@ VERSION = (ROOT / "VERSION").read_text(encoding="utf-8").strip()
 PLACES = [
     ("crates/hq_pages/src/command.rt", r'const VERSION: &str = "(\S+) '),
     ("python/dom_query/__init__.py", r'(?m)^__version__ = "(.*)"'),
+    ("python/dom_query/_library.py", r'(?m)^VERSION = "(.*)"'),
     ("CHANGELOG.md", r"(?m)\A(?:.*\n)*?## (\S+)"),
 ]
 # Where it may stand, too: in each match of these it is the version.

@@ -1,5 +1,5 @@
 -- What questions and edits of a document answer, and what they leave.
-use Rattle.std.specs.Prelude.{ℕ, ◌≡◌, ◌<◌, ◌⊎◌, List, Result, String, IfOk, OnErr, OnOk, length, string_bytes, take}
+use Rattle.std.specs.Prelude.{ℕ, ◌≡◌, ◌<◌, ◌⊎◌, List, [], Ok, Result, String, IfOk, OnErr, OnOk, length, string_bytes, take}
 use Rattle.std.specs.Global.{Global}
 use Rattle.dom_links.specs.Forest.{Forest}
 use Rattle.dom_trees.specs.Edits.{TreeEdit}
@@ -28,6 +28,14 @@ pub record GivesNodes (result : Result ℕ Fault) (old new : State) (before afte
   pub kept : IfOk result (λ _. AreThey new.ids.items)
   pub count : IfOk result (λ count. count ≡ length new.ids.items)
   pub written : IfOk result (λ count. take count after ≡ take (length before) new.ids.items)
+
+-- Nothing is kept any more of what was found. The document stays
+pub record Forgets (result : Result ℕ Fault) (old new : State) : Type 0 where
+  pub answer : result ≡ Ok 0
+  pub document : new.document ≡ old.document
+  pub text : string_bytes new.text ≡ []
+  pub ids : new.ids.items ≡ []
+  pub lengths : new.lengths.items ≡ []
 
 -- The answer is 1 if the statement holds, and 0 if it doesn't
 abbrev pub SaysWhether : ℕ → Type 0 → Type 0

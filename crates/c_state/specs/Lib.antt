@@ -2,6 +2,7 @@ pub mod Answers
 pub mod Decodings
 pub mod Edits
 pub mod KindNumbers
+pub mod Names
 pub mod Neighbours
 pub mod Pieces
 pub mod Policies

@@ -1,5 +1,5 @@
 -- What calls on a policy answer, what they leave, and what is cleaned.
-use Rattle.std.specs.Prelude.{ℕ, ◌≡◌, true, false, List, Result, IfErr, IfOk, length, string_bytes, take}
+use Rattle.std.specs.Prelude.{ℕ, ◌≡◌, true, false, List, [], Ok, Result, IfErr, IfOk, length, string_bytes, take}
 use Rattle.dom_markup.specs.Numbered.{document_of}
 use Rattle.dom_markup.specs.ValueTrees.{ValueTrees}
 use Rattle.dom_links.specs.Forest.{Forest}
@@ -77,3 +77,9 @@ pub record Cleans (result : Result ℕ Fault) (old new : PolicyState) (before af
   pub kept : IfOk result (λ _. IfReady old.stage (λ policy. IsIt policy (string_bytes new.text)))
   pub count : IfOk result (λ count. count ≡ length (string_bytes new.text))
   pub written : IfOk result (λ count. take count after ≡ take (length before) (string_bytes new.text))
+
+-- No text is kept any more. The policy stays
+pub record ForgetsText (result : Result ℕ Fault) (old new : PolicyState) : Type 0 where
+  pub answer : result ≡ Ok 0
+  pub policy : new.stage ≡ old.stage
+  pub text : string_bytes new.text ≡ []

@@ -1,12 +1,14 @@
 //! Edits at one node. After a fault the document is as it was.
 
-ghost use Rattle.std.specs.Prelude.{◌≡◌};
+ghost use Rattle.std.specs.Prelude.{◌≡◌, true};
 ghost use Rattle.dom_trees.specs.Edits.{normalizing, setting_text};
 ghost use Rattle.c_state.specs.Answers.{ChangesTree, EditsTree};
 ghost use Rattle.c_state.specs.Edits.{IsPut, IsSanitized, attr_removed, attr_set, element_renamed};
+ghost use Rattle.c_state.specs.Names.{is_attribute_name, is_element_name};
 
 use crate::bytes::{as_text, names_in};
 use crate::fault::Fault;
+use crate::names::{attribute_name, element_name};
 use crate::numbers::place_of;
 use crate::state::State;
 use dom_nodes::node_data::Change;
@@ -14,48 +16,53 @@ use dom_query::prelude::*;
 use dom_query::{Allow, Snippet, sanitize};
 
 impl State {
-    /// Gives the element's first attribute of that local name the value, or adds one.
+    /// Gives the element's first attribute of that local name the value, or adds one. Refused as `Kind`
+    /// for another node, and as `Name` where the tokenizer couldn't read the name as one of an attribute.
     pub fn set_attr(&mut self, node: u32, name: &[u8], value: &[u8]) -> Result<usize, Fault>
         ensures { ChangesTree result self.old self.new
-            (λ old new. new ≡ attr_set node name.now value.now old) }
+            (λ old new. (new ≡ attr_set node name.now value.now old)
+            × (is_attribute_name name.now ≡ true)) }
     {
-        let node = self.node(node)?;
-        let name = as_text(name)?;
+        let node = self.element(node)?;
+        let name = attribute_name(name)?;
         let value = as_text(value)?;
         let change = Change::SetAttr { name, value };
         self.document.tree.try_change_of(&node, change)?;
         Ok(0)
     }
 
-    /// Removes every attribute of that local name.
+    /// Removes every attribute of that local name. Refused as `Kind` for a node that isn't an element.
     pub fn remove_attr(&mut self, node: u32, name: &[u8]) -> Result<usize, Fault>
         ensures { ChangesTree result self.old self.new
             (λ old new. new ≡ attr_removed node name.now old) }
     {
-        let node = self.node(node)?;
+        let node = self.element(node)?;
         let name = as_text(name)?;
         let change = Change::RemoveAttr(name);
         self.document.tree.try_change_of(&node, change)?;
         Ok(0)
     }
 
-    /// Changes the local name of an element.
+    /// Changes the local name of an element. Refused as `Kind` for another node, and as `Name` where the
+    /// tokenizer couldn't read the name as one of an element.
     pub fn rename(&mut self, node: u32, name: &[u8]) -> Result<usize, Fault>
         ensures { ChangesTree result self.old self.new
-            (λ old new. new ≡ element_renamed node name.now old) }
+            (λ old new. (new ≡ element_renamed node name.now old)
+            × (is_element_name name.now ≡ true)) }
     {
-        let node = self.node(node)?;
-        let name = as_text(name)?;
+        let node = self.element(node)?;
+        let name = element_name(name)?;
         let change = Change::Rename(name);
         self.document.tree.try_change_of(&node, change)?;
         Ok(0)
     }
 
-    /// Puts one text in the place of an element's children, or of a text's contents.
+    /// Puts one text in the place of an element's children, or of a text's contents. Refused as `Kind` for
+    /// another node.
     pub fn set_text(&mut self, node: u32, text: &[u8]) -> Result<usize, Fault>
         ensures { EditsTree result self.old self.new (setting_text node text.now) }
     {
-        let node = self.node(node)?;
+        let node = self.element_or_text(node)?;
         let text = as_text(text)?;
         self.document.tree.set_text_of(&node, text)?;
         Ok(0)

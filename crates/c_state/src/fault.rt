@@ -38,6 +38,10 @@ pub enum Fault {
     Policy(Refusal),
     /// The edit is refused.
     Edit(EditFault),
+    /// The tokenizer of the HTML Standard couldn't read the name.
+    Name,
+    /// The node isn't of a kind that the edit changes.
+    Kind,
     /// The text isn't a selector.
     Selector(SelectorFault),
     /// The text isn't explicit markup.
@@ -87,6 +91,8 @@ impl Fault {
             Fault::Finished => -43,
             Fault::Policy(refusal) => refusal_code(refusal),
             Fault::Edit(fault) => edit_code(fault),
+            Fault::Name => -14,
+            Fault::Kind => -15,
             Fault::Selector(fault) => selector_code(fault),
             Fault::Markup(fault) => markup_code(fault.kind),
         }
@@ -176,10 +182,13 @@ pub fn fault_text(code: i64) -> Option<&'static str> {
         ),
         -6 => Some("no node of the document has that number"),
         -7 => Some("too many nodes"),
+        -8 => Some("a pointer is null, or a length is too large"),
         -10 => Some("the node cannot have children"),
         -11 => Some("the root, a document or a fragment cannot be moved or get siblings"),
         -12 => Some("a node cannot be moved into itself or below itself"),
         -13 => Some("the contents of a template have to be a fragment of their own"),
+        -14 => Some("the name could not be read again"),
+        -15 => Some("the node is not an element, or for a text not an element or a text"),
         -20 => Some("the selector is malformed"),
         -21 => Some("unknown pseudo-class, or a pseudo-class in the wrong form"),
         -22 => Some("a number in the selector is too large"),

@@ -10,7 +10,9 @@ mod fault;
 mod finding;
 mod gathering;
 mod moving;
+mod names;
 mod numbers;
+mod pages;
 mod pieces;
 mod policies;
 mod reading;
@@ -19,5 +21,6 @@ mod state;
 
 pub use decoding::Decoded;
 pub use fault::{Fault, Refusal, fault_text};
+pub use pages::Reader;
 pub use policies::{PolicyState, Stage};
 pub use state::State;

@@ -1,27 +1,31 @@
 //! Nodes that are made, moved and removed. After a fault the document is as it was.
 
-ghost use Rattle.std.specs.Prelude.{◌≡◌};
+ghost use Rattle.std.specs.Prelude.{◌≡◌, IfOk, true};
 ghost use Rattle.dom_links.specs.Lists.{first};
 ghost use Rattle.dom_links.specs.Forest.{children_of};
 ghost use Rattle.dom_trees.specs.Edits.{making, removing};
 ghost use Rattle.dom_trees.specs.NewNodes.{bare_element, html_name, text_node};
 ghost use Rattle.c_state.specs.Answers.{ChangesTree, EditsTree, MakesNode};
 ghost use Rattle.c_state.specs.Edits.{Becomes, IsMoved, MovesTo, unwrapped_node};
+ghost use Rattle.c_state.specs.Names.{is_element_name};
 
 use crate::bytes::as_text;
 use crate::fault::Fault;
+use crate::names::element_name;
 use crate::numbers::place_of;
 use crate::state::State;
 use dom_query::Place;
 use dom_query::prelude::*;
 
 impl State {
-    /// Makes an element without attributes, which stands nowhere yet: its number.
+    /// Makes an element without attributes, which stands nowhere yet: its number. Refused as `Name`
+    /// where the tokenizer couldn't read the name as one of an element.
     pub fn new_element(&mut self, name: &[u8]) -> Result<usize, Fault>
-        ensures { MakesNode result self.old self.new
-            (making (bare_element (html_name name.now))) }
+        ensures { (MakesNode result self.old self.new
+            (making (bare_element (html_name name.now))))
+            × IfOk result (λ _. is_element_name name.now ≡ true) }
     {
-        let name = as_text(name)?;
+        let name = element_name(name)?;
         let made = self.document.tree.new_element(name)?;
         Ok(made.value())
     }

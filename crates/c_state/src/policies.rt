@@ -3,8 +3,8 @@
 ghost use Rattle.std.specs.Prelude.{◌≡◌, Err, IfErr, IfOk, MatchResult, None, Ok, OnErr, Some};
 ghost use Rattle.std.specs.Prelude.{length, string_bytes, take};
 ghost use Rattle.dom_clean.specs.Policy.{no_rules, own_attribute};
-ghost use Rattle.c_state.specs.Policies.{ChangesRules, Cleans, Finishes, IfReady, IsCleanFragment};
-ghost use Rattle.c_state.specs.Policies.{IsCleanPage, IsCleanTree, IsDraft, IsFinished, IsUnsound};
+ghost use Rattle.c_state.specs.Policies.{ChangesRules, Cleans, Finishes, ForgetsText, IfReady};
+ghost use Rattle.c_state.specs.Policies.{IsCleanFragment, IsCleanPage, IsCleanTree, IsDraft, IsFinished, IsUnsound};
 ghost use Rattle.c_state.specs.Rules.{IsResolvedBy, rule_numbered, setting_numbered, with_own};
 ghost use Rattle.c_state.specs.Rules.{without_attribute_of};
 ghost use Rattle.c_state.specs.declared.policies.Stage.TheVariants.{Draft, Ready, Refused};
@@ -193,6 +193,14 @@ impl PolicyState {
     {
         copy_bytes(self.text.as_bytes(), to);
         self.text.len()
+    }
+
+    /// Gives back the memory of the text that was taken last.
+    pub fn forget(&mut self) -> Result<usize, Fault>
+        ensures { ForgetsText result self.old self.new }
+    {
+        self.text = String::new(self.allocator());
+        Ok(0)
     }
 
     /// Keeps a text, and answers with it.

@@ -7,10 +7,11 @@ ghost use Rattle.dom_links.specs.Texts.{text_of};
 ghost use Rattle.dom_markup.specs.Html.{html_of, inner_html_of};
 ghost use Rattle.dom_md.specs.Formatted.{formatted_below};
 ghost use Rattle.dom_md.specs.Words.{ReadsAsWords};
+ghost use Rattle.dom_nodes.specs.Kinds.{contents_named};
 ghost use Rattle.dom_nodes.specs.Words.{class_words, words_of};
 ghost use Rattle.dom_trees.specs.Views.{node_attr, node_attrs, node_name};
 ghost use Rattle.c_state.specs.Answers.{GivesText, GivesTextThat};
-ghost use Rattle.c_state.specs.KindNumbers.{HasKind, kind_number};
+ghost use Rattle.c_state.specs.KindNumbers.{HasContents, HasKind, kind_number};
 ghost use Rattle.c_state.specs.Pieces.{GivesPieces, HoldsPieces, attr_pieces};
 
 use crate::bytes::as_text;
@@ -135,6 +136,27 @@ impl State {
             Some(node) => Ok(kind_of(&node.content)),
             None => Err(Fault::NoNode),
         }
+    }
+
+    /// The fragment that holds the contents of a template: its number. Refused as `Nothing` for any
+    /// other node, and for a template that has none.
+    pub fn contents(&self, node: u32) -> Result<usize, Fault>
+        ensures { IfOk result (λ found. HasContents self.now.document.tree node found) }
+    {
+        let node = self.node(node)?;
+        match self.document.tree.tree_node(&node) {
+            Some(node) => contents_of(&node.content),
+            None => Err(Fault::NoNode),
+        }
+    }
+}
+
+fn contents_of(content: &NodeData) -> Result<usize, Fault>
+    ensures { IfOk result (λ found. contents_named content.now ≡ Some found) }
+{
+    match content.template_contents() {
+        Some(contents) => Ok(contents.value()),
+        None => Err(Fault::Nothing),
     }
 }
 

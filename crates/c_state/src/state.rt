@@ -4,6 +4,7 @@ ghost use Rattle.std.specs.Prelude.{◌≡◌, ◌<◌, IfErr, IfOk, length, str
 ghost use Rattle.dom_markup.specs.Documents.{IsDocumentOf};
 ghost use Rattle.calm_pages.specs.Calm.{ReadsCalm};
 ghost use Rattle.page_trees.specs.Shape.{IsPage};
+ghost use Rattle.c_state.specs.Answers.{Forgets};
 ghost use Rattle.c_state.specs.declared.fault.Fault.TheVariants.{NoNode};
 
 use crate::bytes::{as_text, copy_bytes, copy_numbers};
@@ -83,6 +84,35 @@ impl State {
         }
     }
 
+    /// The element of that number. Refused as `NoNode`, and as `Kind` for another node.
+    pub(crate) fn element(&self, number: u32) -> Result<NodeId, Fault>
+        ensures ok { IfOk result (λ id. id ≡ number) }
+        ensures known { IfOk result (λ _. number < length self.now.document.tree.content) }
+    {
+        let id = self.node(number)?;
+        if self.document.tree.get_unchecked(&id).is_element() {
+            Ok(id)
+        } else {
+            Err(Fault::Kind)
+        }
+    }
+
+    /// The element or the text of that number. Refused as `NoNode`, and as `Kind` for another node.
+    pub(crate) fn element_or_text(&self, number: u32) -> Result<NodeId, Fault>
+        ensures ok { IfOk result (λ id. id ≡ number) }
+        ensures known { IfOk result (λ _. number < length self.now.document.tree.content) }
+    {
+        let id = self.node(number)?;
+        let node = self.document.tree.get_unchecked(&id);
+        if node.is_element() {
+            return Ok(id);
+        }
+        if node.is_text() {
+            return Ok(id);
+        }
+        Err(Fault::Kind)
+    }
+
     /// How many nodes were found last. As many numbers are written as there is room for.
     pub fn write_ids(&self, to: &mut [u32]) -> usize
         ensures count { result ≡ length self.now.ids.items }
@@ -112,6 +142,17 @@ impl State {
     {
         copy_numbers(self.lengths.as_slice(), to);
         self.lengths.len()
+    }
+
+    /// Gives back the memory of what the last questions found.
+    pub fn forget(&mut self) -> Result<usize, Fault>
+        ensures { Forgets result self.old self.new }
+    {
+        let alloc = self.document.tree.allocator();
+        self.text = String::new(alloc);
+        self.ids = Vec::new(alloc);
+        self.lengths = Vec::new(alloc);
+        Ok(0)
     }
 
     /// Keeps a text, and answers with it.

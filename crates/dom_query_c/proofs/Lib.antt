@@ -1,4 +1,5 @@
 mod AsBox
 mod AsPolicyBox
+mod AsReaderBox
 mod Asking
 mod Walking

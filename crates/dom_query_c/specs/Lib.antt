@@ -1,3 +1,4 @@
 pub mod Calls
 pub mod PolicySlots
+pub mod ReaderSlots
 pub mod Slots

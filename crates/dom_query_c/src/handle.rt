@@ -12,12 +12,11 @@ use c_state::{Fault, State};
 use std::alloc::Global;
 use std::mem;
 
-/// A document, or none, and the fault of the last call. All bytes 0 is a handle with no document.
+/// A document, or none; and the byte at which the last fault of markup was met. All bytes 0 is a handle with no document.
 #[repr(C)]
 #[derive(Drop)]
 pub struct Handle {
     pub slot: Slot,
-    pub fault: i64,
     pub byte: usize,
     pub full: bool,
     ghost agrees: { full ≡ is_some slot.state },
@@ -30,7 +29,6 @@ impl Handle {
     {
         Handle {
             slot: Slot::empty(alloc),
-            fault: 0,
             byte: 0,
             full: false,
         }
@@ -41,7 +39,6 @@ impl Handle {
     {
         Handle {
             slot: Slot::of(Parts::of(state)),
-            fault: 0,
             byte: 0,
             full: true,
         }
@@ -90,7 +87,7 @@ impl Handle {
         }
     }
 
-    /// The answer as C gets it: the number, or that of a fault, which is noted.
+    /// The answer as C gets it: the number, or that of a fault.
     pub fn answer(&mut self, given: Result<usize, Fault>) -> i64
         ensures kept { self.new.slot.state ≡ self.old.slot.state }
         ensures answer { IsAnswer given result }
@@ -113,9 +110,7 @@ impl Handle {
         ensures below { pos 0 ≤ℤ result → ⊥ }
         ensures closed { fault ≡ Closed → result ≡ negsuc 1 }
     {
-        let code = fault.code();
-        self.fault = code;
         self.byte = fault.byte();
-        code
+        fault.code()
     }
 }

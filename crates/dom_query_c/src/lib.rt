@@ -1,5 +1,5 @@
-//! HTML documents and policies behind handles, for C and for what calls C. `include/dom_query.h`
-//! describes the functions as C sees them.
+//! HTML documents, policies and readers behind handles. `c/dom_query.c` calls these functions, and gives C
+//! what `include/dom_query.h` describes.
 #![tactic(auto)]
 
 ghost use Rattle.std.specs.Prelude.{◌≡◌, ◌∷◌, [], IfOk, MatchOption, None, Some};
@@ -19,12 +19,13 @@ ghost use Rattle.dom_trees.specs.NewNodes.{bare_element, html_name, text_node};
 ghost use Rattle.dom_nodes.specs.Words.{class_words};
 ghost use Rattle.dom_trees.specs.Views.{node_attr, node_attrs, node_name};
 ghost use Rattle.page_trees.specs.Shape.{IsPage};
-ghost use Rattle.c_state.specs.Answers.{ChangesTree, EditsTree, GivesNodes, GivesText};
+ghost use Rattle.c_state.specs.Answers.{ChangesTree, EditsTree, Forgets, GivesNodes, GivesText};
 ghost use Rattle.c_state.specs.Answers.{GivesTextThat, MakesNode, SaysWhether};
 ghost use Rattle.c_state.specs.Decodings.{IsDecodedPage, source_number};
 ghost use Rattle.c_state.specs.Edits.{IsMoved, IsPut, IsSanitized, attr_removed, attr_set};
 ghost use Rattle.c_state.specs.Edits.{element_renamed, unwrapped_node};
-ghost use Rattle.c_state.specs.KindNumbers.{HasKind};
+ghost use Rattle.c_state.specs.KindNumbers.{HasContents, HasKind};
+ghost use Rattle.c_state.specs.Names.{is_attribute_name, is_element_name};
 ghost use Rattle.c_state.specs.Neighbours.{IsFirst, along, neighbour};
 ghost use Rattle.c_state.specs.Pieces.{GivesPieces, attr_pieces};
 ghost use Rattle.dom_query_c.specs.Calls.{Asks, GivesKept, Reads};
@@ -49,6 +50,9 @@ mod parts;
 mod policies;
 mod policy_handle;
 mod policy_slot;
+mod reader_handle;
+mod reader_slot;
+mod readers;
 mod slot;
 
 use c_state::{Fault, State, fault_text};
@@ -57,7 +61,7 @@ use std::alloc::Global;
 
 /// Reads a page, as browsers do, in place of what the handle held.
 #[unsafe(no_mangle)]
-pub extern "C" fn dq_parse_page(
+pub extern "C" fn dq_proved_parse_page(
     alloc: Global,
     handle: &mut Handle,
     html: &[u8],
@@ -71,7 +75,7 @@ pub extern "C" fn dq_parse_page(
 
 /// Reads explicit markup, in place of what the handle held.
 #[unsafe(no_mangle)]
-pub extern "C" fn dq_parse(alloc: Global, handle: &mut Handle, html: &[u8]) -> i64
+pub extern "C" fn dq_proved_parse(alloc: Global, handle: &mut Handle, html: &[u8]) -> i64
     ensures { Reads handle.old.slot.state handle.new.slot.state result
         (λ state. IsDocumentOf html.now state.document) }
 {
@@ -80,7 +84,7 @@ pub extern "C" fn dq_parse(alloc: Global, handle: &mut Handle, html: &[u8]) -> i
 
 /// Reads a fragment of a page, as browsers do inside an element of that name.
 #[unsafe(no_mangle)]
-pub extern "C" fn dq_parse_fragment(
+pub extern "C" fn dq_proved_parse_fragment(
     alloc: Global,
     handle: &mut Handle,
     html: &[u8],
@@ -94,7 +98,7 @@ pub extern "C" fn dq_parse_fragment(
 
 /// Reads a page in any encoding, in place of what the handle held.
 #[unsafe(no_mangle)]
-pub extern "C" fn dq_parse_bytes(
+pub extern "C" fn dq_proved_parse_bytes(
     alloc: Global,
     handle: &mut Handle,
     bytes: &[u8],
@@ -109,7 +113,7 @@ pub extern "C" fn dq_parse_bytes(
 
 /// Takes the name of the encoding that the page was in: its length.
 #[unsafe(no_mangle)]
-pub extern "C" fn dq_encoding(alloc: Global, handle: &mut Handle, to: &mut [u8]) -> i64
+pub extern "C" fn dq_proved_encoding(alloc: Global, handle: &mut Handle, to: &mut [u8]) -> i64
     ensures { Asks handle.old.slot.state handle.new.slot.state result
         (λ given s t. GivesTextThat given s t to.old to.new (λ _. is_some s.decoded ≡ true)) }
 {
@@ -118,7 +122,7 @@ pub extern "C" fn dq_encoding(alloc: Global, handle: &mut Handle, to: &mut [u8])
 
 /// What says in which encoding the page was.
 #[unsafe(no_mangle)]
-pub extern "C" fn dq_encoding_source(alloc: Global, handle: &mut Handle) -> i64
+pub extern "C" fn dq_proved_encoding_source(alloc: Global, handle: &mut Handle) -> i64
     ensures { Asks handle.old.slot.state handle.new.slot.state result
         (λ given s t. (t ≡ s) × IfOk given (λ number. MatchOption s.decoded ⊥
         (λ decoded. number ≡ source_number decoded.source))) }
@@ -128,7 +132,7 @@ pub extern "C" fn dq_encoding_source(alloc: Global, handle: &mut Handle) -> i64
 
 /// How many characters stand for bytes that could not be decoded.
 #[unsafe(no_mangle)]
-pub extern "C" fn dq_replaced(alloc: Global, handle: &mut Handle) -> i64
+pub extern "C" fn dq_proved_replaced(alloc: Global, handle: &mut Handle) -> i64
     ensures { Asks handle.old.slot.state handle.new.slot.state result
         (λ given s t. (t ≡ s) × IfOk given (λ count. MatchOption s.decoded ⊥
         (λ decoded. count ≡ decoded.replaced))) }
@@ -138,7 +142,7 @@ pub extern "C" fn dq_replaced(alloc: Global, handle: &mut Handle) -> i64
 
 /// Frees what the handle holds; it is then empty.
 #[unsafe(no_mangle)]
-pub extern "C" fn dq_free(alloc: Global, handle: &mut Handle)
+pub extern "C" fn dq_proved_free(alloc: Global, handle: &mut Handle)
     ensures { handle.new.slot.state ≡ None }
 {
     drop(handle.take(alloc));
@@ -146,7 +150,7 @@ pub extern "C" fn dq_free(alloc: Global, handle: &mut Handle)
 
 /// Finds the elements below the node that match the selectors: how many there are.
 #[unsafe(no_mangle)]
-pub extern "C" fn dq_select(
+pub extern "C" fn dq_proved_select(
     alloc: Global,
     handle: &mut Handle,
     root: u32,
@@ -162,7 +166,7 @@ pub extern "C" fn dq_select(
 
 /// The first element below the node that matches the selectors.
 #[unsafe(no_mangle)]
-pub extern "C" fn dq_select_first(
+pub extern "C" fn dq_proved_select_first(
     alloc: Global,
     handle: &mut Handle,
     root: u32,
@@ -177,7 +181,7 @@ pub extern "C" fn dq_select_first(
 
 /// Whether the node matches the selectors: 1 or 0.
 #[unsafe(no_mangle)]
-pub extern "C" fn dq_matches(alloc: Global, handle: &mut Handle, node: u32, selectors: &[u8]) -> i64
+pub extern "C" fn dq_proved_matches(alloc: Global, handle: &mut Handle, node: u32, selectors: &[u8]) -> i64
     ensures { Asks handle.old.slot.state handle.new.slot.state result
         (λ given s t. (t ≡ s) × IfOk given (λ answer. ByText selectors.now
         (λ list. SaysWhether answer (IsMatch list s.document.tree node)))) }
@@ -187,7 +191,7 @@ pub extern "C" fn dq_matches(alloc: Global, handle: &mut Handle, node: u32, sele
 
 /// The texts of the elements below the node that match the selectors: how many there are.
 #[unsafe(no_mangle)]
-pub extern "C" fn dq_select_texts(
+pub extern "C" fn dq_proved_select_texts(
     alloc: Global,
     handle: &mut Handle,
     root: u32,
@@ -203,7 +207,7 @@ pub extern "C" fn dq_select_texts(
 
 /// The HTML of the elements below the node that match the selectors: how many there are.
 #[unsafe(no_mangle)]
-pub extern "C" fn dq_select_html(
+pub extern "C" fn dq_proved_select_html(
     alloc: Global,
     handle: &mut Handle,
     root: u32,
@@ -219,7 +223,7 @@ pub extern "C" fn dq_select_html(
 
 /// An attribute of each element below the node that matches the selectors: how many there are.
 #[unsafe(no_mangle)]
-pub extern "C" fn dq_select_attrs(
+pub extern "C" fn dq_proved_select_attrs(
     alloc: Global,
     handle: &mut Handle,
     root: u32,
@@ -236,7 +240,7 @@ pub extern "C" fn dq_select_attrs(
 
 /// The nodes that were found last: how many there are.
 #[unsafe(no_mangle)]
-pub extern "C" fn dq_found(alloc: Global, handle: &mut Handle, to: &mut [u32]) -> i64
+pub extern "C" fn dq_proved_found(alloc: Global, handle: &mut Handle, to: &mut [u32]) -> i64
     ensures { Asks handle.old.slot.state handle.new.slot.state result
         (λ given s t. (t ≡ s) × GivesKept given to.old to.new s.ids.items) }
 {
@@ -245,7 +249,7 @@ pub extern "C" fn dq_found(alloc: Global, handle: &mut Handle, to: &mut [u32]) -
 
 /// The text that was taken last: its length.
 #[unsafe(no_mangle)]
-pub extern "C" fn dq_taken(alloc: Global, handle: &mut Handle, to: &mut [u8]) -> i64
+pub extern "C" fn dq_proved_taken(alloc: Global, handle: &mut Handle, to: &mut [u8]) -> i64
     ensures { Asks handle.old.slot.state handle.new.slot.state result
         (λ given s t. (t ≡ s) × GivesKept given to.old to.new (string_bytes s.text)) }
 {
@@ -254,16 +258,25 @@ pub extern "C" fn dq_taken(alloc: Global, handle: &mut Handle, to: &mut [u8]) ->
 
 /// The lengths of the pieces of the text that was taken last: how many there are.
 #[unsafe(no_mangle)]
-pub extern "C" fn dq_lengths(alloc: Global, handle: &mut Handle, to: &mut [u32]) -> i64
+pub extern "C" fn dq_proved_lengths(alloc: Global, handle: &mut Handle, to: &mut [u32]) -> i64
     ensures { Asks handle.old.slot.state handle.new.slot.state result
         (λ given s t. (t ≡ s) × GivesKept given to.old to.new s.lengths.items) }
 {
     ask!(alloc, handle, state => Ok(state.write_lengths(to)))
 }
 
+/// Gives back the memory of what was found and taken last.
+#[unsafe(no_mangle)]
+pub extern "C" fn dq_proved_forget(alloc: Global, handle: &mut Handle) -> i64
+    ensures { Asks handle.old.slot.state handle.new.slot.state result
+        (λ given s t. Forgets given s t) }
+{
+    ask!(alloc, handle, state => state.forget())
+}
+
 /// Takes the text at the node: its length.
 #[unsafe(no_mangle)]
-pub extern "C" fn dq_text(alloc: Global, handle: &mut Handle, node: u32, to: &mut [u8]) -> i64
+pub extern "C" fn dq_proved_text(alloc: Global, handle: &mut Handle, node: u32, to: &mut [u8]) -> i64
     ensures { Asks handle.old.slot.state handle.new.slot.state result
         (λ given s t. GivesText given s t to.old to.new (text_of s.document.tree node)) }
 {
@@ -272,7 +285,7 @@ pub extern "C" fn dq_text(alloc: Global, handle: &mut Handle, node: u32, to: &mu
 
 /// Takes the HTML of the node: its length.
 #[unsafe(no_mangle)]
-pub extern "C" fn dq_html(alloc: Global, handle: &mut Handle, node: u32, to: &mut [u8]) -> i64
+pub extern "C" fn dq_proved_html(alloc: Global, handle: &mut Handle, node: u32, to: &mut [u8]) -> i64
     ensures { Asks handle.old.slot.state handle.new.slot.state result
         (λ given s t. GivesText given s t to.old to.new (html_of s.document.tree node)) }
 {
@@ -281,7 +294,7 @@ pub extern "C" fn dq_html(alloc: Global, handle: &mut Handle, node: u32, to: &mu
 
 /// Takes the HTML of the node's children: its length.
 #[unsafe(no_mangle)]
-pub extern "C" fn dq_inner_html(alloc: Global, handle: &mut Handle, node: u32, to: &mut [u8]) -> i64
+pub extern "C" fn dq_proved_inner_html(alloc: Global, handle: &mut Handle, node: u32, to: &mut [u8]) -> i64
     ensures { Asks handle.old.slot.state handle.new.slot.state result
         (λ given s t. GivesText given s t to.old to.new
         (inner_html_of s.document.tree node)) }
@@ -291,7 +304,7 @@ pub extern "C" fn dq_inner_html(alloc: Global, handle: &mut Handle, node: u32, t
 
 /// Takes the Markdown of the node: its length.
 #[unsafe(no_mangle)]
-pub extern "C" fn dq_md(alloc: Global, handle: &mut Handle, node: u32, to: &mut [u8]) -> i64
+pub extern "C" fn dq_proved_md(alloc: Global, handle: &mut Handle, node: u32, to: &mut [u8]) -> i64
     ensures { Asks handle.old.slot.state handle.new.slot.state result
         (λ given s t. GivesTextThat given s t to.old to.new
         (ReadsAsWords s.document.tree node)) }
@@ -301,7 +314,7 @@ pub extern "C" fn dq_md(alloc: Global, handle: &mut Handle, node: u32, to: &mut 
 
 /// Takes the formatted text of the node: its length.
 #[unsafe(no_mangle)]
-pub extern "C" fn dq_formatted_text(
+pub extern "C" fn dq_proved_formatted_text(
     alloc: Global,
     handle: &mut Handle,
     node: u32,
@@ -316,7 +329,7 @@ pub extern "C" fn dq_formatted_text(
 
 /// Takes the name of the element: its length.
 #[unsafe(no_mangle)]
-pub extern "C" fn dq_name(alloc: Global, handle: &mut Handle, node: u32, to: &mut [u8]) -> i64
+pub extern "C" fn dq_proved_name(alloc: Global, handle: &mut Handle, node: u32, to: &mut [u8]) -> i64
     ensures { Asks handle.old.slot.state handle.new.slot.state result
         (λ given s t. GivesTextThat given s t to.old to.new
         (λ text. Some (string_bytes text) ≡ node_name s.document.tree node)) }
@@ -326,7 +339,7 @@ pub extern "C" fn dq_name(alloc: Global, handle: &mut Handle, node: u32, to: &mu
 
 /// Takes the value of an attribute: its length.
 #[unsafe(no_mangle)]
-pub extern "C" fn dq_attr(
+pub extern "C" fn dq_proved_attr(
     alloc: Global,
     handle: &mut Handle,
     node: u32,
@@ -342,7 +355,7 @@ pub extern "C" fn dq_attr(
 
 /// Takes the names and values of the attributes, by turns: how many pieces there are.
 #[unsafe(no_mangle)]
-pub extern "C" fn dq_attrs(alloc: Global, handle: &mut Handle, node: u32) -> i64
+pub extern "C" fn dq_proved_attrs(alloc: Global, handle: &mut Handle, node: u32) -> i64
     ensures { Asks handle.old.slot.state handle.new.slot.state result
         (λ given s t. GivesPieces given s t Some
         (λ pieces. pieces ≡ flat_map attr_pieces (node_attrs s.document.tree node))) }
@@ -352,7 +365,7 @@ pub extern "C" fn dq_attrs(alloc: Global, handle: &mut Handle, node: u32) -> i64
 
 /// Takes the classes of the element: how many there are.
 #[unsafe(no_mangle)]
-pub extern "C" fn dq_classes(alloc: Global, handle: &mut Handle, node: u32) -> i64
+pub extern "C" fn dq_proved_classes(alloc: Global, handle: &mut Handle, node: u32) -> i64
     ensures { Asks handle.old.slot.state handle.new.slot.state result
         (λ given s t. GivesPieces given s t Some
         (λ pieces. pieces ≡ class_words (node_attrs s.document.tree node))) }
@@ -362,16 +375,25 @@ pub extern "C" fn dq_classes(alloc: Global, handle: &mut Handle, node: u32) -> i
 
 /// The kind of the node, as the DOM's `nodeType`.
 #[unsafe(no_mangle)]
-pub extern "C" fn dq_kind(alloc: Global, handle: &mut Handle, node: u32) -> i64
+pub extern "C" fn dq_proved_kind(alloc: Global, handle: &mut Handle, node: u32) -> i64
     ensures { Asks handle.old.slot.state handle.new.slot.state result
         (λ given s t. (t ≡ s) × IfOk given (λ kind. HasKind s.document.tree node kind)) }
 {
     ask!(alloc, handle, state => state.kind(node))
 }
 
+/// The fragment that holds the contents of a template.
+#[unsafe(no_mangle)]
+pub extern "C" fn dq_proved_contents(alloc: Global, handle: &mut Handle, node: u32) -> i64
+    ensures { Asks handle.old.slot.state handle.new.slot.state result
+        (λ given s t. (t ≡ s) × IfOk given (λ found. HasContents s.document.tree node found)) }
+{
+    ask!(alloc, handle, state => state.contents(node))
+}
+
 /// The node in that direction.
 #[unsafe(no_mangle)]
-pub extern "C" fn dq_step(alloc: Global, handle: &mut Handle, node: u32, direction: u32) -> i64
+pub extern "C" fn dq_proved_step(alloc: Global, handle: &mut Handle, node: u32, direction: u32) -> i64
     ensures { Asks handle.old.slot.state handle.new.slot.state result
         (λ given s t. (t ≡ s) × IfOk given (λ found.
         neighbour s.document.tree node direction ≡ Some found)) }
@@ -381,7 +403,7 @@ pub extern "C" fn dq_step(alloc: Global, handle: &mut Handle, node: u32, directi
 
 /// Finds the nodes along an axis: how many there are.
 #[unsafe(no_mangle)]
-pub extern "C" fn dq_list(
+pub extern "C" fn dq_proved_list(
     alloc: Global,
     handle: &mut Handle,
     node: u32,
@@ -397,7 +419,7 @@ pub extern "C" fn dq_list(
 
 /// Sets an attribute.
 #[unsafe(no_mangle)]
-pub extern "C" fn dq_set_attr(
+pub extern "C" fn dq_proved_set_attr(
     alloc: Global,
     handle: &mut Handle,
     node: u32,
@@ -406,14 +428,15 @@ pub extern "C" fn dq_set_attr(
 ) -> i64
     ensures { Asks handle.old.slot.state handle.new.slot.state result
         (λ given s t. ChangesTree given s t
-        (λ old new. new ≡ attr_set node name.now value.now old)) }
+        (λ old new. (new ≡ attr_set node name.now value.now old)
+        × (is_attribute_name name.now ≡ true))) }
 {
     ask!(alloc, handle, state => state.set_attr(node, name, value))
 }
 
 /// Removes an attribute.
 #[unsafe(no_mangle)]
-pub extern "C" fn dq_remove_attr(alloc: Global, handle: &mut Handle, node: u32, name: &[u8]) -> i64
+pub extern "C" fn dq_proved_remove_attr(alloc: Global, handle: &mut Handle, node: u32, name: &[u8]) -> i64
     ensures { Asks handle.old.slot.state handle.new.slot.state result
         (λ given s t. ChangesTree given s t
         (λ old new. new ≡ attr_removed node name.now old)) }
@@ -423,17 +446,18 @@ pub extern "C" fn dq_remove_attr(alloc: Global, handle: &mut Handle, node: u32, 
 
 /// Changes the name of an element.
 #[unsafe(no_mangle)]
-pub extern "C" fn dq_rename(alloc: Global, handle: &mut Handle, node: u32, name: &[u8]) -> i64
+pub extern "C" fn dq_proved_rename(alloc: Global, handle: &mut Handle, node: u32, name: &[u8]) -> i64
     ensures { Asks handle.old.slot.state handle.new.slot.state result
         (λ given s t. ChangesTree given s t
-        (λ old new. new ≡ element_renamed node name.now old)) }
+        (λ old new. (new ≡ element_renamed node name.now old)
+        × (is_element_name name.now ≡ true))) }
 {
     ask!(alloc, handle, state => state.rename(node, name))
 }
 
 /// Puts a text in the place of the node's children.
 #[unsafe(no_mangle)]
-pub extern "C" fn dq_set_text(alloc: Global, handle: &mut Handle, node: u32, text: &[u8]) -> i64
+pub extern "C" fn dq_proved_set_text(alloc: Global, handle: &mut Handle, node: u32, text: &[u8]) -> i64
     ensures { Asks handle.old.slot.state handle.new.slot.state result
         (λ given s t. EditsTree given s t (setting_text node text.now)) }
 {
@@ -442,7 +466,7 @@ pub extern "C" fn dq_set_text(alloc: Global, handle: &mut Handle, node: u32, tex
 
 /// Puts explicit markup at a place at the node.
 #[unsafe(no_mangle)]
-pub extern "C" fn dq_put_html(
+pub extern "C" fn dq_proved_put_html(
     alloc: Global,
     handle: &mut Handle,
     node: u32,
@@ -457,16 +481,17 @@ pub extern "C" fn dq_put_html(
 
 /// Makes an element: its number.
 #[unsafe(no_mangle)]
-pub extern "C" fn dq_new_element(alloc: Global, handle: &mut Handle, name: &[u8]) -> i64
+pub extern "C" fn dq_proved_new_element(alloc: Global, handle: &mut Handle, name: &[u8]) -> i64
     ensures { Asks handle.old.slot.state handle.new.slot.state result
-        (λ given s t. MakesNode given s t (making (bare_element (html_name name.now)))) }
+        (λ given s t. (MakesNode given s t (making (bare_element (html_name name.now))))
+        × IfOk given (λ _. is_element_name name.now ≡ true)) }
 {
     ask!(alloc, handle, state => state.new_element(name))
 }
 
 /// Makes a text: its number.
 #[unsafe(no_mangle)]
-pub extern "C" fn dq_new_text(alloc: Global, handle: &mut Handle, text: &[u8]) -> i64
+pub extern "C" fn dq_proved_new_text(alloc: Global, handle: &mut Handle, text: &[u8]) -> i64
     ensures { Asks handle.old.slot.state handle.new.slot.state result
         (λ given s t. MakesNode given s t (making (text_node text.now))) }
 {
@@ -475,7 +500,7 @@ pub extern "C" fn dq_new_text(alloc: Global, handle: &mut Handle, text: &[u8]) -
 
 /// Moves the node to a place at the target.
 #[unsafe(no_mangle)]
-pub extern "C" fn dq_move(
+pub extern "C" fn dq_proved_move(
     alloc: Global,
     handle: &mut Handle,
     node: u32,
@@ -490,7 +515,7 @@ pub extern "C" fn dq_move(
 
 /// Detaches the node.
 #[unsafe(no_mangle)]
-pub extern "C" fn dq_remove(alloc: Global, handle: &mut Handle, node: u32) -> i64
+pub extern "C" fn dq_proved_remove(alloc: Global, handle: &mut Handle, node: u32) -> i64
     ensures { Asks handle.old.slot.state handle.new.slot.state result
         (λ given s t. EditsTree given s t (removing node)) }
 {
@@ -499,7 +524,7 @@ pub extern "C" fn dq_remove(alloc: Global, handle: &mut Handle, node: u32) -> i6
 
 /// Puts the children of the node in its place.
 #[unsafe(no_mangle)]
-pub extern "C" fn dq_unwrap(alloc: Global, handle: &mut Handle, node: u32) -> i64
+pub extern "C" fn dq_proved_unwrap(alloc: Global, handle: &mut Handle, node: u32) -> i64
     ensures { Asks handle.old.slot.state handle.new.slot.state result
         (λ given s t. ChangesTree given s t (λ old new. new ≡ unwrapped_node node old)) }
 {
@@ -508,7 +533,7 @@ pub extern "C" fn dq_unwrap(alloc: Global, handle: &mut Handle, node: u32) -> i6
 
 /// Joins the neighbouring texts below the node.
 #[unsafe(no_mangle)]
-pub extern "C" fn dq_normalize(alloc: Global, handle: &mut Handle, node: u32) -> i64
+pub extern "C" fn dq_proved_normalize(alloc: Global, handle: &mut Handle, node: u32) -> i64
     ensures { Asks handle.old.slot.state handle.new.slot.state result
         (λ given s t. EditsTree given s t (normalizing node)) }
 {
@@ -517,7 +542,7 @@ pub extern "C" fn dq_normalize(alloc: Global, handle: &mut Handle, node: u32) ->
 
 /// Keeps the elements and attributes of these names.
 #[unsafe(no_mangle)]
-pub extern "C" fn dq_sanitize(
+pub extern "C" fn dq_proved_sanitize(
     alloc: Global,
     handle: &mut Handle,
     elements: &[u8],
@@ -531,17 +556,9 @@ pub extern "C" fn dq_sanitize(
     ask!(alloc, handle, state => state.sanitize(elements, attrs, dropped))
 }
 
-/// The fault of the last call: its number, or 0.
-#[unsafe(no_mangle)]
-pub extern "C" fn dq_fault(handle: &Handle) -> i64
-    ensures { result ≡ handle.now.fault }
-{
-    handle.fault
-}
-
 /// The byte of the markup at which the last fault was met.
 #[unsafe(no_mangle)]
-pub extern "C" fn dq_fault_byte(handle: &Handle) -> usize
+pub extern "C" fn dq_proved_fault_byte(handle: &Handle) -> usize
     ensures { result ≡ handle.now.byte }
 {
     handle.byte
@@ -549,7 +566,7 @@ pub extern "C" fn dq_fault_byte(handle: &Handle) -> usize
 
 /// What a number of a fault means, in English: its length. As much is written as there is room for.
 #[unsafe(no_mangle)]
-pub extern "C" fn dq_fault_text(fault: i64, to: &mut [u8]) -> usize {
+pub extern "C" fn dq_proved_fault_text(fault: i64, to: &mut [u8]) -> usize {
     match fault_text(fault) {
         Some(text) => {
             let count = text.len().min(to.len());

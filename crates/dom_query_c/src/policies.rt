@@ -2,8 +2,8 @@
 
 ghost use Rattle.std.specs.Prelude.{◌≡◌, None, Some, string_bytes};
 ghost use Rattle.dom_clean.specs.Policy.{no_rules, own_attribute};
-ghost use Rattle.c_state.specs.Policies.{ChangesRules, Cleans, Finishes, IsCleanFragment};
-ghost use Rattle.c_state.specs.Policies.{IsCleanPage, IsCleanTree, IsDraft};
+ghost use Rattle.c_state.specs.Policies.{ChangesRules, Cleans, Finishes, ForgetsText};
+ghost use Rattle.c_state.specs.Policies.{IsCleanFragment, IsCleanPage, IsCleanTree, IsDraft};
 ghost use Rattle.c_state.specs.Rules.{IsResolvedBy, rule_numbered, setting_numbered, with_own};
 ghost use Rattle.c_state.specs.Rules.{without_attribute_of};
 ghost use Rattle.c_state.specs.declared.policies.Stage.TheVariants.{Draft};
@@ -16,7 +16,7 @@ use std::alloc::Global;
 
 /// Begins a policy by which only texts stay, in place of what the handle held.
 #[unsafe(no_mangle)]
-pub extern "C" fn dq_policy_empty(alloc: Global, handle: &mut PolicyHandle) -> i64
+pub extern "C" fn dq_proved_policy_empty(alloc: Global, handle: &mut PolicyHandle) -> i64
     ensures { Reads handle.old.slot.policy handle.new.slot.policy result
         (λ state. state.stage ≡ Draft no_rules) }
 {
@@ -26,7 +26,7 @@ pub extern "C" fn dq_policy_empty(alloc: Global, handle: &mut PolicyHandle) -> i
 /// Begins a policy with the rules for comments, mails and articles, in place of what the handle
 /// held.
 #[unsafe(no_mangle)]
-pub extern "C" fn dq_policy_common(alloc: Global, handle: &mut PolicyHandle) -> i64
+pub extern "C" fn dq_proved_policy_common(alloc: Global, handle: &mut PolicyHandle) -> i64
     ensures { Reads handle.old.slot.policy handle.new.slot.policy result
         (λ state. IsDraft state.stage) }
 {
@@ -35,7 +35,7 @@ pub extern "C" fn dq_policy_common(alloc: Global, handle: &mut PolicyHandle) -> 
 
 /// Adds the rule of that number, which has a text.
 #[unsafe(no_mangle)]
-pub extern "C" fn dq_policy_rule(
+pub extern "C" fn dq_proved_policy_rule(
     alloc: Global,
     handle: &mut PolicyHandle,
     rule: u32,
@@ -50,7 +50,7 @@ pub extern "C" fn dq_policy_rule(
 
 /// Lets elements of that name have that attribute.
 #[unsafe(no_mangle)]
-pub extern "C" fn dq_policy_attribute_of(
+pub extern "C" fn dq_proved_policy_attribute_of(
     alloc: Global,
     handle: &mut PolicyHandle,
     element: &[u8],
@@ -66,7 +66,7 @@ pub extern "C" fn dq_policy_attribute_of(
 /// Takes back what the rules say of that attribute of elements of that name, whatever its values
 /// are.
 #[unsafe(no_mangle)]
-pub extern "C" fn dq_policy_disallow_attribute_of(
+pub extern "C" fn dq_proved_policy_disallow_attribute_of(
     alloc: Global,
     handle: &mut PolicyHandle,
     element: &[u8],
@@ -81,7 +81,7 @@ pub extern "C" fn dq_policy_disallow_attribute_of(
 
 /// Lets elements of that name have that attribute with that value.
 #[unsafe(no_mangle)]
-pub extern "C" fn dq_policy_value(
+pub extern "C" fn dq_proved_policy_value(
     alloc: Global,
     handle: &mut PolicyHandle,
     element: &[u8],
@@ -97,7 +97,7 @@ pub extern "C" fn dq_policy_value(
 
 /// Has addresses without a scheme resolved against that base.
 #[unsafe(no_mangle)]
-pub extern "C" fn dq_policy_base(alloc: Global, handle: &mut PolicyHandle, base: &[u8]) -> i64
+pub extern "C" fn dq_proved_policy_base(alloc: Global, handle: &mut PolicyHandle, base: &[u8]) -> i64
     ensures { Asks handle.old.slot.policy handle.new.slot.policy result
         (λ given s t. ChangesRules given s t (IsResolvedBy base.now)) }
 {
@@ -106,7 +106,7 @@ pub extern "C" fn dq_policy_base(alloc: Global, handle: &mut PolicyHandle, base:
 
 /// Changes the setting of that number, which has a number.
 #[unsafe(no_mangle)]
-pub extern "C" fn dq_policy_set(
+pub extern "C" fn dq_proved_policy_set(
     alloc: Global,
     handle: &mut PolicyHandle,
     setting: u32,
@@ -121,7 +121,7 @@ pub extern "C" fn dq_policy_set(
 
 /// Makes a policy of the rules.
 #[unsafe(no_mangle)]
-pub extern "C" fn dq_policy_finish(alloc: Global, handle: &mut PolicyHandle) -> i64
+pub extern "C" fn dq_proved_policy_finish(alloc: Global, handle: &mut PolicyHandle) -> i64
     ensures { Asks handle.old.slot.policy handle.new.slot.policy result Finishes }
 {
     ask!(alloc, handle, policy => policy.finish())
@@ -129,7 +129,7 @@ pub extern "C" fn dq_policy_finish(alloc: Global, handle: &mut PolicyHandle) -> 
 
 /// The text of what the policy leaves of a fragment: its length.
 #[unsafe(no_mangle)]
-pub extern "C" fn dq_clean(
+pub extern "C" fn dq_proved_clean(
     alloc: Global,
     handle: &mut PolicyHandle,
     html: &[u8],
@@ -144,7 +144,7 @@ pub extern "C" fn dq_clean(
 
 /// A page with what the policy leaves of the body of a page: its length.
 #[unsafe(no_mangle)]
-pub extern "C" fn dq_clean_page(
+pub extern "C" fn dq_proved_clean_page(
     alloc: Global,
     handle: &mut PolicyHandle,
     html: &[u8],
@@ -159,7 +159,7 @@ pub extern "C" fn dq_clean_page(
 
 /// The text of what the policy leaves of a document, which stays as it is: its length.
 #[unsafe(no_mangle)]
-pub extern "C" fn dq_clean_document(
+pub extern "C" fn dq_proved_clean_document(
     alloc: Global,
     handle: &mut PolicyHandle,
     document: &mut Handle,
@@ -190,24 +190,25 @@ fn clean_state(alloc: Global, handle: &mut PolicyHandle, of: &State, to: &mut [u
 
 /// The text that was taken last: its length.
 #[unsafe(no_mangle)]
-pub extern "C" fn dq_policy_taken(alloc: Global, handle: &mut PolicyHandle, to: &mut [u8]) -> i64
+pub extern "C" fn dq_proved_policy_taken(alloc: Global, handle: &mut PolicyHandle, to: &mut [u8]) -> i64
     ensures { Asks handle.old.slot.policy handle.new.slot.policy result
         (λ given s t. (t ≡ s) × GivesKept given to.old to.new (string_bytes s.text)) }
 {
     ask!(alloc, handle, policy => Ok(policy.write_text(to)))
 }
 
-/// The fault of the last call: its number, or 0.
+/// Gives back the memory of the text that was taken last.
 #[unsafe(no_mangle)]
-pub extern "C" fn dq_policy_fault(handle: &PolicyHandle) -> i64
-    ensures { result ≡ handle.now.fault }
+pub extern "C" fn dq_proved_policy_forget(alloc: Global, handle: &mut PolicyHandle) -> i64
+    ensures { Asks handle.old.slot.policy handle.new.slot.policy result
+        (λ given s t. ForgetsText given s t) }
 {
-    handle.fault
+    ask!(alloc, handle, policy => policy.forget())
 }
 
 /// Frees what the handle holds; it is then empty.
 #[unsafe(no_mangle)]
-pub extern "C" fn dq_policy_free(alloc: Global, handle: &mut PolicyHandle)
+pub extern "C" fn dq_proved_policy_free(alloc: Global, handle: &mut PolicyHandle)
     ensures { handle.new.slot.policy ≡ None }
 {
     drop(handle.take(alloc));

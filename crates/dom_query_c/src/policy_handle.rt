@@ -12,12 +12,11 @@ use c_state::{Fault, PolicyState};
 use std::alloc::Global;
 use std::mem;
 
-/// A policy, or none, and the fault of the last call. All bytes 0 is a handle with no policy.
+/// A policy, or none. All bytes 0 is a handle with no policy.
 #[repr(C)]
 #[derive(Drop)]
 pub struct PolicyHandle {
     pub slot: PolicySlot,
-    pub fault: i64,
     pub full: bool,
     ghost agrees: { full ≡ is_some slot.policy },
 }
@@ -29,7 +28,6 @@ impl PolicyHandle {
     {
         PolicyHandle {
             slot: PolicySlot::empty(alloc),
-            fault: 0,
             full: false,
         }
     }
@@ -39,7 +37,6 @@ impl PolicyHandle {
     {
         PolicyHandle {
             slot: PolicySlot::of(Parts::of(policy)),
-            fault: 0,
             full: true,
         }
     }
@@ -87,7 +84,7 @@ impl PolicyHandle {
         }
     }
 
-    /// The answer as C gets it: the number, or that of a fault, which is noted.
+    /// The answer as C gets it: the number, or that of a fault.
     pub fn answer(&mut self, given: Result<usize, Fault>) -> i64
         ensures kept { self.new.slot.policy ≡ self.old.slot.policy }
         ensures answer { IsAnswer given result }
@@ -110,8 +107,6 @@ impl PolicyHandle {
         ensures below { pos 0 ≤ℤ result → ⊥ }
         ensures closed { fault ≡ Closed → result ≡ negsuc 1 }
     {
-        let code = fault.code();
-        self.fault = code;
-        code
+        fault.code()
     }
 }

@@ -1,0 +1,13 @@
+use Rattle.std.proofs.Common.{rules, ◌≡◌, subst}
+use Rattle.c_state.specs.Answers.{Forgets}
+use Rattle.c_state.specs.declared.state.State.{State}
+use Rattle.dom_query_c.proofs.Asking.{asked}
+use Rattle.dom_query_c.proofs.dq_proved_forget.Goals as goal
+
+pub returns-in-Some : goal.returns-in-Some
+returns-in-Some c =
+    let same : c.deref_mut.result.now ≡ c.in-Some.boxed.value = search rules in
+    let told = subst (λ (s : State). Forgets c.forget-given.result s c.forget-given.new.self) same c.forget-given.ensures in
+    asked c.args.handle.now.slot.state c.answer.new.self.slot.state _
+    (λ given s t. Forgets given s t)
+    c.in-Some.boxed.value c.forget-given.new.self c.forget-given.result (search rules) (search rules) told (search rules)
