@@ -181,7 +181,12 @@ pub extern "C" fn dq_proved_select_first(
 
 /// Whether the node matches the selectors: 1 or 0.
 #[unsafe(no_mangle)]
-pub extern "C" fn dq_proved_matches(alloc: Global, handle: &mut Handle, node: u32, selectors: &[u8]) -> i64
+pub extern "C" fn dq_proved_matches(
+    alloc: Global,
+    handle: &mut Handle,
+    node: u32,
+    selectors: &[u8],
+) -> i64
     ensures { Asks handle.old.slot.state handle.new.slot.state result
         (λ given s t. (t ≡ s) × IfOk given (λ answer. ByText selectors.now
         (λ list. SaysWhether answer (IsMatch list s.document.tree node)))) }
@@ -276,7 +281,12 @@ pub extern "C" fn dq_proved_forget(alloc: Global, handle: &mut Handle) -> i64
 
 /// Takes the text at the node: its length.
 #[unsafe(no_mangle)]
-pub extern "C" fn dq_proved_text(alloc: Global, handle: &mut Handle, node: u32, to: &mut [u8]) -> i64
+pub extern "C" fn dq_proved_text(
+    alloc: Global,
+    handle: &mut Handle,
+    node: u32,
+    to: &mut [u8],
+) -> i64
     ensures { Asks handle.old.slot.state handle.new.slot.state result
         (λ given s t. GivesText given s t to.old to.new (text_of s.document.tree node)) }
 {
@@ -285,7 +295,12 @@ pub extern "C" fn dq_proved_text(alloc: Global, handle: &mut Handle, node: u32, 
 
 /// Takes the HTML of the node: its length.
 #[unsafe(no_mangle)]
-pub extern "C" fn dq_proved_html(alloc: Global, handle: &mut Handle, node: u32, to: &mut [u8]) -> i64
+pub extern "C" fn dq_proved_html(
+    alloc: Global,
+    handle: &mut Handle,
+    node: u32,
+    to: &mut [u8],
+) -> i64
     ensures { Asks handle.old.slot.state handle.new.slot.state result
         (λ given s t. GivesText given s t to.old to.new (html_of s.document.tree node)) }
 {
@@ -294,7 +309,12 @@ pub extern "C" fn dq_proved_html(alloc: Global, handle: &mut Handle, node: u32, 
 
 /// Takes the HTML of the node's children: its length.
 #[unsafe(no_mangle)]
-pub extern "C" fn dq_proved_inner_html(alloc: Global, handle: &mut Handle, node: u32, to: &mut [u8]) -> i64
+pub extern "C" fn dq_proved_inner_html(
+    alloc: Global,
+    handle: &mut Handle,
+    node: u32,
+    to: &mut [u8],
+) -> i64
     ensures { Asks handle.old.slot.state handle.new.slot.state result
         (λ given s t. GivesText given s t to.old to.new
         (inner_html_of s.document.tree node)) }
@@ -329,7 +349,12 @@ pub extern "C" fn dq_proved_formatted_text(
 
 /// Takes the name of the element: its length.
 #[unsafe(no_mangle)]
-pub extern "C" fn dq_proved_name(alloc: Global, handle: &mut Handle, node: u32, to: &mut [u8]) -> i64
+pub extern "C" fn dq_proved_name(
+    alloc: Global,
+    handle: &mut Handle,
+    node: u32,
+    to: &mut [u8],
+) -> i64
     ensures { Asks handle.old.slot.state handle.new.slot.state result
         (λ given s t. GivesTextThat given s t to.old to.new
         (λ text. Some (string_bytes text) ≡ node_name s.document.tree node)) }
@@ -393,7 +418,12 @@ pub extern "C" fn dq_proved_contents(alloc: Global, handle: &mut Handle, node: u
 
 /// The node in that direction.
 #[unsafe(no_mangle)]
-pub extern "C" fn dq_proved_step(alloc: Global, handle: &mut Handle, node: u32, direction: u32) -> i64
+pub extern "C" fn dq_proved_step(
+    alloc: Global,
+    handle: &mut Handle,
+    node: u32,
+    direction: u32,
+) -> i64
     ensures { Asks handle.old.slot.state handle.new.slot.state result
         (λ given s t. (t ≡ s) × IfOk given (λ found.
         neighbour s.document.tree node direction ≡ Some found)) }
@@ -436,7 +466,12 @@ pub extern "C" fn dq_proved_set_attr(
 
 /// Removes an attribute.
 #[unsafe(no_mangle)]
-pub extern "C" fn dq_proved_remove_attr(alloc: Global, handle: &mut Handle, node: u32, name: &[u8]) -> i64
+pub extern "C" fn dq_proved_remove_attr(
+    alloc: Global,
+    handle: &mut Handle,
+    node: u32,
+    name: &[u8],
+) -> i64
     ensures { Asks handle.old.slot.state handle.new.slot.state result
         (λ given s t. ChangesTree given s t
         (λ old new. new ≡ attr_removed node name.now old)) }
@@ -446,7 +481,12 @@ pub extern "C" fn dq_proved_remove_attr(alloc: Global, handle: &mut Handle, node
 
 /// Changes the name of an element.
 #[unsafe(no_mangle)]
-pub extern "C" fn dq_proved_rename(alloc: Global, handle: &mut Handle, node: u32, name: &[u8]) -> i64
+pub extern "C" fn dq_proved_rename(
+    alloc: Global,
+    handle: &mut Handle,
+    node: u32,
+    name: &[u8],
+) -> i64
     ensures { Asks handle.old.slot.state handle.new.slot.state result
         (λ given s t. ChangesTree given s t
         (λ old new. (new ≡ element_renamed node name.now old)
@@ -457,7 +497,12 @@ pub extern "C" fn dq_proved_rename(alloc: Global, handle: &mut Handle, node: u32
 
 /// Puts a text in the place of the node's children.
 #[unsafe(no_mangle)]
-pub extern "C" fn dq_proved_set_text(alloc: Global, handle: &mut Handle, node: u32, text: &[u8]) -> i64
+pub extern "C" fn dq_proved_set_text(
+    alloc: Global,
+    handle: &mut Handle,
+    node: u32,
+    text: &[u8],
+) -> i64
     ensures { Asks handle.old.slot.state handle.new.slot.state result
         (λ given s t. EditsTree given s t (setting_text node text.now)) }
 {

@@ -97,7 +97,11 @@ pub extern "C" fn dq_proved_policy_value(
 
 /// Has addresses without a scheme resolved against that base.
 #[unsafe(no_mangle)]
-pub extern "C" fn dq_proved_policy_base(alloc: Global, handle: &mut PolicyHandle, base: &[u8]) -> i64
+pub extern "C" fn dq_proved_policy_base(
+    alloc: Global,
+    handle: &mut PolicyHandle,
+    base: &[u8],
+) -> i64
     ensures { Asks handle.old.slot.policy handle.new.slot.policy result
         (λ given s t. ChangesRules given s t (IsResolvedBy base.now)) }
 {
@@ -190,7 +194,11 @@ fn clean_state(alloc: Global, handle: &mut PolicyHandle, of: &State, to: &mut [u
 
 /// The text that was taken last: its length.
 #[unsafe(no_mangle)]
-pub extern "C" fn dq_proved_policy_taken(alloc: Global, handle: &mut PolicyHandle, to: &mut [u8]) -> i64
+pub extern "C" fn dq_proved_policy_taken(
+    alloc: Global,
+    handle: &mut PolicyHandle,
+    to: &mut [u8],
+) -> i64
     ensures { Asks handle.old.slot.policy handle.new.slot.policy result
         (λ given s t. (t ≡ s) × GivesKept given to.old to.new (string_bytes s.text)) }
 {
