@@ -219,7 +219,7 @@ class Misuse(unittest.TestCase):
             "nodes": lambda: (page.select("p"), page.root.descendants),
             "texts": lambda: (page.select_texts("p"), page.select_attrs("p", "id"), dict(node.attrs), node.classes),
             "a policy": lambda: dom_query.Policy(tags={"b"}).clean("<b>1</b><i>2</i>"),
-            "cleaning": lambda: (policy.clean("<b>1" * 9000), policy.clean_page("<b>"), policy.clean(page)),
+            "cleaning": lambda: (policy.clean("<b>1" * 3000), policy.clean_page("<b>"), policy.clean(page)),
             "a refused policy": lambda: refused(PolicyError, lambda: dom_query.Policy(tags={"svg"})),
             "a refused base": lambda: refused(PolicyError, lambda: dom_query.Policy(relative="/x")),
             "a refused rule": lambda: refused(PolicyError, lambda: dom_query.Policy(tags={"b c"})),
@@ -236,14 +236,14 @@ class Misuse(unittest.TestCase):
         }
         for name, use in uses.items():
             with self.subTest(use=name):
-                for _ in range(50):
+                for _ in range(10):
                     use()
                 gc.collect()
                 before = used()
-                for _ in range(400):
+                for _ in range(60):
                     use()
                 gc.collect()
-                self.assertLess(used() - before, 400 * 16)
+                self.assertLess(used() - before, 60 * 16)
 
 
 if __name__ == "__main__":
