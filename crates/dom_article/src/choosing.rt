@@ -1,0 +1,362 @@
+//! The choice of a round: the best block, the root of the article, and what joins it.
+
+use crate::kinds::Tag;
+use crate::page::Page;
+use crate::rounds::Round;
+use crate::sums::Sums;
+use crate::tables::{ENOUGH, JOIN, POINT, SHORTEST_RUN};
+use dom_nodes::fault::OutOfMemory;
+use dom_nodes::node_id::NodeId;
+
+/// What was chosen in a round.
+#[derive(Drop)]
+pub(crate) struct Choice {
+    /// The node that holds the article.
+    pub(crate) root: NodeId,
+    best: NodeId,
+    /// By node id: what joins on the way from the best block to the root, and that way itself.
+    joined: Vec<bool>,
+    path: Vec<bool>,
+}
+
+/// Chooses the article of a round. The result is `None` if there is no block at all. Fails only
+/// when memory runs out.
+pub(crate) fn choose(page: &Page<'_>, round: &Round) -> Result<Option<Choice>, OutOfMemory> {
+    if !round.rules.cleans
+        && let Some(main) = largest_main(page, round)
+        && round.at(main).size >= ENOUGH
+    {
+        return Ok(Some(Choice::new(page, main)?));
+    }
+    let Some(first) = first_greatest(page, round) else {
+        return Ok(None);
+    };
+    let mut choice = Choice::new(page, promoted(page, round, first))?;
+    choice.climb(page, round);
+    choice.join_headings(page, round);
+    Ok(Some(choice))
+}
+
+/// Returns the first of the largest elements that say that they are the article.
+fn largest_main(page: &Page<'_>, round: &Round) -> Option<NodeId> {
+    let mut largest: Option<NodeId> = None;
+    for id in &page.order {
+        if round.is_gone(*id) || !page.at(*id).is_main {
+            continue;
+        }
+        let is_larger = match largest {
+            Some(other) => round.at(*id).size > round.at(other).size,
+            None => true,
+        };
+        if is_larger {
+            largest = Some(*id);
+        }
+    }
+    largest
+}
+
+/// Returns whether a node may be the best block.
+fn is_candidate(page: &Page<'_>, round: &Round, id: NodeId) -> bool {
+    if round.is_gone(id) {
+        return false;
+    }
+    let sums = round.at(id);
+    match page.tag(id) {
+        Tag::Body => !sums.is_inline,
+        Tag::Document | Tag::Html | Tag::Text => false,
+        _ => !sums.is_inline && (!sums.is_leaf || sums.score != 0),
+    }
+}
+
+/// Returns the first of the candidates with the greatest score.
+fn first_greatest(page: &Page<'_>, round: &Round) -> Option<NodeId> {
+    let mut greatest: Option<NodeId> = None;
+    for id in &page.order {
+        if !is_candidate(page, round, *id) {
+            continue;
+        }
+        let is_greater = match greatest {
+            Some(other) => round.at(*id).score > round.at(other).score,
+            None => true,
+        };
+        if is_greater {
+            greatest = Some(*id);
+        }
+    }
+    greatest
+}
+
+/// Returns the outermost one of a block and its ancestors below `body` that has two thirds of its
+/// score.
+fn promoted(page: &Page<'_>, round: &Round, first: NodeId) -> NodeId {
+    let top = round.at(first).score.saturating_mul(2);
+    let mut best = first;
+    for above in page.tree.ancestor_ids_of_it(&first, None) {
+        if is_frame(page, above) {
+            return best;
+        }
+        if round.at(above).score.saturating_mul(3) >= top {
+            best = above;
+        }
+    }
+    best
+}
+
+/// Returns whether the node is the document, `html` or `body`.
+fn is_frame(page: &Page<'_>, id: NodeId) -> bool {
+    matches!(page.tag(id), Tag::Document | Tag::Html | Tag::Body)
+}
+
+impl Choice {
+    fn new(page: &Page<'_>, best: NodeId) -> Result<Choice, OutOfMemory> {
+        let alloc = page.tree.allocator();
+        let mut choice = Choice {
+            root: best,
+            best,
+            joined: vec![in alloc; false; page.tree.len()]?,
+            path: vec![in alloc; false; page.tree.len()]?,
+        };
+        choice.put_on_path(best);
+        Ok(choice)
+    }
+
+    fn has_joined(&self, id: NodeId) -> bool {
+        self.joined.get(id.value()).copied().unwrap_or(false)
+    }
+
+    fn join(&mut self, id: NodeId) {
+        if let Some(slot) = self.joined.get_mut(id.value()) {
+            *slot = true;
+        }
+    }
+
+    fn is_on_path(&self, id: NodeId) -> bool {
+        self.path.get(id.value()).copied().unwrap_or(false)
+    }
+
+    fn put_on_path(&mut self, id: NodeId) {
+        if let Some(slot) = self.path.get_mut(id.value()) {
+            *slot = true;
+        }
+    }
+
+    /// Climbs from the best block to `body` or to a node that says that it is the article. What
+    /// joins on the way is marked; the root is the last node at which a text joins.
+    fn climb(&mut self, page: &Page<'_>, round: &Round) {
+        let best = self.best;
+        let top = round.at(best).score;
+        let mut on = best;
+        let mut root = best;
+        let mut level: usize = 0;
+        for above in page.tree.ancestor_ids_of_it(&best, None) {
+            if ends_climb(page, on, above) {
+                break;
+            }
+            if has_several(page, round, above) {
+                level = level.saturating_add(1);
+            }
+            let step = Step { on, level, top };
+            if self.join_children(page, round, above, &step) {
+                root = above;
+            }
+            on = above;
+        }
+        self.root = root;
+    }
+
+    /// Marks the children of a node that join, and returns whether one of them is inline or has a
+    /// paragraph.
+    fn join_children(
+        &mut self,
+        page: &Page<'_>,
+        round: &Round,
+        above: NodeId,
+        step: &Step,
+    ) -> bool {
+        let mut has_text = false;
+        for child in page.tree.child_ids_of_it(&above, false) {
+            if child == step.on || !counts(round, child) || !joins(page, round, child, step) {
+                continue;
+            }
+            self.join(child);
+            let sums = round.at(child);
+            has_text = has_text || sums.is_inline || sums.in_paragraphs > 0;
+        }
+        has_text
+    }
+
+    /// Puts the way from the best block to the root on the path, and lets headings join whose
+    /// followers are kept.
+    fn join_headings(&mut self, page: &Page<'_>, round: &Round) {
+        let best = self.best;
+        let mut on = best;
+        for above in page.tree.ancestor_ids_of_it(&best, None) {
+            if on == self.root {
+                return;
+            }
+            self.join_headings_of(page, round, above, on);
+            self.put_on_path(above);
+            on = above;
+        }
+    }
+
+    /// Lets the headings of a node join if what follows them joins or is on the path.
+    fn join_headings_of(&mut self, page: &Page<'_>, round: &Round, above: NodeId, on: NodeId) {
+        let mut follows = false;
+        for child in page.tree.child_ids_of_it(&above, true) {
+            if !counts(round, child) {
+                continue;
+            }
+            let sums = round.at(child);
+            if child == on || self.has_joined(child) {
+                follows = true;
+            } else if page.at(child).kind.is_heading {
+                if follows && !sums.is_bad {
+                    self.join(child);
+                }
+            } else if !sums.is_inline {
+                follows = false;
+            }
+        }
+    }
+
+    /// Returns whether a node belongs to the article if its parent does.
+    pub(crate) fn keeps(&self, page: &Page<'_>, round: &Round, id: NodeId) -> bool {
+        if round.is_gone(id) {
+            return false;
+        }
+        if id == self.root || self.is_on_path(id) {
+            return true;
+        }
+        let sums = round.at(id);
+        let beside_path = match page.parent(id) {
+            Some(parent) => parent != self.best && self.is_on_path(parent),
+            None => false,
+        };
+        if beside_path {
+            return self.has_joined(id) || sums.is_inline && sums.size == 0;
+        }
+        sums.is_inline || !sums.is_bad
+    }
+}
+
+/// A step of a climb: the node that is left, how many levels it is above the best block, and the
+/// score of that.
+#[derive(Clone, Copy, Drop)]
+struct Step {
+    on: NodeId,
+    level: usize,
+    top: i64,
+}
+
+/// Returns whether a climb that has come to `on` ends there, below `above`.
+fn ends_climb(page: &Page<'_>, on: NodeId, above: NodeId) -> bool {
+    if page.tag(on) == Tag::Body || page.at(on).is_main {
+        return true;
+    }
+    matches!(page.tag(above), Tag::Document | Tag::Html)
+}
+
+/// Returns whether a node isn't gone and has a text.
+fn counts(round: &Round, id: NodeId) -> bool {
+    !round.is_gone(id) && round.at(id).size > 0
+}
+
+/// Returns whether a node has more than one child with a text.
+fn has_several(page: &Page<'_>, round: &Round, id: NodeId) -> bool {
+    let mut seen = false;
+    for child in page.tree.child_ids_of_it(&id, false) {
+        if counts(round, child) {
+            if seen {
+                return true;
+            }
+            seen = true;
+        }
+    }
+    false
+}
+
+/// Returns whether a child with a text joins at a step of the climb.
+fn joins(page: &Page<'_>, round: &Round, child: NodeId, step: &Step) -> bool {
+    let sums = round.at(child);
+    if sums.is_inline {
+        return step.level == 1 && is_in_paragraph(round, sums);
+    }
+    if sums.is_bad || page.at(child).kind.is_heading {
+        return false;
+    }
+    if sums.is_leaf {
+        return leaf_joins(page.tag(child), sums, step);
+    }
+    if is_like(page, round, child, step) {
+        return true;
+    }
+    let tenths = tenths_at(step.level);
+    let least = (step.top / 10).saturating_mul(tenths);
+    let exact = (step.top % 10).saturating_mul(tenths) / 10;
+    let ten_points = 10 * POINT as i64;
+    sums.score >= least.saturating_add(exact).max(ten_points)
+}
+
+/// Returns the tenths of the best score that a block must have to join at a level.
+fn tenths_at(level: usize) -> i64 {
+    let number = level.saturating_sub(1);
+    match JOIN.get(number) {
+        Some(tenths) => *tenths,
+        None => 10,
+    }
+}
+
+/// Returns whether the run of an inline child is a paragraph.
+fn is_in_paragraph(round: &Round, sums: &Sums) -> bool {
+    match round.runs.get(sums.run as usize) {
+        Some(run) => run.is_paragraph(),
+        None => false,
+    }
+}
+
+/// Returns whether a leaf joins.
+fn leaf_joins(tag: Tag, sums: &Sums, step: &Step) -> bool {
+    if sums.in_paragraphs > 0 {
+        return step.level == 1
+            || matches!(tag, Tag::Paragraph | Tag::Preformatted | Tag::Blockquote);
+    }
+    step.level == 1 && sums.link == 0 && tag == Tag::Paragraph && sums.ends
+}
+
+/// Returns whether a child is a block of the same kind as the node that is left, with few links.
+fn is_like(page: &Page<'_>, round: &Round, child: NodeId, step: &Step) -> bool {
+    let sums = round.at(child);
+    if sums.size < SHORTEST_RUN || sums.link > (sums.size - 1) / 3 {
+        return false;
+    }
+    if sums.score.saturating_mul(20) < step.top {
+        return false;
+    }
+    let (Some(like), Some(other)) = (node_of(sums.like), node_of(round.at(step.on).like)) else {
+        return false;
+    };
+    page.tag(like) != Tag::Article
+        && have_one_name(page, child, step.on)
+        && have_one_name(page, like, other)
+        && have_one_class(page, like, other)
+}
+
+/// Returns the node with this number.
+fn node_of(number: Option<u32>) -> Option<NodeId> {
+    NodeId::new(number? as usize)
+}
+
+/// Returns whether two elements have the same name.
+fn have_one_name(page: &Page<'_>, one: NodeId, other: NodeId) -> bool {
+    let one = page.tree.get_unchecked(&one).node_name().unwrap_or("");
+    let other = page.tree.get_unchecked(&other).node_name().unwrap_or("");
+    one == other
+}
+
+/// Returns whether two elements have the same classes, as they are written.
+fn have_one_class(page: &Page<'_>, one: NodeId, other: NodeId) -> bool {
+    let one = page.tree.get_unchecked(&one).class().unwrap_or("").trim();
+    let other = page.tree.get_unchecked(&other).class().unwrap_or("").trim();
+    one == other
+}

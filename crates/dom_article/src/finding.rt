@@ -1,0 +1,216 @@
+//! The search for the article of a page.
+
+ghost use Rattle.std.specs.Prelude.{◌≡◌, IfOk, IfSome};
+ghost use Rattle.dom_article.specs.Pruned.{IsExtract, marked};
+
+use crate::choosing::{Choice, choose};
+use crate::copies::copy_kept;
+use crate::kinds::Tag;
+use crate::marking::{extract, is_marked};
+use crate::metadata::{Known, Metadata, collapsed, metadata_of};
+use crate::page::Page;
+use crate::rounds::{Round, Rules};
+use crate::tables::{ENOUGH, SHORT};
+use crate::titles::says_title;
+use dom_nodes::fault::{EditFault, OutOfMemory};
+use dom_nodes::node_id::NodeId;
+use dom_trees::tree::Tree;
+
+/// The article of a page: which nodes it keeps, and what the page says of it.
+#[derive(Drop)]
+pub struct Article {
+    /// What the page says of the article.
+    pub metadata: Metadata,
+    /// The node that holds the article.
+    pub root: NodeId,
+    /// Whether the first round, by all that the page says, found enough. For most pages that have
+    /// no article, such as home pages, it didn't.
+    pub sure: bool,
+    /// By node id, whether the article keeps the node.
+    pub kept: Vec<bool>,
+}
+
+/// Returns the article of a page, or `None` if no text of the page is shown. Fails only when memory
+/// runs out.
+pub fn article_of(tree: &Tree) -> Result<Option<Article>, OutOfMemory>
+    ensures { IfOk result (λ found. IfSome found
+        (λ article. IsExtract tree.now article.root article.kept.items)) }
+{
+    article_of_known(tree, &Known::NOTHING)
+}
+
+/// Returns the article of a page of which the caller knows more, or `None` if no text of the page
+/// is shown. Fails only when memory runs out.
+pub fn article_of_known(tree: &Tree, known: &Known<'_>) -> Result<Option<Article>, OutOfMemory>
+    ensures { IfOk result (λ found. IfSome found
+        (λ article. IsExtract tree.now article.root article.kept.items)) }
+{
+    let page = Page::new(tree)?;
+    let metadata = metadata_of(&page, known)?;
+    let Some(mut found) = found_in(&page)? else {
+        return Ok(None);
+    };
+    found.leave_out_title(&page, &metadata)?;
+    let kept = extract(tree, found.root, &found.around, &found.wanted)?;
+    Ok(Some(Article {
+        metadata,
+        root: found.root,
+        sure: found.sure,
+        kept,
+    }))
+}
+
+/// What a round found.
+#[derive(Drop)]
+struct Found {
+    root: NodeId,
+    sure: bool,
+    /// By node id, which nodes are wanted.
+    wanted: Vec<bool>,
+    /// By node id, the wanted nodes and the ancestors of the root.
+    around: Vec<bool>,
+    /// The size of the texts that are kept.
+    total: u64,
+}
+
+/// The rounds, in order.
+static ROUNDS: [Rules; 3] = [
+    Rules {
+        hints: true,
+        cleans: true,
+    },
+    Rules {
+        hints: true,
+        cleans: false,
+    },
+    Rules {
+        hints: false,
+        cleans: false,
+    },
+];
+
+/// Returns what the rounds find. A later round is taken if it keeps more than twice as much. `None`
+/// if none of them keeps a text.
+fn found_in(page: &Page<'_>) -> Result<Option<Found>, OutOfMemory> {
+    let mut taken: Option<Found> = None;
+    for rules in &ROUNDS {
+        let round = Round::new(page, *rules)?;
+        let Some(choice) = choose(page, &round)? else {
+            continue;
+        };
+        let mut found = Found::of(page, &round, &choice)?;
+        let is_last = is_enough(&round, &found);
+        found.sure = is_last && rules.cleans;
+        let is_taken = match &taken {
+            Some(other) => found.total / 2 > other.total,
+            None => found.total > 0,
+        };
+        if is_taken {
+            taken = Some(found);
+        }
+        if is_last {
+            return Ok(taken);
+        }
+    }
+    Ok(taken)
+}
+
+/// Returns whether a round is the last one.
+fn is_enough(round: &Round, found: &Found) -> bool {
+    if found.total >= ENOUGH as u64 {
+        return true;
+    }
+    let paragraphs = round.at(found.root).in_paragraphs;
+    paragraphs >= SHORT && found.total >= round.visible.div_ceil(6)
+}
+
+impl Found {
+    /// Finds the nodes that the choice of a round wants.
+    fn of(page: &Page<'_>, round: &Round, choice: &Choice) -> Result<Found, OutOfMemory> {
+        let alloc = page.tree.allocator();
+        let mut found = Found {
+            root: choice.root,
+            sure: false,
+            wanted: vec![in alloc; false; page.tree.len()]?,
+            around: vec![in alloc; false; page.tree.len()]?,
+            total: 0,
+        };
+        for id in page.tree.ancestor_ids_of_it(&choice.root, None) {
+            if let Some(slot) = found.around.get_mut(id.value()) {
+                *slot = true;
+            }
+        }
+        if let Some(slot) = found.wanted.get_mut(choice.root.value()) {
+            *slot = true;
+        }
+        if let Some(slot) = found.around.get_mut(choice.root.value()) {
+            *slot = true;
+        }
+        for id in page.tree.descendant_ids_of_it(&choice.root) {
+            found.want(page, round, choice, id);
+        }
+        Ok(found)
+    }
+
+    /// Wants a node if its parent is wanted and the choice keeps it.
+    fn want(&mut self, page: &Page<'_>, round: &Round, choice: &Choice, id: NodeId) {
+        let Some(parent) = page.parent(id) else {
+            return;
+        };
+        if !is_marked(&self.wanted, parent) || !choice.keeps(page, round, id) {
+            return;
+        }
+        if let Some(slot) = self.wanted.get_mut(id.value()) {
+            *slot = true;
+        }
+        if let Some(slot) = self.around.get_mut(id.value()) {
+            *slot = true;
+        }
+        self.total = self.total.saturating_add(page.at(id).text.size as u64);
+    }
+
+    /// Leaves out the first heading of the article that says its title. Only the first headings are
+    /// looked at.
+    fn leave_out_title(&mut self, page: &Page<'_>, metadata: &Metadata) -> Result<(), OutOfMemory> {
+        let Some(title) = &metadata.title else {
+            return Ok(());
+        };
+        let mut seen: u32 = 0;
+        for id in page.tree.descendant_ids_of_it(&self.root) {
+            if !matches!(page.tag(id), Tag::H1 | Tag::H2) || !is_marked(&self.wanted, id) {
+                continue;
+            }
+            seen = seen.saturating_add(1);
+            if seen > 16 {
+                return Ok(());
+            }
+            if page.at(id).length > 400 {
+                continue;
+            }
+            let text = page.tree.get_unchecked(&id).text()?;
+            let text = collapsed(page.tree.allocator(), text.as_str())?;
+            if says_title(text.as_str(), title.as_str()) {
+                if let Some(slot) = self.wanted.get_mut(id.value()) {
+                    *slot = false;
+                }
+                return Ok(());
+            }
+        }
+        Ok(())
+    }
+}
+
+impl Article {
+    /// Returns whether the article keeps a node.
+    pub fn keeps(&self, id: &NodeId) -> bool
+        ensures { result ≡ marked self.now.kept.items id.now }
+    {
+        is_marked(&self.kept, *id)
+    }
+
+    /// Returns a document with a copy of the kept nodes, whose only child is the copy of the root.
+    /// `tree` is the tree of the page. Fails when memory or node ids run out.
+    pub fn copy(&self, tree: &Tree) -> Result<Tree, EditFault> {
+        copy_kept(tree, self.root, &self.kept)
+    }
+}

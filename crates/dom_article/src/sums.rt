@@ -1,0 +1,183 @@
+//! What is added up of a node, and of a run of texts.
+
+use crate::tables::{LINK_RUN, PARAGRAPH, POINT, SHORTEST_RUN};
+
+/// A longest sequence of inline children of a block, without a block between them and without two
+/// line breaks in a row.
+#[derive(Clone, Copy, Drop)]
+pub(crate) struct Run {
+    pub(crate) size: u32,
+    pub(crate) link: u32,
+    pub(crate) commas: u32,
+    /// Whether it ends with a mark that ends a sentence.
+    pub(crate) ends: bool,
+    /// Whether it has the character ©.
+    pub(crate) copyright: bool,
+}
+
+impl Run {
+    /// A run without text.
+    pub(crate) const EMPTY: Run = Run {
+        size: 0,
+        link: 0,
+        commas: 0,
+        ends: true,
+        copyright: false,
+    };
+
+    /// Adds what an inline node has.
+    pub(crate) fn add(&mut self, sums: &Sums) {
+        self.size = self.size.saturating_add(sums.size);
+        self.link = self.link.saturating_add(sums.link);
+        self.commas = self.commas.saturating_add(sums.commas);
+        self.copyright = self.copyright || sums.copyright;
+        if sums.size > 0 {
+            self.ends = sums.ends;
+        }
+    }
+
+    /// Returns whether it is a paragraph: long, with few links, and no notice of a copyright.
+    pub(crate) fn is_paragraph(&self) -> bool {
+        self.size >= PARAGRAPH && self.link < self.size.div_ceil(4) && !self.copyright
+    }
+
+    /// Returns whether it is a run of links.
+    pub(crate) fn is_of_links(&self) -> bool {
+        self.size >= LINK_RUN && self.link >= self.size.saturating_sub(self.size / 5)
+    }
+
+    /// Returns what it adds to the score of its block, in rounds that leave out bad blocks and in
+    /// rounds that don't.
+    pub(crate) fn weight(&self, cleans: bool) -> u64 {
+        if self.copyright {
+            return 0;
+        }
+        let size = self.size as u64;
+        let commas = self.commas as u64;
+        let length = POINT.saturating_mul(size) / 80;
+        if !cleans {
+            let all = commas.saturating_add(1).saturating_mul(POINT);
+            return all.saturating_add(length);
+        }
+        if self.size < SHORTEST_RUN {
+            return 0;
+        }
+        let all = commas.saturating_add(2).saturating_mul(POINT);
+        let whole = all.saturating_add(length.min(3 * POINT));
+        share(whole, self.size.saturating_sub(self.link), self.size)
+    }
+}
+
+/// Returns `whole * part / all`, rounded down, or 0 if `all` is 0.
+pub(crate) fn share(whole: u64, part: u32, all: u32) -> u64 {
+    if all == 0 {
+        return 0;
+    }
+    let (part, all) = (part as u64, all as u64);
+    let front = (whole / all).saturating_mul(part);
+    front.saturating_add((whole % all).saturating_mul(part) / all)
+}
+
+/// What is added up of a node and what is below it.
+#[derive(Clone, Copy, Drop)]
+pub(crate) struct Sums {
+    pub(crate) size: u32,
+    pub(crate) link: u32,
+    pub(crate) commas: u32,
+    pub(crate) images: u32,
+    pub(crate) inputs: u32,
+    /// The size of the paragraphs, and how many there are.
+    pub(crate) in_paragraphs: u32,
+    pub(crate) paragraphs: u32,
+    pub(crate) in_headings: u32,
+    pub(crate) in_lists: u32,
+    pub(crate) link_runs: u32,
+    pub(crate) raw: u64,
+    pub(crate) score: i64,
+    /// The number of the run that an inline child of a block is part of.
+    pub(crate) run: u32,
+    /// The id of the node whose name and class say of what kind this one is.
+    pub(crate) like: Option<u32>,
+    pub(crate) is_inline: bool,
+    pub(crate) is_leaf: bool,
+    pub(crate) is_bad: bool,
+    pub(crate) ends: bool,
+    pub(crate) copyright: bool,
+}
+
+impl Sums {
+    /// An inline node without text.
+    pub(crate) const NONE: Sums = Sums {
+        size: 0,
+        link: 0,
+        commas: 0,
+        images: 0,
+        inputs: 0,
+        in_paragraphs: 0,
+        paragraphs: 0,
+        in_headings: 0,
+        in_lists: 0,
+        link_runs: 0,
+        raw: 0,
+        score: 0,
+        run: u32::MAX,
+        like: None,
+        is_inline: true,
+        is_leaf: true,
+        is_bad: false,
+        ends: true,
+        copyright: false,
+    };
+
+    /// Adds what an inline child of an inline node has.
+    pub(crate) fn add_inline(&mut self, below: &Sums) {
+        self.size = self.size.saturating_add(below.size);
+        self.link = self.link.saturating_add(below.link);
+        self.commas = self.commas.saturating_add(below.commas);
+        self.images = self.images.saturating_add(below.images);
+        self.copyright = self.copyright || below.copyright;
+        if below.size > 0 {
+            self.ends = below.ends;
+        }
+    }
+
+    /// Adds what a child has that is a block and isn't bad.
+    pub(crate) fn add_block(&mut self, below: &Sums) {
+        self.size = self.size.saturating_add(below.size);
+        self.link = self.link.saturating_add(below.link);
+        self.commas = self.commas.saturating_add(below.commas);
+        self.images = self.images.saturating_add(below.images);
+        self.in_paragraphs = self.in_paragraphs.saturating_add(below.in_paragraphs);
+        self.paragraphs = self.paragraphs.saturating_add(below.paragraphs);
+        self.in_headings = self.in_headings.saturating_add(below.in_headings);
+        self.in_lists = self.in_lists.saturating_add(below.in_lists);
+        let raw = if below.is_leaf {
+            below.raw
+        } else {
+            below.raw / 2
+        };
+        self.raw = self.raw.saturating_add(raw);
+        if below.size > 0 {
+            self.ends = below.ends;
+        }
+    }
+
+    /// Adds a run of the block. `weighs` says that its text counts, as it does outside of headings.
+    pub(crate) fn add_run(&mut self, run: &Run, weighs: bool, cleans: bool) {
+        self.size = self.size.saturating_add(run.size);
+        self.link = self.link.saturating_add(run.link);
+        self.commas = self.commas.saturating_add(run.commas);
+        self.ends = run.ends;
+        if run.is_of_links() {
+            self.link_runs = self.link_runs.saturating_add(1);
+        }
+        if !weighs {
+            return;
+        }
+        self.raw = self.raw.saturating_add(run.weight(cleans));
+        if run.is_paragraph() {
+            self.in_paragraphs = self.in_paragraphs.saturating_add(run.size);
+            self.paragraphs = self.paragraphs.saturating_add(1);
+        }
+    }
+}
