@@ -39,6 +39,7 @@ sys.dont_write_bytecode = True
 TESTS = pathlib.Path(__file__).resolve().parents[1]
 for folder in ("tools", "checks", "second_definitions"):
     sys.path.insert(0, str(TESTS / folder))
+import articles  # noqa: E402
 import c_and_python  # noqa: E402
 import clean  # noqa: E402
 import coverage  # noqa: E402
@@ -281,7 +282,7 @@ def main():
     clock, rows_alone = Clock(), sys.argv[1:] == ["--rows"]
     counts, edits_left = (None, lambda: (0, 0)) if rows_alone else gate(clock)
     tables = [rows, cleaned, followed, asked_each_way]
-    tables += [c_and_python.c_and_python, documents.documents, reference.reference, options.options, standard.standard]
+    tables += [c_and_python.c_and_python, documents.documents, reference.reference, options.options, articles.articles, standard.standard]
     tables += [standard_rules.checked, standard_parsing.checked, wrong_bodies, coverage.coverage, entries_of_tables.tables, hostile.hostile, decoded]
     counts = [counts] if counts else []
     with ThreadPoolExecutor() as pool:
