@@ -4,7 +4,7 @@ import pathlib
 ROOT = pathlib.Path(__file__).resolve().parents[2]
 SECONDS = 60
 # The parts of the test program, of which its first argument chooses one; the rows of each are a folder of its name.
-PARTS = ("batch", "calls", "clean", "encodings", "queries", "times")
+PARTS = ("batch", "calls", "clean", "commonmark", "encodings", "queries", "times")
 # The programs that programs.py built unproved; the gate proved and built the others. `check --quick` adds to these.
 UNPROVED = {"test_calls"}
 

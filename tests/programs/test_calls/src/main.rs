@@ -8,6 +8,7 @@
 mod batch;
 mod calls;
 mod clean;
+mod commonmark;
 mod encodings;
 mod lines;
 mod queries;
@@ -23,6 +24,7 @@ fn run(rt: &HostRuntime, words: &[String]) -> Option<()> {
         "batch" => batch::run(rt, words),
         "calls" => calls::run(rt, words),
         "clean" => clean::run(rt, words),
+        "commonmark" => commonmark::run(rt, words),
         "encodings" => encodings::run(rt, words),
         "queries" => queries::run(rt, words),
         "times" => times::run(rt, words),
