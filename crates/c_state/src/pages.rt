@@ -1,6 +1,6 @@
 //! Pages that are read while their bytes come, in pieces.
 
-ghost use Rattle.std.specs.Prelude.{IfOk};
+ghost use Rattle.std.specs.Prelude.{◌≡◌, IfOk};
 ghost use Rattle.page_trees.specs.Shape.{IsPage};
 
 use crate::decoding::{Decoded, charset_of};
