@@ -10,7 +10,7 @@
 The work is done by a library whose functions are proved: each does what its contract says, for every document.
 """
 
-from .document import Document, parse, parse_bytes, parse_fragment, parse_strict
+from .document import Document, PageReader, parse, parse_bytes, parse_fragment, parse_strict
 from .errors import (
     CharsetError,
     ClosedError,
@@ -24,6 +24,7 @@ from .errors import (
 )
 from .node import Attributes, Node
 from .policy import Policy, clean, clean_page
+from .selector import Selector
 
 __all__ = [
     "Attributes",
@@ -36,8 +37,10 @@ __all__ = [
     "MarkupError",
     "Node",
     "NodeError",
+    "PageReader",
     "Policy",
     "PolicyError",
+    "Selector",
     "SelectorError",
     "clean",
     "clean_page",

@@ -9,7 +9,6 @@ It needs the shared library in python/dom_query, where ./install-c puts it, or i
 A wrong body leaves out a statement, turns a condition, takes one part of a condition, another comparison, number, text or name of a
 constant, or returns None. wrong_bodies.txt names those that a user can't notice, with the reason; they are not run."""
 import ast
-import copy
 import json
 import os
 import pathlib
@@ -30,21 +29,27 @@ TESTS = ["test_reading", "test_editing", "test_habits", "test_cleaning", "test_e
 
 
 class Mutants(ast.NodeVisitor):
-    """The wrong bodies of a file: for each what it is, its line, and its text."""
+    """The wrong bodies of a file: for each what it is, its line, and how its text is made."""
 
     def __init__(self, name, text):
         self.name, self.tree, self.found, self.within = name, ast.parse(text), [], []
+        self.documentation = {id(it.value) for it in ast.walk(self.tree) if isinstance(it, ast.Expr) and isinstance(it.value, ast.Constant)}
         self.visit(self.tree)
 
-    def note(self, node, kind, change):
-        """Makes the tree in which a change of the node is made."""
-        path = [it for it in ast.walk(self.tree)].index(node)
-        tree = copy.deepcopy(self.tree)
-        twin = list(ast.walk(tree))[path]
-        change(twin)
-        ast.fix_missing_locations(tree)
-        text = ast.unparse(node).splitlines()[0][:90]
-        self.found.append({"file": self.name, "line": node.lineno, "function": ".".join(self.within), "kind": kind, "text": text, "source": ast.unparse(tree)})
+    def note(self, node, kind, field, value):
+        """Notes a wrong body: in the node the field, or an item of the list in it, is another."""
+
+        def source():
+            at, key = (node.__dict__, field) if isinstance(field, str) else (getattr(node, field[0]), field[1])
+            before, at[key] = at[key], value
+            text = ast.unparse(ast.fix_missing_locations(self.tree))
+            at[key] = before
+            return text
+
+        shown = node if isinstance(field, str) or field[0] not in ("body", "orelse", "finalbody") else getattr(node, field[0])[field[1]]
+        text = ast.unparse(shown).splitlines()[0][:90]
+        where = {"file": self.name, "line": shown.lineno, "function": ".".join(self.within)}
+        self.found.append({**where, "kind": kind, "text": text, "source": source})
 
     def visit_FunctionDef(self, node):
         self.within.append(node.name)
@@ -54,59 +59,51 @@ class Mutants(ast.NodeVisitor):
     def visit_ClassDef(self, node):
         self.visit_FunctionDef(node)
 
-    def is_code(self):
-        return bool(self.within)
-
     def generic_visit(self, node):
-        for field in ("body", "orelse", "finalbody"):
-            self.statements(node, field)
-        if isinstance(node, (ast.If, ast.While, ast.IfExp)) and self.is_code():
-            self.note(node, "condition turned", lambda it: setattr(it, "test", ast.UnaryOp(ast.Not(), it.test)))
-        if isinstance(node, ast.BoolOp) and self.is_code():
-            for at in range(len(node.values)):
-                self.note(node, "part of a condition alone", lambda it, at=at: it.values.__setitem__(slice(None), [it.values[at]] * 2))
-        if isinstance(node, ast.Compare) and type(node.ops[0]) in COMPARISONS and self.is_code():
-            self.note(node, "another comparison", lambda it: it.ops.__setitem__(0, COMPARISONS[type(it.ops[0])]()))
-        if isinstance(node, ast.Return) and node.value is not None and self.is_code():
-            if not (isinstance(node.value, ast.Constant) and node.value.value is None):
-                self.note(node, "returns None", lambda it: setattr(it, "value", ast.Constant(None)))
-        if isinstance(node, ast.BinOp) and isinstance(node.op, (ast.Add, ast.Sub)) and self.is_code():
-            self.note(node, "one side of a sum", lambda it: (setattr(it, "op", ast.Add()), setattr(it, "right", copy.deepcopy(it.left)))[0])
+        if self.within:
+            self.statements(node)
+            self.conditions(node)
+            if isinstance(node, ast.Return) and node.value is not None and not (isinstance(node.value, ast.Constant) and node.value.value is None):
+                self.note(node, "returns None", "value", ast.Constant(None))
+            if isinstance(node, ast.BinOp) and isinstance(node.op, (ast.Add, ast.Sub)):
+                self.note(node, "one side of a sum", "right", node.left)
         super().generic_visit(node)
 
-    def statements(self, node, field):
-        for at, it in enumerate(getattr(node, field, None) or [] if isinstance(getattr(node, field, None), list) else []):
-            is_doc = isinstance(it, ast.Expr) and isinstance(it.value, ast.Constant)
-            if self.is_code() and not is_doc and isinstance(it, (ast.Expr, ast.Assign, ast.AugAssign, ast.Raise, ast.Delete)):
-                self.note(it, "statement left out", lambda _: None)
-                tree = ast.parse(self.found[-1]["source"])  # the statement becomes `pass`
-                self.found[-1]["source"] = self.without(node, field, at)
-                del tree
+    def statements(self, node):
+        for field in ("body", "orelse", "finalbody"):
+            listed = getattr(node, field, None)
+            for at, it in enumerate(listed if isinstance(listed, list) else []):
+                if isinstance(it, (ast.Expr, ast.Assign, ast.AugAssign, ast.Raise, ast.Delete)) and id(getattr(it, "value", None)) not in self.documentation:
+                    self.note(node, "statement left out", (field, at), ast.Pass())
 
-    def without(self, node, field, at):
-        path = list(ast.walk(self.tree)).index(node)
-        tree = copy.deepcopy(self.tree)
-        getattr(list(ast.walk(tree))[path], field)[at] = ast.Pass()
-        return ast.unparse(ast.fix_missing_locations(tree))
+    def conditions(self, node):
+        if isinstance(node, (ast.If, ast.While, ast.IfExp)):
+            self.note(node, "condition turned", "test", ast.UnaryOp(ast.Not(), node.test))
+        if isinstance(node, ast.BoolOp):
+            for value in node.values:
+                self.note(node, "part of a condition alone", "values", [value, value])
+        if isinstance(node, ast.Compare) and type(node.ops[0]) in COMPARISONS:
+            self.note(node, "another comparison", ("ops", 0), COMPARISONS[type(node.ops[0])]())
 
     def visit_Constant(self, node):
+        if id(node) in self.documentation:
+            return
         if isinstance(node.value, bool):
-            self.note(node, "the other truth", lambda it: setattr(it, "value", not it.value))
+            self.note(node, "the other truth", "value", not node.value)
         elif isinstance(node.value, int):
-            self.note(node, "another number", lambda it: setattr(it, "value", it.value + 1))
-        elif isinstance(node.value, str) and node.value and self.is_text(node):
-            self.note(node, "another text", lambda it: setattr(it, "value", it.value + "X"))
+            self.note(node, "another number", "value", node.value + 1)
+        elif isinstance(node.value, str) and node.value:
+            self.note(node, "another text", "value", node.value + "X")
 
-    def is_text(self, node):
-        """Whether it is a text of the code, and no documentation."""
-        return not any(isinstance(it, ast.Expr) and it.value is node for it in ast.walk(self.tree))
+    def visit_JoinedStr(self, node):
+        pass  # texts of messages
 
     def visit_AnnAssign(self, node):
         if node.value is not None:
             self.visit(node.value)
 
     def visit_arg(self, node):
-        pass
+        pass  # types
 
 
 def known():
@@ -136,7 +133,7 @@ def shown(folder, mutant):
     path = folder / "python" / "dom_query" / mutant["file"]
     whole = path.read_text(encoding="utf-8")
     env = {**os.environ, "PYTHONPATH": str(folder / "python"), "DOM_QUERY_OPERATIONS": "300", "PYTHONDONTWRITEBYTECODE": "1"}
-    path.write_text(mutant["source"], encoding="utf-8")
+    path.write_text(mutant["source"](), encoding="utf-8")
     try:
         for module in TESTS:
             words = [sys.executable, "-m", "unittest", "-q", "-f", f"tests.{module}"]
@@ -156,6 +153,7 @@ def run(folder, part, of):
     shutil.rmtree(copied, ignore_errors=True)
     for name in ("python", "include", "tests/tools", "tests/rows/dq", "tests/rows/test_clean", "crates/dom_clean/src", "examples"):
         shutil.copytree(ROOT / name, copied / name, ignore=shutil.ignore_patterns("__pycache__"))
+    shutil.copy(ROOT / "VERSION", copied)
     outcome = []
     for mutant in made()[part::of]:
         why = reason(mutant)
