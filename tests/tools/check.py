@@ -45,6 +45,7 @@ sys.dont_write_bytecode = True
 TESTS = pathlib.Path(__file__).resolve().parents[1]
 for folder in ("tools", "checks", "second_definitions"):
     sys.path.insert(0, str(TESTS / folder))
+import articles  # noqa: E402
 import c_and_python  # noqa: E402
 import clean  # noqa: E402
 import coverage  # noqa: E402
@@ -316,7 +317,7 @@ def main():
     built_well = building.result()
     tables = [rows, cleaned, followed, asked_each_way]
     tables += [] if is_quick else [c_and_python.c_and_python, releases.releases]
-    tables += [documents.documents, reference.reference, options.options, standard.standard]
+    tables += [documents.documents, reference.reference, options.options, articles.articles, standard.standard]
     tables += [standard_rules.checked, standard_parsing.checked, standard_trees.checked, wrong_bodies, line_lengths.line_lengths, coverage.coverage]
     tables += [entries_of_tables.tables, hostile.hostile, decoded, pictures.checked]
     counts = [built_well, counts] if counts else [built_well]

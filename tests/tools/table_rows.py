@@ -508,7 +508,7 @@ def conflict_rows(entries):
     """Two options of what is printed, which can't be given together."""
     shows = [text for array, text in entries if array == "SHOWS"]
     usage = (
-        "\n\nUsage: hq [OPTIONS] SELECTOR [FILE ..]\n       hq [OPTIONS] --document | --tree | --script LINES [FILE ..]\n"
+        "\n\nUsage: hq [OPTIONS] SELECTOR [FILE ..]\n       hq [OPTIONS] --article | --document | --tree | --script LINES [FILE ..]\n"
         "       hq [OPTIONS] --jsonl | --warc SELECTOR [FILE ..]\n\nFor more information, try '--help'.\n"
     )
     values = {"attr": ["a"], "script": ["text"]}

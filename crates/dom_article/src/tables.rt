@@ -85,7 +85,8 @@ pub(crate) static NEVER: [&str; 41] = [
     "bgsound", "keygen",
 ];
 
-/// The elements whose attribute `hidden` doesn't count: pages hide them only until a script has run.
+/// The elements whose attribute `hidden` doesn't count: pages hide them only until a script has
+/// run.
 pub(crate) static FRAMES: [&str; 2] = ["html", "body"];
 
 /// The headings.

@@ -2,6 +2,7 @@
 
 use crate::pages::Page;
 use dom_query::{Document, DocumentSelect, Matcher, NodeRef, Selection};
+use hq_pages::articles::TakenArticle;
 use hq_pages::faults::{Fault, shown};
 use hq_pages::options::{Options, Show};
 use hq_pages::showing::{answer_of, name_in_front};
@@ -39,6 +40,19 @@ fn print_match<W: Write>(
         Some(answer) => print_answer(page, answer.as_str(), options, out),
         None => Ok(()),
     }
+}
+
+/// Prints the article of a page.
+pub fn print_article<W: Write>(
+    page: &Page<'_>,
+    article: &TakenArticle,
+    options: &Options<'_>,
+    out: &mut W,
+) -> Result<(), Fault> {
+    let many = options.printing.names || options.files.len() > 1;
+    let file = if many { Some(shown(page.name)) } else { None };
+    let answer = article.answer(options.printing, file)?;
+    print_answer(page, answer.as_str(), options, out)
 }
 
 /// Prints an answer and the byte that ends it, after the name of the file if that is asked for. A

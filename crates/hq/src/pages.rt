@@ -1,10 +1,11 @@
 //! What is done with each file: it is read and changed, and then printed or written back.
 
 use crate::keeping::ErrorKeeper;
-use crate::output::print_matches;
+use crate::output::{print_article, print_matches};
 use crate::rewriting::{print_document, write_back};
 use dom_query::{Document, DocumentSelect, RunFault, SelectionMut, clean_document, run_commands};
 use hq_pages::addresses::{make_absolute, make_absolute_at};
+use hq_pages::articles::take_article;
 use hq_pages::charset::{declare_utf8, report_found};
 use hq_pages::faults::Fault;
 use hq_pages::options::{Job, Options};
@@ -47,6 +48,13 @@ fn do_job<W: Write>(
 ) -> Result<bool, Fault> {
     match &options.job {
         Job::Select(selector) => print_matches(page, selector, options, out),
+        Job::Article { any } => match take_article(&page.document, options, *any)? {
+            Some(article) => {
+                print_article(page, &article, options, out)?;
+                Ok(true)
+            }
+            None => Ok(false),
+        },
         Job::Document => {
             if !options.in_place {
                 print_document(&page.document, out)?;
@@ -71,7 +79,8 @@ fn do_job<W: Write>(
 }
 
 /// Changes a document as the options say, before anything is printed: elements are removed, its
-/// addresses are made absolute, and what is left of it by a policy becomes a document of its own.
+/// addresses are made absolute, and what is left of it by a policy becomes a document of its own,
+/// unless its article is what is sanitised.
 /// `address` is that which the page was read from, if it is known.
 pub fn change(
     document: &mut Document,
@@ -91,7 +100,9 @@ pub fn change(
     if options.declares_utf8() {
         declare_utf8(document)?;
     }
-    if let Some(policy) = &options.policy {
+    if let Some(policy) = &options.policy
+        && !matches!(options.job, Job::Article { .. })
+    {
         *document = clean_document(&document.tree, policy)?;
     }
     Ok(())

@@ -3,6 +3,7 @@
 use crate::archive::answer_records;
 use crate::pages::change;
 use dom_query::{Command, Document, DocumentSelect, Matcher, NodeMarkup, NodeRef, run_commands};
+use hq_pages::articles::take_article;
 use hq_pages::charset::{Found, put_found};
 use hq_pages::faults::{Fault, report_in};
 use hq_pages::json::summary_value;
@@ -245,6 +246,15 @@ fn answer_page(
             counts.matched = true;
             let output = output_of(alloc, &mut document, commands)?;
             put(alloc, members, "output", Value::String(output))
+        }
+        Job::Article { any } => {
+            let article = take_article(&document, options, *any)?;
+            counts.matched = counts.matched || article.is_some();
+            let value = match article {
+                Some(article) => article.value(None)?,
+                None => Value::Null,
+            };
+            put(alloc, members, "article", value)
         }
         _ => {
             counts.matched = true;

@@ -9,7 +9,7 @@ use std::io::ErrorKind;
 const VERSION: &str = "1.0.0 (dom_query 0.29.0)";
 
 const USAGE: &str = "hq [OPTIONS] SELECTOR [FILE ..]
-       hq [OPTIONS] --document | --tree | --script LINES [FILE ..]
+       hq [OPTIONS] --article | --document | --tree | --script LINES [FILE ..]
        hq [OPTIONS] --jsonl | --warc SELECTOR [FILE ..]";
 
 const AFTER: &str = "Examples:
@@ -31,7 +31,7 @@ const NONE: char = ' ';
 
 /// All options, in the order in which `--help` lists them.
 #[rattlefmt::skip]
-static OPTIONS: [Choice; 34] = [
+static OPTIONS: [Choice; 36] = [
     ("html", NONE, "", "", "Print each match as HTML (the default)"),
     ("inner", NONE, "", "", "Print what is inside each match: HTML, or with --md Markdown"),
     ("text", 't', "", "", "Print the text of each match"),
@@ -39,6 +39,8 @@ static OPTIONS: [Choice; 34] = [
     ("attr", 'a', "NAME", "", "Print this attribute of each match that has it"),
     ("count", 'c', "", "json", "Print how many matches there are"),
     ("csv", NONE, "", "json", "Print the rows of each matched table as CSV"),
+    ("article", NONE, "", "", "Print the article of each page: as Markdown, or with --html, --text or --json"),
+    ("any", NONE, "", "", "With --article: also print what may be no article"),
     ("document", 'd', "", "", "Print the whole document, doctype included"),
     ("tree", NONE, "", "", "Print the whole tree, in the form of html5lib's tests"),
     ("script", 's', "LINES", "", "Run these lines of a script on the page; may be repeated"),
@@ -100,10 +102,10 @@ pub fn command<'a>(alloc: Global) -> Result<Command<'a>, AllocError> {
 }
 
 fn selector<'a>(alloc: Global) -> Result<Arg<'a>, AllocError> {
-    let whole: [&'a str; 3] = ["document", "tree", "script"];
+    let whole: [&'a str; 4] = ["article", "document", "tree", "script"];
     Arg::new(alloc, "selector")
         .value_name("SELECTOR")
-        .help("What to look for; a FILE with --document, --tree or --script")
+        .help("What to look for; a FILE with --article, --document, --tree or --script")
         .required_unless_present_any(whole.as_slice())
 }
 

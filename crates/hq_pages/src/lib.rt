@@ -4,6 +4,7 @@
 
 pub mod addresses;
 pub mod allowing;
+pub mod articles;
 pub mod charset;
 pub mod command;
 pub mod compressed;
@@ -11,6 +12,7 @@ pub mod csv_rows;
 pub mod faults;
 pub mod hints;
 pub mod json;
+pub mod linked_data;
 pub mod options;
 pub mod page_lines;
 pub mod pages;

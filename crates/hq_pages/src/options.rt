@@ -37,6 +37,8 @@ pub struct Options<'a> {
 pub enum Job {
     /// What a selector matches is printed.
     Select(Matcher),
+    /// The article of the page is printed; with `any` also what may be no article.
+    Article { any: bool },
     /// The whole document is printed as HTML.
     Document,
     /// The whole tree is printed in the form of html5lib's tests.
@@ -125,6 +127,9 @@ impl<'a> Options<'a> {
         terminal: bool,
     ) -> Result<Options<'a>, Fault> {
         let alloc = rt.alloc();
+        if let Some(why) = misfit_of_article(matches) {
+            return Err(Fault::Usage(why));
+        }
         let mut options = Options {
             reading: reading_of(alloc, matches)?,
             removed: Vec::new(alloc),
@@ -209,8 +214,11 @@ impl<'a> Options<'a> {
         if self.printing.inner && !matches!(self.printing.show, Show::Html | Show::Markdown) {
             return Some("--inner: only HTML and Markdown have an inside");
         }
-        if !selects && (self.printing.json || self.printing.first || self.printing.inner) {
-            return Some("--json, --first and --inner: only with a SELECTOR");
+        if !selects && (self.printing.first || self.printing.inner) {
+            return Some("--first and --inner: only with a SELECTOR");
+        }
+        if self.printing.json && !selects && !matches!(self.job, Job::Article { .. }) {
+            return Some("--json: only with a SELECTOR or --article");
         }
         None
     }
@@ -232,7 +240,29 @@ impl<'a> Options<'a> {
     }
 }
 
+/// Returns a message about options that can't be combined with `--article`, or that need it.
+fn misfit_of_article(matches: &ArgMatches<'_>) -> Option<&'static str> {
+    if !matches.get_flag("article") {
+        if matches.get_flag("any") {
+            return Some("--any: only with --article");
+        }
+        return None;
+    }
+    let counts = matches.get_flag("count") || matches.get_flag("csv");
+    let is_whole = matches.get_flag("document") || matches.get_flag("tree");
+    let asks = matches.get_str("attr").is_some() || matches.get_strs("script").is_some();
+    if counts || is_whole || asks {
+        return Some("--article: only --html, --text, --md and --json say how it is printed");
+    }
+    None
+}
+
 fn job_of(alloc: Global, matches: &ArgMatches<'_>) -> Result<Job, Fault> {
+    if matches.get_flag("article") {
+        return Ok(Job::Article {
+            any: matches.get_flag("any"),
+        });
+    }
     if matches.get_flag("tree") {
         return Ok(Job::Tree);
     }
@@ -361,6 +391,9 @@ fn show_of<'a>(matches: &ArgMatches<'a>) -> Show<'a> {
     let as_json = matches.get_flag("json") || matches.get_flag("jsonl") || matches.get_flag("warc");
     if as_json && !matches.get_flag("inner") {
         return Show::All;
+    }
+    if matches.get_flag("article") {
+        return Show::Markdown;
     }
     Show::Html
 }
