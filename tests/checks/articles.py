@@ -29,8 +29,8 @@ def f1(found, wanted):
 
 
 def article(page):
-    """The text of the article of a page; empty where none is found."""
-    command = [built("hq"), "--article", "--any", "--text", page]
+    """The text of the article of a page; empty where none is found. The pages are stored in UTF-8, whatever they declare."""
+    command = [built("hq"), "--article", "--any", "--text", "--charset", "utf-8", page]
     return subprocess.run(command, capture_output=True, timeout=SECONDS, text=True).stdout
 
 
