@@ -11,8 +11,8 @@
 - Each function of the header is one that the shared library shows, and the other way around, each proved function is called by
   c/dom_query.c, and c_exports.c and the package name each.
 - The programs of examples/c are built with the pkg-config file and run, and so is each program that docs/C.md shows.
-- The tests of the package (python/tests), which ask the rows of `dq` and of the test program's part `clean` again, and the programs of examples/python are run, with
-  each Python from 3.10 on that the machine has, and its types are checked, where mypy is there. A wheel is made and installed."""
+- The tests of the package (python/tests), which ask the rows of `dq` and of the test program's part `clean` again, and the programs of examples/python are run, those
+  that edit also with each other Python from 3.10 on that the machine has, and its types are checked, where mypy is there. A wheel is made and installed."""
 import hashlib
 import os
 import pathlib
@@ -196,11 +196,14 @@ def package(checks, folder):
     """The tests of the Python package, with each Python, and its types."""
     env = {**os.environ, "PYTHONPATH": str(ROOT / "python"), "DOM_QUERY_LIBRARY": str(folder / "lib" / "libdom_query.so")}
     for version, python in sorted(pythons().items()):
+        is_this = version == sys.version_info[:2]
         words = [python, "-W", "error::ResourceWarning", "-m", "unittest", "discover", "-s", ROOT / "python" / "tests", "-t", ROOT / "python"]
+        # All tests take minutes, so the other versions are asked what they may read otherwise: the calls that edit.
+        words += [] if is_this else ["-p", "test_editing.py"]
         status, printed = run(words, env=env)
         count = re.search(r"Ran (\d+) tests?", printed)
         name = ".".join(str(number) for number in version)
-        checks.check(f"tests of the package with Python {name}", status == 0 and count and int(count[1]) >= 70, printed)
+        checks.check(f"tests of the package with Python {name}", status == 0 and count and int(count[1]) >= (70 if is_this else 10), printed)
         checks.passed += int(count[1]) - 1 if status == 0 and count else 0
     scripts(checks, env)
     wheel(checks, folder)
