@@ -18,8 +18,8 @@ DEPTH, DATA_ATTRIBUTES, KEEP_RELATIVE, NO_REL = range(4)
 COMMON_TAGS = frozenset(
     "a abbr acronym area article aside b bdi bdo blockquote br caption center cite code col colgroup data dd del "
     "details dfn div dl dt em figcaption figure footer h1 h2 h3 h4 h5 h6 header hgroup hr i img ins kbd li map mark "
-    "nav ol p pre q rp rt ruby s samp small span strike strong sub summary sup table tbody td th thead time tr tt u ul var "
-    "wbr".split()
+    "nav ol p pre q rp rt ruby s samp small span strike strong sub summary sup table tbody td tfoot th thead time tr tt u ul "
+    "var wbr".split()
 )
 COMMON_ATTRIBUTES: Mapping[str, frozenset[str]] = {
     "*": frozenset({"lang", "title"}),

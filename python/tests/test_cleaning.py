@@ -311,6 +311,10 @@ def unnamed(text):
     return re.sub("`[^`]*`", "``", text)
 
 
+# A rule whose name is empty, has capital letters or has signs that no name has.
+FOLDED = re.compile(r"^(?:element|attribute) (?:.*[A-Z=].*|\S+ \S+|)$")
+
+
 class Rows(unittest.TestCase):
     def test_rows(self):
         asked, made = 0, {}
@@ -319,6 +323,9 @@ class Rows(unittest.TestCase):
                 # (calls that the package doesn't have: into a writer, and to a document)
                 continue
             for number, case in enumerate(rows(path.stem), 1):
+                if any(FOLDED.search(word) for word in case["args"]):
+                    # (names that the package itself folds or refuses; test_errors asks for these)
+                    continue
                 with self.subTest(row=f"{path.name}:{number}"):
                     way, lines = ways(case["args"])
                     html, wanted = given(case, "markup").decode(), given(case, "output").decode()
