@@ -66,11 +66,18 @@ pub fn linked_data_of(document: &Document) -> Result<LinkedData, Fault> {
 }
 
 fn is_linked_data(node: &NodeRef<'_>) -> bool {
-    node.has_name("script")
-        && node
-            .attr_or("type", "")
-            .trim()
-            .eq_ignore_ascii_case("application/ld+json")
+    if !node.has_name("script") {
+        return false;
+    }
+    match node.attr("type") {
+        Some(kind) => is_type_of_linked_data(kind),
+        None => false,
+    }
+}
+
+fn is_type_of_linked_data(kind: &str) -> bool {
+    let kind = kind.trim();
+    kind.eq_ignore_ascii_case("application/ld+json")
 }
 
 /// Returns the object of an article: the value itself, or one in its array or its `@graph`.
