@@ -261,7 +261,7 @@ class Answers(unittest.TestCase):
 
     def test_threads_read_side_by_side(self):
         """While a thread reads a page, others run: the interpreter's lock is let go."""
-        page = "<p>" + "<b>x</b>" * 60_000
+        page = "<p>" + "<b>x</b>" * 600_000
         turns, done = [], threading.Event()
 
         def count():

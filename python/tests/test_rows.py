@@ -50,7 +50,8 @@ PRINTING = {
 }
 EDITING = {
     "remove-attr": lambda node, word: node.attrs.pop(word, None),
-    "set-text": lambda node, word: node.set_text(word),
+    # (a script sets nothing where there is no text to set, and the package refuses it)
+    "set-text": lambda node, word: node.set_text(word) if node.kind in {"element", "text"} else None,
     "set-html": lambda node, word: setattr(node, "inner_html", word),
     "append-html": lambda node, word: node.append_html(word),
     "prepend-html": lambda node, word: node.prepend_html(word),
