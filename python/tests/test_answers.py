@@ -234,13 +234,16 @@ class Answers(unittest.TestCase):
         before, caught = signal.signal(signal.SIGALRM, handler), 0
         try:
             for _ in range(OPERATIONS // 20):
-                signal.setitimer(signal.ITIMER_REAL, 0.0002)
                 try:
-                    for way in range(Page.WAYS):
-                        page.asked(way)
+                    try:
+                        signal.setitimer(signal.ITIMER_REAL, 0.0002)
+                        for way in range(Page.WAYS):
+                            page.asked(way)
+                    finally:
+                        # (on a busy machine it may come as late as here)
+                        signal.setitimer(signal.ITIMER_REAL, 0)
                 except Interrupt:
                     caught += 1
-                signal.setitimer(signal.ITIMER_REAL, 0)
                 for way in (0, 2, 4, 8, 11):
                     wrong = page.failed(way)
                     if wrong:
