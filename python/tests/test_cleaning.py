@@ -311,6 +311,21 @@ def unnamed(text):
     return re.sub("`[^`]*`", "``", text)
 
 
+class Names(unittest.TestCase):
+    def test_names_that_are_folded_or_refused(self):
+        """Capital letters count as small ones, as in a page; a name that no page can have is refused, and the error shows it."""
+        self.assertEqual(Policy(tags={"DIV"}).clean("<div>x</div>"), "<div>x</div>")
+        policy = Policy(tags={"a"}, attributes={"*": {"HREF"}}, link_rel=None)
+        self.assertEqual(policy.clean("<a href=/x>y</a>"), '<a href="/x">y</a>')
+        refused = [({"tags": {name}}, name) for name in ("", "a b")]
+        refused += [({"attributes": {"*": {name}}}, name) for name in ("", "a b", "a=b")]
+        for rules, name in refused:
+            with self.subTest(rules=rules):
+                with self.assertRaises(PolicyError) as caught:
+                    Policy(**rules)
+                self.assertIn(repr(name), str(caught.exception))
+
+
 # A rule whose name is empty, has capital letters or has signs that no name has.
 FOLDED = re.compile(r"^(?:element|attribute) (?:.*[A-Z=].*|\S+ \S+|)$")
 
@@ -324,7 +339,7 @@ class Rows(unittest.TestCase):
                 continue
             for number, case in enumerate(rows(path.stem), 1):
                 if any(FOLDED.search(word) for word in case["args"]):
-                    # (names that the package itself folds or refuses; test_errors asks for these)
+                    # (names that the package itself folds or refuses: test_names_that_are_folded_or_refused)
                     continue
                 with self.subTest(row=f"{path.name}:{number}"):
                     way, lines = ways(case["args"])

@@ -15,7 +15,7 @@ from xml.sax.saxutils import escape
 ROOT = pathlib.Path(__file__).resolve().parents[2]
 FOLDER = ROOT / "docs" / "pictures"
 PERFORMANCE = ROOT / "docs" / "PERFORMANCE.md"
-COLOURS = {"proved": "#2e7d32", "both": "#7cb342", "tested": "#f9a825", "outside": "#90a4ae"}
+COLOURS = {"proved": "#2e7d32", "both": "#7cb342", "outside": "#90a4ae"}
 OURS, THEIRS, INK = "#2e7d32", "#90a4ae", "#263238"
 FONT = 'font-family="Helvetica, Arial, sans-serif"'
 
@@ -52,7 +52,7 @@ def road(figures):
         parts += [box(20, y, 22, 16, COLOURS[state["state"]]), text(52, y + 13, state["says"])]
         y += 24
     parts.append(text(20, y + 16, figures["trusted"], 13))
-    return drawing(680, y + 34, figures["title"], parts)
+    return drawing(800, y + 34, figures["title"], parts)
 
 
 def bar(value, most):
