@@ -27,14 +27,14 @@ const UNMATCHED: u8 = 1;
 const FAULTY: u8 = 2;
 
 fn main(rt: HostRuntime) -> ExitCode {
-    match obey(&rt) {
+    match run_command_line(&rt) {
         Ok(status) => ExitCode::from(status),
         Err(fault) => ExitCode::from(failed(&rt, &fault)),
     }
 }
 
 /// Does what the command line asks for, and returns the exit status.
-fn obey(rt: &HostRuntime) -> Result<u8, Fault> {
+fn run_command_line(rt: &HostRuntime) -> Result<u8, Fault> {
     let words = words_of(rt)?;
     match command(rt.alloc())?.try_get_matches_from(words.as_slice()) {
         Ok(matches) => {

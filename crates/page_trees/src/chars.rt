@@ -158,7 +158,7 @@ impl TreeBuilder {
             return self.foreign_run(kind, text);
         }
         match kind {
-            Run::Nulls => self.nulls(text),
+            Run::Nulls => self.process_nulls(text),
             Run::Spaces => self.spaces(text),
             Run::Letters => self.letters(text),
         }
@@ -203,7 +203,7 @@ impl TreeBuilder {
         }
     }
 
-    fn nulls(&mut self, text: &str) -> Next {
+    fn process_nulls(&mut self, text: &str) -> Next {
         match self.mode {
             Mode::InBody | Mode::InCaption | Mode::InCell | Mode::InTemplate | Mode::InTableText =>
                 Next::Done,

@@ -66,7 +66,7 @@ fn is_link_known(nodes: &[TreeNode], link: Option<NodeId>) -> bool
 }
 
 /// Returns whether the links of the node with this index lead to nodes.
-fn knows(nodes: &[TreeNode], n: usize) -> bool
+fn links_in_range(nodes: &[TreeNode], n: usize) -> bool
     requires { n < length nodes.now }
     ensures { MatchBool result (LinksKnown nodes.now n) (LinksAstray nodes.now n) }
 {
@@ -92,7 +92,7 @@ pub(crate) fn are_known(nodes: &[TreeNode]) -> bool
         (SomeIndex nodes.now (LinksAstray nodes.now)) }
 {
     for n in 0..nodes.len() {
-        if !knows(nodes, n) {
+        if !links_in_range(nodes, n) {
             return false;
         }
     }

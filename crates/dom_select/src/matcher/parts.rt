@@ -41,7 +41,7 @@ pub(crate) fn is_named_node(node: &NodeData, name: &SelectorName) -> bool
     ensures { result ≡ node_passes (Part.«Type» name.now) node.now }
 {
     match node {
-        NodeData::Element(element) => bears(element, name),
+        NodeData::Element(element) => element_has_type(element, name),
         _ => false,
     }
 }
@@ -133,7 +133,7 @@ fn element_passes(part: &Part, element: &Element) -> bool
 {
     match part {
         Part::Universal => true,
-        Part::Type(name) => bears(element, name),
+        Part::Type(name) => element_has_type(element, name),
         Part::Id(value) => has_attr(element.attrs().as_slice(), "id", value.as_str()),
         Part::Class(word) => element.has_class(word.as_str()),
         Part::Attribute(asked) => attrs_pass(asked, element),
@@ -151,7 +151,7 @@ fn element_passes(part: &Part, element: &Element) -> bool
 /// Returns whether the element has this type. Known names in HTML, which are the most frequent, are
 /// compared by number.
 #[inline(always)]
-fn bears(element: &Element, name: &SelectorName) -> bool
+fn element_has_type(element: &Element, name: &SelectorName) -> bool
     ensures { result ≡ bytes_eq element.now.name.local
         (name_within element.now.name.ns name.now) }
 {

@@ -8,7 +8,7 @@ use Rattle.dom_nodes.specs.declared.name.Namespace.{Namespace}
 use Rattle.dom_nodes.specs.declared.name.Namespace.TheVariants.{Html}
 use Rattle.dom_nodes.specs.KnownNames.{HasNumber, IsUnknown, known_name}
 use Rattle.dom_select.specs.Parts.{name_within}
-use Rattle.dom_select.proofs.matcher.parts.bears.Goals as goal
+use Rattle.dom_select.proofs.matcher.parts.element_has_type.Goals as goal
 
 -- the selector's name as it is compared with the local name of an HTML element
 

@@ -1,6 +1,6 @@
 use Rattle.std.proofs.Common.{sym, inl, inr, ◌∙◌}
 use Rattle.dom_links.proofs.checks.Checked.{astray, last_known_or, links_read}
-use Rattle.dom_links.proofs.validation.links.knows.Goals as goal
+use Rattle.dom_links.proofs.validation.links.links_in_range.Goals as goal
 
 pub returns-then-not-is_link_known : goal.returns-then-not-is_link_known
 returns-then-not-is_link_known c =
