@@ -25,7 +25,7 @@ fn mark_items(alloc: Global, document: &mut Document) -> Result<(), Fault> {
     Ok(())
 }
 
-/// Puts a copy of the lists behind each rule.
+/// Puts a copy of the lists after each rule.
 fn copy_list(document: &mut Document) -> Result<(), Fault> {
     let lists = document.select("ul")?.ids()?;
     let rules = document.select("hr")?.ids()?;
