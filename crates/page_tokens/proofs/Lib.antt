@@ -1,4 +1,5 @@
 mod AttributeLemmas
+mod CdataSections
 mod CommentEnds
 mod CommentFollows
 mod CommentSteps
@@ -6,6 +7,7 @@ mod DeclarationFollows
 mod DeclarationSteps
 mod Lowered
 mod NameLemmas
+mod RawTexts
 mod RepeatedAttributes
 mod RunSteps
 mod SortedNames
@@ -15,4 +17,5 @@ mod TagFollows
 mod TagLemmas
 mod TagNames
 mod TagSteps
+mod TextFollows
 mod WordSteps

@@ -12,3 +12,4 @@ pub mod Standard
 pub mod StandardPages
 pub mod StandardStates
 pub mod Tags
+pub mod TextStates

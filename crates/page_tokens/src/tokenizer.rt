@@ -27,7 +27,7 @@ use draft::TagDraft;
 use references::Reference;
 pub use runs::MARKS;
 pub use state::State;
-use state::{Place, Raw, ScriptState};
+use state::{Raw, ScriptState};
 use std::alloc::{AllocError, Global};
 use std::mem;
 
@@ -242,7 +242,7 @@ impl Tokenizer {
             State::Rcdata => self.in_rcdata(c),
             State::Rawtext => self.in_raw(Raw::Rawtext, c),
             State::Script => self.in_raw(Raw::Script, c),
-            State::Plaintext => self.letter(Place::Text, c),
+            State::Plaintext => self.in_plaintext(c),
             State::Cdata(state) => self.in_cdata(state, c),
             State::Tag(state) => self.in_tag(state, c),
             State::EndTag(raw, state) => self.in_end_tag(raw, state, c),

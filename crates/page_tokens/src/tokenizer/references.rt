@@ -1,6 +1,6 @@
 //! The character reference states (13.2.5.72 to 13.2.5.80).
 
-ghost use Rattle.std.specs.Prelude.{◌≡◌, ◌≤◌, ◌+◌, ◌*◌, [], true, false, min, None};
+ghost use Rattle.std.specs.Prelude.{◌≡◌, ◌≤◌, ◌+◌, ◌*◌, [], IfOk, OnOk, true, false, min, None};
 ghost use Rattle.std.specs.Char.{is_ascii_alphanumeric};
 ghost use Rattle.page_tokens.specs.Numbers.{character_of};
 
@@ -97,6 +97,7 @@ fn put_value(text: &mut String, value: Value, behind: &str) -> Result<(), AllocE
 impl Tokenizer {
     ghost use Rattle.page_tokens.specs.NamedReferences.{read_of};
     ghost use Rattle.page_tokens.specs.Reading.{IsInName, IsNameRead, IsReadBehind};
+    ghost use Rattle.page_tokens.specs.TextStates.{BeginsReference};
     ghost use Rattle.page_tokens.specs.declared.tokenizer.named.Match.{Match};
 
     pub(super) fn is_in_reference(&self) -> bool
@@ -105,7 +106,10 @@ impl Tokenizer {
         !matches!(self.reference, Reference::None)
     }
 
-    pub(super) fn begin_reference(&mut self) -> Progress {
+    pub(super) fn begin_reference(&mut self) -> Progress
+        ensures told { IfOk result (λ told. told ≡ None) }
+        ensures begins { OnOk result (BeginsReference self.old self.new) }
+    {
         self.reference = Reference::Begun;
         self.written.clear();
         self.behind.clear();
