@@ -42,7 +42,7 @@ in_declaration t s ahead m is stands =
     let at : m.state ≡ there.MarkupDeclarationOpen = stands.state ∙ ap state_of is in
     record { comment = held.0; seen = held.1; at = at; machine = ap (at_state m) (sym at) }
 
-one_more : (bytes old_bytes ahead : List ℕ) (c : ℕ) → bytes ≡ old_bytes ++ encode_utf8 c → old_bytes ≡ encode_utf8_all ahead → bytes ≡ encode_utf8_all (ahead ++ c ∷ [])
+pub one_more : (bytes old_bytes ahead : List ℕ) (c : ℕ) → bytes ≡ old_bytes ++ encode_utf8 c → old_bytes ≡ encode_utf8_all ahead → bytes ≡ encode_utf8_all (ahead ++ c ∷ [])
 one_more bytes old_bytes ahead c is old_is =
     is ∙ ap (λ e. e ++ encode_utf8 c) old_is ∙ ap (λ e. encode_utf8_all ahead ++ e) (sym (append-nil (encode_utf8 c))) ∙ sym (encodes-append ahead (c ∷ []))
 

@@ -5,11 +5,15 @@ mod CommentFollows
 mod CommentSteps
 mod DeclarationFollows
 mod DeclarationSteps
+mod EndTagSteps
 mod Lowered
 mod NameLemmas
+mod RawEndTags
 mod RawTexts
 mod RepeatedAttributes
 mod RunSteps
+mod ScriptFollows
+mod ScriptSteps
 mod SortedNames
 mod StandardSteps
 mod Switches

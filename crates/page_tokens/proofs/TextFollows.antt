@@ -58,12 +58,14 @@ map_append f [] ys = refl
 map_append f (x ∷ xs) ys = ap (λ t. f x ∷ t) (map_append f xs ys)
 
 -- these are emitted, and the characters are then read in another state
-pub emits_before : (old mid new : Tokenizer) (read shown : List ℕ) (told : Option TokenKind) → (mid.refused ≡ false → old.refused ≡ false) → Leaves old mid → text_of mid ≡ text_of old ++ encode_utf8_all shown →
-    ((m : Machine) (ahead rest : List ℕ) → Stands old ahead m → Emits old mid m (ahead ++ read ++ rest) shown (read ++ rest)) → FollowsStandard mid new read told → FollowsStandard old new read told
-emits_before old mid new read shown told remembers leaves text emits follows = record {
+pub emits_before : (old mid new : Tokenizer) (read : List ℕ) (shown_by : Machine → List ℕ) (told : Option TokenKind) → (mid.refused ≡ false → old.refused ≡ false) → Leaves old mid →
+    ((m : Machine) (ahead : List ℕ) → Stands old ahead m → text_of mid ≡ text_of old ++ encode_utf8_all (shown_by m)) →
+    ((m : Machine) (ahead rest : List ℕ) → Stands old ahead m → Emits old mid m (ahead ++ read ++ rest) (shown_by m) (read ++ rest)) → FollowsStandard mid new read told → FollowsStandard old new read told
+emits_before old mid new read shown_by told remembers leaves text emits follows = record {
   memory = remembers follows.memory;
   leaves = record { in_foreign = follows.leaves.in_foreign ∙ leaves.in_foreign; after_return = follows.leaves.after_return ∙ leaves.after_return };
   reads = λ m ahead rest stands.
+      let shown : List ℕ = shown_by m in
       let to : Emits old mid m (ahead ++ read ++ rest) shown (read ++ rest) = emits m ahead rest stands in
       let more : Behind mid new read told to.machine [] rest = follows.reads to.machine [] rest to.stands in
       let b : Bool = old.in_foreign in
@@ -78,7 +80,7 @@ emits_before old mid new read shown told remembers leaves text emits follows = r
         tokens = more.tokens;
         goes = subst (λ ts. Goes b m (ahead ++ read ++ rest) ts more.machine (more.ahead' ++ rest)) all (then_on to.goes later);
         holds = more.holds;
-        text = more.text ∙ ap (λ e. e ++ encode_utf8_all more.characters) text ∙ append_assoc (text_of old) (encode_utf8_all shown) (encode_utf8_all more.characters)
+        text = more.text ∙ ap (λ e. e ++ encode_utf8_all more.characters) (text m ahead stands) ∙ append_assoc (text_of old) (encode_utf8_all shown) (encode_utf8_all more.characters)
             ∙ ap (λ e. text_of old ++ e) (sym (encodes-append shown more.characters));
         ends = more.ends;
       };
@@ -126,8 +128,8 @@ pub goes_on_before : (old mid new : Tokenizer) (from to : State) (c : ℕ) (show
     bytes ≡ encode_utf8_all shown → BackTo from to c shown → ReadsNothingAhead from → HoldsNothing to → FollowsStandard mid new (c ∷ []) told → FollowsStandard old new (c ∷ []) told
 goes_on_before old mid new from to c shown bytes told is goes_if bytes_are back nothing holds follows =
     let goes : TextGoesOn old mid to bytes = goes_if follows.memory in
-    emits_before old mid new (c ∷ []) shown told (λ none. goes.memory) (record { in_foreign = ap (λ t. t.in_foreign) goes.only; after_return = ap (λ t. t.after_return) goes.only })
-    (goes.text ∙ ap (λ e. string_bytes old.text ++ e) bytes_are) (λ m ahead rest stands.
+    emits_before old mid new (c ∷ []) (λ m. shown) told (λ none. goes.memory) (record { in_foreign = ap (λ t. t.in_foreign) goes.only; after_return = ap (λ t. t.after_return) goes.only })
+    (λ m ahead stands. goes.text ∙ ap (λ e. string_bytes old.text ++ e) bytes_are) (λ m ahead rest stands.
     let held : Held from old ahead m = subst (λ s. Held s old ahead m) is stands.held in
     let b : Bool = old.in_foreign in
     let n : Machine = at_state m (state_of to) in
@@ -202,3 +204,8 @@ text_twice old mid new to next front more first_if second =
       only = second.only ∙ ap {A = Tokenizer} (λ t. record t { state = next; text = new.text; errors = new.errors; refused = new.refused }) first.only;
       text = second.text ∙ ap (λ e. e ++ more) first.text ∙ append_assoc (string_bytes old.text) front more;
     }
+
+-- only the state changes
+pub moved : (old new : Tokenizer) (next : State) → new ≡ record old { state = next } → new.refused ≡ false → TextGoesOn old new next []
+moved old new next only none =
+    subst (λ t. TextGoesOn old t next []) (sym only) (record { memory = sym (ap (λ t. t.refused) only) ∙ none; only = refl; text = sym (append-nil (string_bytes old.text)) })

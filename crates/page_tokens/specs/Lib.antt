@@ -2,12 +2,15 @@ pub mod Attributes
 pub mod Changes
 pub mod Comments
 pub mod Declarations
+pub mod DoctypeSteps
 pub mod Drafts
 pub mod NameTable
 pub mod NamedReferences
 pub mod Numbers
+pub mod RawEndTags
 pub mod Reading
 pub mod Runs
+pub mod ScriptStates
 pub mod Standard
 pub mod StandardPages
 pub mod StandardStates

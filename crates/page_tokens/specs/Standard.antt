@@ -54,10 +54,10 @@ MaySpell None (Some cs) = ⊥
 MaySpell (Some text) None = ⊥
 MaySpell (Some text) (Some cs) = Spells text cs
 
--- the name of the last start tag; before the first one it is empty
+-- the name of the last start tag, in lower case; before the first one it is empty
 abbrev pub IsLast : {A : Type 0} → String A → Option (List ℕ) → Type 0
 IsLast name None = string_bytes name ≡ []
-IsLast name (Some cs) = Spells name cs
+IsLast name (Some cs) = Spells name cs × (map to_ascii_lowercase (string_bytes name) ≡ string_bytes name)
 
 -- ---- tags and doctypes
 

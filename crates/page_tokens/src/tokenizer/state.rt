@@ -152,18 +152,6 @@ pub enum State {
     Doctype(DoctypeState),
 }
 
-impl Raw {
-    /// Returns the state in which such text is read.
-    pub fn state(self) -> State {
-        match self {
-            Raw::Rcdata => State::Rcdata,
-            Raw::Rawtext => State::Rawtext,
-            Raw::Script => State::Script,
-            Raw::Escaped => State::ScriptData(ScriptState::Escaped),
-        }
-    }
-}
-
 impl Quote {
     /// Returns the quote character.
     pub fn letter(self) -> char {

@@ -66,6 +66,17 @@ impl Tokenizer {
         push(&mut self.text, c)
     }
 
+    /// Appends the character to the text, with a null replaced, and changes to a state.
+    pub(super) fn letter_then(&mut self, c: char, state: State) -> Progress
+        ensures told { IfOk result (λ told. told ≡ None) }
+        ensures goes_on { OnOk result (self.new.refused ≡ false →
+            TextGoesOn self.old self.new state (encode_utf8 (shown_of c))) }
+    {
+        let shown = self.shown(c);
+        self.state = state;
+        push(&mut self.text, shown)
+    }
+
     /// Appends a text to the characters that were read.
     pub(super) fn put_text(&mut self, text: &str)
         ensures { self.new.refused ≡ false →
