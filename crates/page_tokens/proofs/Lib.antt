@@ -1,3 +1,6 @@
+mod AttrFollows
+mod AttrNames
+mod AttrValues
 mod AttributeLemmas
 mod CdataSections
 mod CommentEnds
@@ -13,8 +16,10 @@ mod RunSteps
 mod SortedNames
 mod StandardSteps
 mod Switches
+mod TagArms
 mod TagFollows
 mod TagLemmas
+mod TagMoves
 mod TagNames
 mod TagSteps
 mod TextFollows

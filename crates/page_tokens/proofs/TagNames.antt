@@ -86,7 +86,7 @@ slash_arm old new c (Ok told) is at only told_is = λ none. subst (λ d. Follows
     (switches old new (state.Tag tag.Name) (state.Tag tag.SelfClosing) 47 told is only told_is none (λ b m rest. refl) name_nothing (λ t other ahead m held. (refl, held.1)))
 slash_arm old new c (Err e) is at only told_is = tt
 
-space_cases : (P : ℕ → Type 0) (c : ℕ) → is_space_of c ≡ true → P 9 → P 10 → P 12 → P 32 → P c
+pub space_cases : (P : ℕ → Type 0) (c : ℕ) → is_space_of c ≡ true → P 9 → P 10 → P 12 → P 32 → P c
 space_cases P c h p9 p10 p12 p32 =
     by_bool (λ e x. (x || e == 10 || e == 12 || e == 32) ≡ true → P e) c 9 (λ _. p9)
     (λ h9. by_bool (λ e x. (x || e == 12 || e == 32) ≡ true → P e) c 10 (λ _. p10)
@@ -109,10 +109,10 @@ greater_arm old new c (Ok told) is at keeps emits = λ none. subst (λ d. Follow
     (emitted_tag old new (state.Tag tag.Name) told is (keeps none) (λ named. emits named none) (λ b m rest. refl) name_nothing name_draft)
 greater_arm old new c (Err e) is at keeps emits = tt
 
-differs : (test : ℕ → Bool) (k c : ℕ) → test c ≡ false → test k ≡ true → (k == c) ≡ false
+pub differs : (test : ℕ → Bool) (k c : ℕ) → test c ≡ false → test k ≡ true → (k == c) ≡ false
 differs test k c fails passes = ne_eqb k c (λ e. true≢false (sym passes ∙ ap test e ∙ fails))
 
-name_letter_of : (c : ℕ) → (c ≡ 47 → ⊥) → (c ≡ 62 → ⊥) → is_space_of c ≡ false → IsNameLetter c
+pub name_letter_of : (c : ℕ) → (c ≡ 47 → ⊥) → (c ≡ 62 → ⊥) → is_space_of c ≡ false → IsNameLetter c
 name_letter_of c no_slash no_greater no_space = record {
   tab = differs is_space_of 9 c no_space refl;
   line_feed = differs is_space_of 10 c no_space refl;

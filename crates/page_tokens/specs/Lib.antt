@@ -11,5 +11,6 @@ pub mod Runs
 pub mod Standard
 pub mod StandardPages
 pub mod StandardStates
+pub mod TagStates
 pub mod Tags
 pub mod TextStates
