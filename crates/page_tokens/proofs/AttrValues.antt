@@ -201,7 +201,7 @@ other_after_value old mid new c r is no_space no_slash no_greater mid_is remembe
     reconsume_arm old mid new (state.Attribute attr.AfterQuoted) (state.Attribute attr.BeforeName) c r is mid_is remembers (λ b m rest. rw (h9, h10, h12, h32, h47, h62) refl)
     (λ t ahead m held. held.0) (λ t other ahead m held. (refl, held.1)) follows
 
--- ---- behind the `/` of a tag
+-- ---- after the `/` of a tag
 
 -- the flag is set
 abbrev closed : StandardTag → StandardTag

@@ -21,6 +21,7 @@ mod TagFollows
 mod TagLemmas
 mod TagMoves
 mod TagNames
+mod TagOpens
 mod TagSteps
 mod TextFollows
 mod WordSteps
