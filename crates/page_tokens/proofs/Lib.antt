@@ -1,3 +1,6 @@
+mod AttrFollows
+mod AttrNames
+mod AttrValues
 mod AttributeLemmas
 mod CdataSections
 mod CommentEnds
@@ -17,9 +20,12 @@ mod ScriptSteps
 mod SortedNames
 mod StandardSteps
 mod Switches
+mod TagArms
 mod TagFollows
 mod TagLemmas
+mod TagMoves
 mod TagNames
+mod TagOpens
 mod TagSteps
 mod TextFollows
 mod WordSteps

@@ -43,7 +43,7 @@ finished_attrs old new name value attr attrs are name_is value_is adds = go (lis
         (finished_first old attrs attr k are (record { name = more.2 ∙ name_is; value = more.3 ∙ value_is }) (ap (λ n. list_any (is_named n) old) more.2 ∙ has))
 
 -- with an attribute that is being read
-unfinished : (kept : List TagAttr) (name value : List ℕ) (attrs : List Attr) → 0 < length name → HoldsAttrs kept name value attrs →
+pub unfinished : (kept : List TagAttr) (name value : List ℕ) (attrs : List Attr) → 0 < length name → HoldsAttrs kept name value attrs →
     (attr : Attr) × (older : List Attr) × (attrs ≡ attr ∷ older) × (map to_ascii_lowercase name ≡ encode_utf8_all attr.name) × (value ≡ encode_utf8_all attr.value) × AreAttrs kept (distinct (reverse older))
 unfinished kept [] value attrs some held = absurd (omega (arith, some))
 unfinished kept (b ∷ name) value [] some held = absurd held

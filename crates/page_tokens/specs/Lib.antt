@@ -14,5 +14,6 @@ pub mod ScriptStates
 pub mod Standard
 pub mod StandardPages
 pub mod StandardStates
+pub mod TagStates
 pub mod Tags
 pub mod TextStates

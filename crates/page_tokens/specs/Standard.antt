@@ -17,6 +17,7 @@ use Rattle.page_tokens.specs.declared.tokenizer.Tokenizer.{Tokenizer}
 use Rattle.page_tokens.specs.declared.tokenizer.draft.TagDraft.{TagDraft}
 use Rattle.page_tokens.specs.declared.tokenizer.references.Reference.{Reference}
 use Rattle.page_tokens.specs.declared.tokenizer.references.Reference.TheVariants as reference
+use Rattle.page_tokens.specs.declared.tokenizer.state.AttrState.TheVariants as attr
 use Rattle.page_tokens.specs.declared.tokenizer.state.CommentState.{CommentState}
 use Rattle.page_tokens.specs.declared.tokenizer.state.DoctypeState.{DoctypeState}
 use Rattle.page_tokens.specs.declared.tokenizer.state.DoctypeState.TheVariants as doctype
@@ -136,13 +137,16 @@ DoctypeHeld _ t ahead m = (ahead ≡ []) × IsDoctype t.doctype m.doctype
 abbrev pub EndTagHeld : Tokenizer → Machine → Type 0
 EndTagHeld t m = IsDraft t.tag m.tag × Spells t.tag.name m.buffer
 
+-- From the first letter of an attribute to the end of its value, that attribute has a name.
 abbrev pub Held : State → Tokenizer → List ℕ → Machine → Type 0
 Held (state.Comment inner) t ahead m = (ahead ≡ []) × Spells t.comment m.comment
 Held (state.Declaration seen) t ahead m = Spells t.comment ahead × IsSeen seen ahead
 Held (state.Doctype inner) t ahead m = DoctypeHeld inner t ahead m
 Held (state.Tag tag.Name) t ahead m = (ahead ≡ []) × IsDraft t.tag m.tag
 Held (state.Tag tag.SelfClosing) t ahead m = (ahead ≡ []) × IsDraft t.tag m.tag
-Held (state.Attribute inner) t ahead m = (ahead ≡ []) × IsDraft t.tag m.tag
+Held (state.Attribute attr.BeforeName) t ahead m = (ahead ≡ []) × IsDraft t.tag m.tag
+Held (state.Attribute attr.AfterQuoted) t ahead m = (ahead ≡ []) × IsDraft t.tag m.tag
+Held (state.Attribute inner) t ahead m = (ahead ≡ []) × IsDraft t.tag m.tag × (0 < length (string_bytes t.tag.attr_name))
 Held (state.EndTag raw end_tag.Name) t ahead m = (ahead ≡ []) × EndTagHeld t m
 Held (state.EndTag raw end_tag.Open) t ahead m = (ahead ≡ []) × (m.buffer ≡ [])
 Held (state.ScriptData script.DoubleStart) t ahead m = (ahead ≡ []) × Spells t.letters m.buffer

@@ -1,5 +1,8 @@
 //! The states of the tokenizer.
 
+ghost use Rattle.std.specs.Prelude.{◌≡◌};
+ghost use Rattle.page_tokens.specs.TagStates.{quote_of};
+
 /// The kinds of text that end at an end tag with the name of the last start tag.
 #[derive(Clone, Copy, Drop)]
 pub enum Raw {
@@ -154,7 +157,9 @@ pub enum State {
 
 impl Quote {
     /// Returns the quote character.
-    pub fn letter(self) -> char {
+    pub fn letter(self) -> char
+        ensures { result ≡ quote_of self }
+    {
         match self {
             Quote::Double => '"',
             Quote::Single => '\'',
