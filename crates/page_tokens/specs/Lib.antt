@@ -7,6 +7,7 @@ pub mod NameTable
 pub mod NamedReferences
 pub mod Numbers
 pub mod Reading
+pub mod References
 pub mod Runs
 pub mod Standard
 pub mod StandardPages

@@ -17,6 +17,7 @@ use Rattle.page_tokens.specs.declared.tokenizer.Tokenizer.{Tokenizer}
 use Rattle.page_tokens.specs.declared.tokenizer.draft.TagDraft.{TagDraft}
 use Rattle.page_tokens.specs.declared.tokenizer.references.Reference.{Reference}
 use Rattle.page_tokens.specs.declared.tokenizer.references.Reference.TheVariants as reference
+use Rattle.page_tokens.specs.declared.tokenizer.state.AttrState.TheVariants as attr
 use Rattle.page_tokens.specs.declared.tokenizer.state.CommentState.{CommentState}
 use Rattle.page_tokens.specs.declared.tokenizer.state.DoctypeState.{DoctypeState}
 use Rattle.page_tokens.specs.declared.tokenizer.state.DoctypeState.TheVariants as doctype
@@ -167,10 +168,19 @@ ReferenceHeld reference.HexStart t ahead m = (ahead ≡ []) × Spells t.written 
 ReferenceHeld (reference.Hex number) t ahead m = (ahead ≡ []) × (number ≡ min m.code 0x110000)
 ReferenceHeld (reference.Decimal number) t ahead m = (ahead ≡ []) × (number ≡ min m.code 0x110000)
 
+-- where a reference may stand: in text, and in the value of an attribute, which has a name
+abbrev pub AllowsReference : State → Tokenizer → Type 0
+AllowsReference state.Data t = Unit {0}
+AllowsReference state.Rcdata t = Unit {0}
+AllowsReference (state.Attribute (attr.Quoted quote)) t = 0 < length (string_bytes t.tag.attr_name)
+AllowsReference (state.Attribute attr.Unquoted) t = 0 < length (string_bytes t.tag.attr_name)
+AllowsReference _ t = ⊥
+
 pub record StandsInReference (t : Tokenizer) (ahead : List ℕ) (m : Machine) : Type 0 where
   pub state : m.state ≡ state_in t.reference t.state
   pub back : m.return_state ≡ state_of t.state
   pub last_start : IsLast t.last_start m.last_start
+  pub place : AllowsReference t.state t
   pub outside : Held t.state t [] m
   pub inside : ReferenceHeld t.reference t ahead m
 
