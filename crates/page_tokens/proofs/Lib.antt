@@ -1,3 +1,5 @@
+mod AmbiguousFollows
+mod AmbiguousSteps
 mod AttributeLemmas
 mod CommentEnds
 mod CommentFollows
@@ -6,6 +8,9 @@ mod DeclarationFollows
 mod DeclarationSteps
 mod Lowered
 mod NameLemmas
+mod NumberFollows
+mod NumberSteps
+mod ReferenceEnds
 mod RepeatedAttributes
 mod RunSteps
 mod SortedNames

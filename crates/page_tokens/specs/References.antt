@@ -1,5 +1,6 @@
 -- How a character reference is read (13.2.5.72 to 13.2.5.80).
 use Rattle.std.specs.Prelude.{◌≡◌, ℕ, ◌+◌, ◌*◌, ◌<◌, min, Bool, true, false, cond, List, [], ◌∷◌, ◌++◌, map, length, Option, None, Some, string_bytes}
+use Rattle.std.specs.Char.{is_ascii_alphanumeric}
 use Rattle.std.specs.Str.{encode_utf8_all}
 use Rattle.standard_tokens.specs.Machine.{Machine, is_value}
 use Rattle.standard_tokens.specs.Tokens.{AChar}
@@ -50,6 +51,11 @@ pub record WritesOn (old new : Tokenizer) (next : Reference) (more : List ℕ) :
 abbrev pub place_of : State → Place
 place_of outer = cond (is_value (state_of outer)) place.AttrValue place.Text
 
+-- these bytes are appended there
+pub record Puts (old new : Tokenizer) (put : List ℕ) : Type 0 where
+  pub memory : old.refused ≡ false
+  pub gains : Gains (place_of old.state) old new put
+
 -- the reference ends, and these bytes take its place
 pub record EndsReference (old new : Tokenizer) (put : List ℕ) : Type 0 where
   pub memory : old.refused ≡ false
@@ -82,3 +88,9 @@ DigitsFollow reference.HexStart c = Unit {0}
 DigitsFollow (reference.Hex number) c = Unit {0}
 DigitsFollow (reference.Decimal number) c = Unit {0}
 DigitsFollow _ c = ⊥
+
+-- no name is being read, and none begins with the character
+abbrev pub ReadsNoName : Reference → ℕ → Type 0
+ReadsNoName reference.Begun c = is_ascii_alphanumeric c ≡ false
+ReadsNoName (reference.Named found) c = ⊥
+ReadsNoName _ c = Unit {0}

@@ -137,13 +137,16 @@ DoctypeHeld _ t ahead m = (ahead ≡ []) × IsDoctype t.doctype m.doctype
 abbrev pub EndTagHeld : Tokenizer → Machine → Type 0
 EndTagHeld t m = IsDraft t.tag m.tag × Spells t.tag.name m.buffer
 
+-- From the first letter of an attribute to the end of its value, that attribute has a name.
 abbrev pub Held : State → Tokenizer → List ℕ → Machine → Type 0
 Held (state.Comment inner) t ahead m = (ahead ≡ []) × Spells t.comment m.comment
 Held (state.Declaration seen) t ahead m = Spells t.comment ahead × IsSeen seen ahead
 Held (state.Doctype inner) t ahead m = DoctypeHeld inner t ahead m
 Held (state.Tag tag.Name) t ahead m = (ahead ≡ []) × IsDraft t.tag m.tag
 Held (state.Tag tag.SelfClosing) t ahead m = (ahead ≡ []) × IsDraft t.tag m.tag
-Held (state.Attribute inner) t ahead m = (ahead ≡ []) × IsDraft t.tag m.tag
+Held (state.Attribute attr.BeforeName) t ahead m = (ahead ≡ []) × IsDraft t.tag m.tag
+Held (state.Attribute attr.AfterQuoted) t ahead m = (ahead ≡ []) × IsDraft t.tag m.tag
+Held (state.Attribute inner) t ahead m = (ahead ≡ []) × IsDraft t.tag m.tag × (0 < length (string_bytes t.tag.attr_name))
 Held (state.EndTag raw end_tag.Name) t ahead m = (ahead ≡ []) × EndTagHeld t m
 Held (state.EndTag raw end_tag.Open) t ahead m = (ahead ≡ []) × (m.buffer ≡ [])
 Held (state.ScriptData script.DoubleStart) t ahead m = (ahead ≡ []) × Spells t.letters m.buffer
@@ -168,19 +171,19 @@ ReferenceHeld reference.HexStart t ahead m = (ahead ≡ []) × Spells t.written 
 ReferenceHeld (reference.Hex number) t ahead m = (ahead ≡ []) × (number ≡ min m.code 0x110000)
 ReferenceHeld (reference.Decimal number) t ahead m = (ahead ≡ []) × (number ≡ min m.code 0x110000)
 
--- where a reference may stand: in text, and in the value of an attribute, which has a name
-abbrev pub AllowsReference : State → Tokenizer → Type 0
-AllowsReference state.Data t = Unit {0}
-AllowsReference state.Rcdata t = Unit {0}
-AllowsReference (state.Attribute (attr.Quoted quote)) t = 0 < length (string_bytes t.tag.attr_name)
-AllowsReference (state.Attribute attr.Unquoted) t = 0 < length (string_bytes t.tag.attr_name)
-AllowsReference _ t = ⊥
+-- where a reference may stand: in text, and in the value of an attribute
+abbrev pub AllowsReference : State → Type 0
+AllowsReference state.Data = Unit {0}
+AllowsReference state.Rcdata = Unit {0}
+AllowsReference (state.Attribute (attr.Quoted quote)) = Unit {0}
+AllowsReference (state.Attribute attr.Unquoted) = Unit {0}
+AllowsReference _ = ⊥
 
 pub record StandsInReference (t : Tokenizer) (ahead : List ℕ) (m : Machine) : Type 0 where
   pub state : m.state ≡ state_in t.reference t.state
   pub back : m.return_state ≡ state_of t.state
   pub last_start : IsLast t.last_start m.last_start
-  pub place : AllowsReference t.state t
+  pub place : AllowsReference t.state
   pub outside : Held t.state t [] m
   pub inside : ReferenceHeld t.reference t ahead m
 

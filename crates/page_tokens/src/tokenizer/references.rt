@@ -121,6 +121,15 @@ fn unclosed_error(c: char) -> Option<ParseError> {
     }
 }
 
+/// Returns the parse error for the character after letters and digits that are no name, if it is
+/// one.
+fn ambiguous_error(c: char) -> Option<ParseError> {
+    match c {
+        ';' => Some(ParseError::UnknownNamedCharacterReference),
+        _ => None,
+    }
+}
+
 /// Replaces the text by what a name means and the characters after the name.
 fn put_value(text: &mut String, value: Value, behind: &str) -> Result<(), AllocError> {
     text.clear();
@@ -133,9 +142,10 @@ fn put_value(text: &mut String, value: Value, behind: &str) -> Result<(), AllocE
 
 impl Tokenizer {
     ghost use Rattle.page_tokens.specs.NamedReferences.{read_of};
-    ghost use Rattle.page_tokens.specs.Reading.{IsInName, IsNameRead, IsReadBehind};
+    ghost use Rattle.page_tokens.specs.Reading.{IsInName, IsNameRead, IsNoName, IsReadBehind};
     ghost use Rattle.page_tokens.specs.References.{DigitsFollow, EndsReference};
-    ghost use Rattle.page_tokens.specs.References.{FollowsInReference, WritesOn};
+    ghost use Rattle.page_tokens.specs.References.{FollowsInReference, Puts};
+    ghost use Rattle.page_tokens.specs.References.{ReadsNoName, WritesOn};
     ghost use Rattle.page_tokens.specs.declared.tokenizer.named.Match.{Match};
 
     pub(super) fn is_in_reference(&self) -> bool
@@ -163,9 +173,11 @@ impl Tokenizer {
     /// Processes a character in a reference, and returns whether it is part of the reference.
     pub(super) fn reference(&mut self, c: char) -> bool
         ensures begins { self.old.reference ≡ Reference.Begun → is_ascii_alphanumeric c ≡ true →
-            IsNameRead [] None c self.new.reference result }
+            IsNameRead [] None c self.new.reference }
         ensures goes_on { (found : Match) → self.old.reference ≡ Reference.Named found →
-            IsReadBehind found c self.new.reference result }
+            IsReadBehind found c self.new.reference }
+        ensures follows { ReadsNoName self.old.reference c →
+            FollowsInReference self.old self.new c result }
     {
         match self.reference {
             Reference::None => false,
@@ -178,14 +190,16 @@ impl Tokenizer {
     }
 
     fn reference_begins(&mut self, c: char) -> bool
-        ensures { is_ascii_alphanumeric c ≡ true →
-            IsNameRead [] None c self.new.reference result }
+        ensures name { is_ascii_alphanumeric c ≡ true →
+            IsNameRead [] None c self.new.reference }
+        ensures follows { self.old.reference ≡ Reference.Begun → is_ascii_alphanumeric c ≡ false →
+            FollowsInReference self.old self.new c result }
     {
-        if c == '#' {
-            return self.go_on(Reference::Number, c);
-        }
         if c.is_ascii_alphanumeric() {
             return self.named(Match::new(), c);
+        }
+        if c == '#' {
+            return self.go_on(Reference::Number, c);
         }
         self.put_written();
         false
@@ -229,7 +243,7 @@ impl Tokenizer {
     /// Appends the buffer of the reference to the attribute value or the text, and ends the
     /// reference.
     fn put_written(&mut self)
-        ensures only { self.new.written ≡ self.old.written }
+        ensures none { self.new.reference ≡ Reference.None }
         ensures put { self.new.refused ≡ false →
             EndsReference self.old self.new (string_bytes self.old.written) }
     {
@@ -277,7 +291,7 @@ impl Tokenizer {
     }
 
     fn named(&mut self, found: Match, c: char) -> bool
-        ensures { IsReadBehind found c self.new.reference result }
+        ensures { IsReadBehind found c self.new.reference }
     {
         match found.with(c) {
             Some(more) => self.name_goes_on(more, c),
@@ -302,27 +316,43 @@ impl Tokenizer {
     }
 
     fn name_ends(&mut self, found: Match, c: char) -> bool
-        ensures { result ≡ false }
+        ensures { IsNoName self.new.reference }
     {
         self.put_named(found, Some(c));
-        if found.value.is_none() {
-            self.reference = Reference::Ambiguous;
-            return self.ambiguous(c);
+        if found.value.is_some() {
+            return false;
         }
+        self.reference = Reference::Ambiguous;
+        self.ambiguous(c)
+    }
+
+    /// Processes the characters after an ampersand that begin no name; they are text.
+    fn ambiguous(&mut self, c: char) -> bool
+        ensures name { self.old.reference ≡ Reference.Ambiguous → IsNoName self.new.reference }
+        ensures follows { self.old.reference ≡ Reference.Ambiguous →
+            FollowsInReference self.old self.new c result }
+    {
+        if c.is_ascii_alphanumeric() {
+            return self.put_letter(c);
+        }
+        self.report(ambiguous_error(c));
+        self.reference = Reference::None;
         false
     }
 
-    /// Processes the characters after an ampersand that are no name; they are text.
-    fn ambiguous(&mut self, c: char) -> bool
-        ensures { result ≡ false }
+    /// Appends a character to the attribute value or the text.
+    fn put_letter(&mut self, c: char) -> bool
+        ensures is { result ≡ true }
+        ensures same { self.new.reference ≡ self.old.reference }
+        ensures put { self.new.refused ≡ false → Puts self.old self.new (encode_utf8 c) }
     {
-        if !c.is_ascii_alphanumeric() {
-            self.reference = Reference::None;
-            if c == ';' {
-                self.error(ParseError::UnknownNamedCharacterReference);
-            }
-        }
-        false
+        let put = if self.is_in_value() {
+            self.tag.attr_value.push(c)
+        } else {
+            self.text.push(c)
+        };
+        self.keep(put);
+        true
     }
 
     /// Returns whether, in an attribute value, a letter, a digit or `=` follows the longest name. A
@@ -338,7 +368,9 @@ impl Tokenizer {
     }
 
     /// Appends what the longest name means, and the characters after it.
-    fn put_named(&mut self, found: Match, next: Option<char>) {
+    fn put_named(&mut self, found: Match, next: Option<char>)
+        ensures { self.new.reference ≡ Reference.None }
+    {
         if let Some(value) = found.value
             && (found.closed || !self.is_part_of_word(next))
         {
