@@ -1,27 +1,25 @@
 -- The tokenizer reads what follows an ampersand as the standard does: a number begins, or no reference; and letters that are no name.
-use Rattle.std.specs.Prelude.{◌≡◌, ℕ, ◌<◌, Bool, true, false, cond, List, [], ◌∷◌, ◌++◌, ◌⊎◌, map, length, codes, Option, None, Some, string_bytes, refl}
+use Rattle.std.specs.Prelude.{◌≡◌, ℕ, Bool, true, false, cond, List, [], ◌∷◌, ◌++◌, codes, None, string_bytes, refl}
 use Rattle.std.proofs.Common.{inl, inr}
 use Rattle.std.specs.Char.{encode_utf8, is_ascii_alphanumeric}
 use Rattle.std.specs.Str.{encode_utf8_all}
 use Rattle.std.proofs.lemmas.Bool.{ne_eqb}
 use Rattle.std.proofs.lemmas.List.{append-nil}
 use mathlib.Core.Path.{◌∙◌, sym, ap, subst}
-use Rattle.standard_tokens.specs.Entries.{AttrValue, Flush}
+use Rattle.standard_tokens.specs.Entries.{AttrValue}
 use Rattle.standard_tokens.specs.Machine.{Machine, added, at_state, is_value}
 use Rattle.standard_tokens.specs.States as there
-use Rattle.standard_tokens.specs.Tokens.{Token as StandardToken, AChar}
 use Rattle.page_tokens.specs.Changes.{Gains, Remembers}
 use Rattle.page_tokens.specs.Reading.{text_of}
 use Rattle.page_tokens.specs.References.{EndsReference, FollowsInReference, Puts, ReadsReference, WritesOn}
 use Rattle.page_tokens.specs.Standard.{Behind, Goes, Held, Leaves, ReferenceHeld, Stands, StandsInReference}
 use Rattle.page_tokens.specs.StandardStates.{state_in, state_of}
 use Rattle.page_tokens.specs.declared.tokenizer.Tokenizer.{Tokenizer}
-use Rattle.page_tokens.specs.declared.tokenizer.references.Reference.{Reference}
 use Rattle.page_tokens.specs.declared.tokenizer.references.Reference.TheVariants as reference
 use Rattle.page_tokens.specs.declared.tokenizer.state.Place.TheVariants as place
-use Rattle.page_tokens.proofs.AmbiguousSteps.{IsNoLetter, Letter, ambiguous, ambiguous_ends, letter_of, no_letter_of, no_reference, number_begins, text_letter, value_letter, with_ampersand}
+use Rattle.page_tokens.proofs.AmbiguousSteps.{Letter, ambiguous, ambiguous_ends, letter_of, no_letter_of, no_reference, number_begins, text_letter, value_letter, with_ampersand}
 use Rattle.page_tokens.proofs.NumberFollows.{At, at, ended, outside_on, placed, writes_on}
-use Rattle.page_tokens.proofs.ReferenceEnds.{Flushed, InText, InValue, Outside, Place_of, flushed, outside_of, stands_in, value_more}
+use Rattle.page_tokens.proofs.ReferenceEnds.{InText, InValue, Outside, Place_of, flushed, stands_in, value_more}
 use Rattle.page_tokens.proofs.StandardSteps.{in_its_state}
 
 -- ---- letters that are no name

@@ -1,13 +1,12 @@
 -- What letters and digits behind an ampersand do, in the standard.
-use Rattle.std.specs.Prelude.{◌≡◌, ℕ, Bool, true, false, ◌==◌, ◌||◌, ◌&&◌, nat_le, cond, List, [], ◌∷◌, ◌++◌, codes, refl}
+use Rattle.std.specs.Prelude.{◌≡◌, ℕ, Bool, true, false, ◌==◌, ◌&&◌, nat_le, List, [], ◌∷◌, ◌++◌, codes, refl}
 use Rattle.std.proofs.Common.{arith}
 use Rattle.std.specs.Char.{is_ascii_alphanumeric}
-use mathlib.Core.Path.{◌∙◌, sym, ap, subst}
 use Rattle.standard_tokens.specs.Entries.{Add, AttrValue, Buffer, Current, Emit, Flush, SetEmpty, These, Stay, Switch, Reconsume, ReconsumeBack}
 use Rattle.standard_tokens.specs.Machine.{Machine, added, at_state, emitted, is_value, taken}
 use Rattle.standard_tokens.specs.States as there
 use Rattle.standard_tokens.specs.Table.{entries}
-use Rattle.standard_tokens.specs.Tokens.{Token as StandardToken, AChar}
+use Rattle.standard_tokens.specs.Tokens.{AChar}
 use Rattle.page_tokens.specs.Standard.{Goes}
 use Rattle.page_tokens.proofs.ReferenceEnds.{flushing}
 use Rattle.page_tokens.proofs.NumberSteps.{is_digit}

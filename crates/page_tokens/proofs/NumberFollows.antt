@@ -1,26 +1,25 @@
 -- The tokenizer reads numeric character references as the standard does.
-use Rattle.std.specs.Prelude.{◌≡◌, ℕ, ◌+◌, ◌-◌, ◌*◌, ◌<◌, min, Bool, true, false, ◌==◌, cond, List, [], ◌∷◌, ◌++◌, ◌⊎◌, map, Option, None, Some, String, string_bytes, encode_utf8, refl}
+use Rattle.std.specs.Prelude.{◌≡◌, ℕ, ◌+◌, ◌-◌, ◌*◌, ◌<◌, min, Bool, true, false, ◌==◌, List, [], ◌∷◌, ◌++◌, ◌⊎◌, map, None, Some, string_bytes, encode_utf8, refl}
 use Rattle.std.proofs.Common.{inl, inr, arith}
 use Rattle.std.specs.Char.{IsDigitOf, digit_value}
 use Rattle.std.specs.Str.{encode_utf8_all}
 use Rattle.std.proofs.lemmas.List.{append-nil, append_assoc}
 use Rattle.std.proofs.lemmas.Str.{encodes-append}
 use mathlib.Core.Path.{◌∙◌, sym, ap, subst}
-use Rattle.standard_tokens.specs.Entries.{Flush}
-use Rattle.standard_tokens.specs.Machine.{Machine, at_state, emitted}
+use Rattle.standard_tokens.specs.Machine.{Machine, at_state}
 use Rattle.standard_tokens.specs.States as there
 use Rattle.standard_tokens.specs.States.{State as StandardState}
 use Rattle.standard_tokens.specs.Tokens.{Token as StandardToken, AChar}
 use Rattle.page_tokens.specs.Numbers.{character_of}
 use Rattle.page_tokens.specs.Reading.{text_of}
 use Rattle.page_tokens.specs.References.{DigitsFollow, EndsReference, FollowsInReference, ReadsOrEnds, ReadsReference, WritesOn, base_of, number_of, with_digit_of}
-use Rattle.page_tokens.specs.Standard.{Goes, Leaves, ReferenceHeld, Spells, StandsInReference}
-use Rattle.page_tokens.specs.StandardStates.{state_in, state_of}
+use Rattle.page_tokens.specs.Standard.{Goes, ReferenceHeld, StandsInReference}
+use Rattle.page_tokens.specs.StandardStates.{state_in}
 use Rattle.page_tokens.specs.declared.tokenizer.Tokenizer.{Tokenizer}
 use Rattle.page_tokens.specs.declared.tokenizer.references.Reference.{Reference}
 use Rattle.page_tokens.specs.declared.tokenizer.references.Reference.TheVariants as reference
-use Rattle.page_tokens.proofs.NumberSteps.{EndsNumber, HexDigit, IsNoHex, behind_number, coded, decimal_begins, decimal_digit, decimal_ends, decimal_step, hex_begins, hex_digit, hex_ends, hex_starts, hex_step, is_digit, more_of, no_decimal, no_digit, no_hex, no_hexadecimal, numbered, same_character}
-use Rattle.page_tokens.proofs.ReferenceEnds.{Flushed, Outside, ends_leaves, flushed, flushing, outside_of, stands_in}
+use Rattle.page_tokens.proofs.NumberSteps.{behind_number, coded, decimal_begins, decimal_digit, decimal_ends, decimal_step, hex_begins, hex_digit, hex_ends, hex_starts, hex_step, is_digit, more_of, no_decimal, no_digit, no_hex, no_hexadecimal, numbered, same_character}
+use Rattle.page_tokens.proofs.ReferenceEnds.{Flushed, Outside, ends_leaves, flushed, outside_of, stands_in}
 use Rattle.page_tokens.proofs.StandardSteps.{in_its_state}
 
 -- ---- the reference goes on

@@ -1,17 +1,16 @@
 -- What a character in a numeric reference does, in the standard.
-use Rattle.std.specs.Prelude.{◌≡◌, ℕ, ◌+◌, ◌-◌, ◌*◌, ◌<◌, ◌≤◌, min, Bool, true, false, ◌==◌, ◌||◌, ◌&&◌, nat_le, nat_lt, cond, List, [], ◌∷◌, ◌++◌, ◌⊎◌, take, codes, Option, None, Some, refl}
+use Rattle.std.specs.Prelude.{◌≡◌, ℕ, ◌+◌, ◌-◌, ◌*◌, ◌<◌, ◌≤◌, min, Bool, true, false, ◌==◌, ◌&&◌, nat_le, cond, List, [], ◌∷◌, ◌++◌, ◌⊎◌, take, refl}
 use Rattle.std.proofs.Common.{inl, inr, arith}
 use Rattle.std.specs.Char.{IsDigitOf, digit_value}
 use Rattle.std.proofs.lemmas.Bool.{ne_eqb}
-use mathlib.Core.Path.{◌∙◌, sym, ap, subst}
+use mathlib.Core.Path.{sym, subst}
 use Rattle.standard_tokens.specs.Entries.{Add, Buffer, Current, CodeZero, CodeDigit, BufferNumber, Flush, Stay, Switch, Reconsume, ReconsumeBack}
 use Rattle.standard_tokens.specs.Machine.{Machine, at_state, emitted, taken}
 use Rattle.standard_tokens.specs.Numbers.{character_of}
 use Rattle.standard_tokens.specs.States as there
 use Rattle.standard_tokens.specs.States.{State as StandardState}
 use Rattle.standard_tokens.specs.Table.{entries}
-use Rattle.standard_tokens.specs.Tokens.{Token as StandardToken}
-use Rattle.page_tokens.specs.Standard.{Goes, stays}
+use Rattle.page_tokens.specs.Standard.{Goes}
 use Rattle.page_tokens.proofs.ReferenceEnds.{flushing}
 use Rattle.page_tokens.proofs.StandardSteps.{by_bool, by_entry, taking, then_on}
 

@@ -1,26 +1,22 @@
 -- Where a character reference stands, and what its end does: its characters go to the value of an attribute or to the text.
-use Rattle.std.specs.Prelude.{◌≡◌, ℕ, ◌<◌, Bool, true, false, cond, List, [], ◌∷◌, ◌++◌, ◌⊎◌, map, length, Option, None, Some, string_bytes, refl}
+use Rattle.std.specs.Prelude.{◌≡◌, ℕ, ◌<◌, Bool, true, false, cond, List, [], ◌∷◌, ◌++◌, ◌⊎◌, map, length, string_bytes, refl}
 use Rattle.std.proofs.Common.{inl, inr, arith}
-use Rattle.std.specs.Char.{to_ascii_lowercase}
 use Rattle.std.specs.Str.{encode_utf8_all}
 use Rattle.std.proofs.lemmas.List.{append-nil}
 use Rattle.std.proofs.lemmas.Str.{encodes-append}
 use mathlib.Core.Path.{◌∙◌, sym, ap, subst}
 use Rattle.standard_tokens.specs.Entries.{Flush, AttrValue}
-use Rattle.standard_tokens.specs.Machine.{Machine, Tag as StandardTag, added, at_state, distinct, done, emitted, is_value, with_value}
+use Rattle.standard_tokens.specs.Machine.{Machine, Tag as StandardTag, added, at_state, done, emitted, is_value, with_value}
 use Rattle.standard_tokens.specs.Tokens.{Attr, Token as StandardToken, AChar}
 use Rattle.page_tokens.specs.Changes.{Gains}
 use Rattle.page_tokens.specs.Reading.{text_of}
 use Rattle.page_tokens.specs.References.{EndsReference}
-use Rattle.page_tokens.specs.Standard.{AllowsReference, Behind, Goes, Held, HoldsAttrs, IsDraft, IsLast, Leaves, ReferenceHeld, Stands, StandsInReference}
+use Rattle.page_tokens.specs.Standard.{AllowsReference, Held, HoldsAttrs, IsDraft, IsLast, Leaves, ReferenceHeld, Stands, StandsInReference}
 use Rattle.page_tokens.specs.StandardStates.{state_in, state_of}
-use Rattle.page_tokens.specs.declared.attribute.TagAttr.{TagAttr}
 use Rattle.page_tokens.specs.declared.tokenizer.Tokenizer.{Tokenizer}
 use Rattle.page_tokens.specs.declared.tokenizer.draft.TagDraft.{TagDraft}
-use Rattle.page_tokens.specs.declared.tokenizer.references.Reference.{Reference}
 use Rattle.page_tokens.specs.declared.tokenizer.references.Reference.TheVariants as reference
 use Rattle.page_tokens.specs.declared.tokenizer.state.AttrState.TheVariants as attr
-use Rattle.page_tokens.specs.declared.tokenizer.state.Place.{Place}
 use Rattle.page_tokens.specs.declared.tokenizer.state.Place.TheVariants as place
 use Rattle.page_tokens.specs.declared.tokenizer.state.Quote.TheVariants as quote
 use Rattle.page_tokens.specs.declared.tokenizer.state.State.{State}
