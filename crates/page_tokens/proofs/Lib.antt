@@ -1,3 +1,5 @@
+mod AmbiguousFollows
+mod AmbiguousSteps
 mod AttrFollows
 mod AttrNames
 mod AttrValues
@@ -11,8 +13,11 @@ mod DeclarationSteps
 mod EndTagSteps
 mod Lowered
 mod NameLemmas
+mod NumberFollows
+mod NumberSteps
 mod RawEndTags
 mod RawTexts
+mod ReferenceEnds
 mod RepeatedAttributes
 mod RunSteps
 mod ScriptFollows

@@ -9,6 +9,7 @@ pub mod NamedReferences
 pub mod Numbers
 pub mod RawEndTags
 pub mod Reading
+pub mod References
 pub mod Runs
 pub mod ScriptStates
 pub mod Standard

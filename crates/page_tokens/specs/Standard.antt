@@ -171,10 +171,19 @@ ReferenceHeld reference.HexStart t ahead m = (ahead ≡ []) × Spells t.written 
 ReferenceHeld (reference.Hex number) t ahead m = (ahead ≡ []) × (number ≡ min m.code 0x110000)
 ReferenceHeld (reference.Decimal number) t ahead m = (ahead ≡ []) × (number ≡ min m.code 0x110000)
 
+-- where a reference may stand: in text, and in the value of an attribute
+abbrev pub AllowsReference : State → Type 0
+AllowsReference state.Data = Unit {0}
+AllowsReference state.Rcdata = Unit {0}
+AllowsReference (state.Attribute (attr.Quoted quote)) = Unit {0}
+AllowsReference (state.Attribute attr.Unquoted) = Unit {0}
+AllowsReference _ = ⊥
+
 pub record StandsInReference (t : Tokenizer) (ahead : List ℕ) (m : Machine) : Type 0 where
   pub state : m.state ≡ state_in t.reference t.state
   pub back : m.return_state ≡ state_of t.state
   pub last_start : IsLast t.last_start m.last_start
+  pub place : AllowsReference t.state
   pub outside : Held t.state t [] m
   pub inside : ReferenceHeld t.reference t ahead m
 
