@@ -10,6 +10,8 @@ mod CommentFollows
 mod CommentSteps
 mod DeclarationFollows
 mod DeclarationSteps
+mod DoctypeFollows
+mod DoctypeSteps
 mod EndTagSteps
 mod Lowered
 mod NameLemmas

@@ -67,9 +67,9 @@ abbrev pub broken : Bool → Doctype → Doctype
 broken true one = record one { force_quirks = true }
 broken false one = one
 
--- a character is appended to a text, if there is one
+-- a character is appended to a text; where there is none, it becomes one
 abbrev pub AddsTo : {A : Type 0} → Option (String A) → Option (String A) → ℕ → Type 0
-AddsTo None new c = new ≡ None
+AddsTo None new c = IsSomeAnd new (λ text. string_bytes text ≡ encode_utf8 c)
 AddsTo (Some old) new c = IsSomeAnd new (λ text. string_bytes text ≡ string_bytes old ++ encode_utf8 c)
 
 -- only a name begins, with this letter

@@ -1,6 +1,6 @@
 //! The doctype states (13.2.5.53 to 13.2.5.68).
 
-ghost use Rattle.std.specs.Prelude.{◌≡◌, IfOk, OnOk, None, Some};
+ghost use Rattle.std.specs.Prelude.{◌≡◌, ◌∷◌, [], IfOk, OnOk, None, Some};
 ghost use Rattle.page_tokens.specs.DoctypeSteps.{AddsTo, after_name_of, before_id_of, broken};
 ghost use Rattle.page_tokens.specs.DoctypeSteps.{doctype_step_of, ends_or_of, keyword_step_of};
 ghost use Rattle.page_tokens.specs.DoctypeSteps.{quoted_step_of, spaced_of};
@@ -11,7 +11,7 @@ use super::state::{DoctypeState, Id, Quote};
 use super::{Progress, State, Tokenizer, append, is_space, push};
 use crate::parse_error::ParseError;
 use crate::token::TokenKind;
-use std::alloc::AllocError;
+use std::alloc::{AllocError, Global};
 use std::mem;
 
 /// What a character in a doctype does.
@@ -232,22 +232,31 @@ fn keyword(id: Id) -> &'static [u8]
     }
 }
 
-/// Appends a character to a text, if there is one.
-fn push_to(text: &mut Option<String>, c: char) -> Progress
+/// Appends a character to a text. Where there is none, the character becomes one.
+fn push_to(alloc: Global, text: &mut Option<String>, c: char) -> Progress
     ensures told { IfOk result (λ told. told ≡ None) }
     ensures adds { OnOk result (AddsTo text.old text.new c) }
 {
     match text {
         Some(text) => push(text, c),
-        None => Ok(None),
+        None => {
+            let mut made = String::new(alloc);
+            made.push(c)?;
+            *text = Some(made);
+            Ok(None)
+        }
     }
 }
 
 impl Tokenizer {
     ghost use Rattle.page_tokens.specs.Changes.{Remembers};
     ghost use Rattle.page_tokens.specs.DoctypeSteps.{AddsToId, AddsToName, BeginsId, BeginsName};
+    ghost use Rattle.page_tokens.specs.Standard.{Follows};
 
-    pub(super) fn in_doctype(&mut self, state: DoctypeState, c: char) -> Progress {
+    pub(super) fn in_doctype(&mut self, state: DoctypeState, c: char) -> Progress
+        ensures { self.old.state ≡ State.Doctype state →
+            Follows self.old self.new (c ∷ []) result }
+    {
         self.report(doctype_error(state, c));
         match doctype_step(state, c) {
             DoctypeStep::Then(next) => self.then(State::Doctype(next)),
@@ -282,7 +291,7 @@ impl Tokenizer {
         ensures memory { Remembers self.old self.new }
     {
         let shown = self.shown(c.to_ascii_lowercase());
-        push_to(&mut self.doctype.name, shown)
+        push_to(self.alloc, &mut self.doctype.name, shown)
     }
 
     /// Starts an identifier at its quote.
@@ -310,8 +319,8 @@ impl Tokenizer {
     {
         let shown = self.shown(c);
         match id {
-            Id::Public => push_to(&mut self.doctype.public_id, shown),
-            Id::System => push_to(&mut self.doctype.system_id, shown),
+            Id::Public => push_to(self.alloc, &mut self.doctype.public_id, shown),
+            Id::System => push_to(self.alloc, &mut self.doctype.system_id, shown),
         }
     }
 
