@@ -74,8 +74,13 @@ AddsTo (Some old) new c = IsSomeAnd new (λ text. string_bytes text ≡ string_b
 
 -- only a name begins, with this letter
 pub record BeginsName (old new : Tokenizer) (c : ℕ) : Type 0 where
-  pub only : new ≡ record old
-      { state = state.Doctype doctype.Name; doctype = record old.doctype { name = new.doctype.name }; errors = new.errors; refused = new.refused }
+  pub only : new ≡ record old {
+    state = state.Doctype doctype.Name;
+    doctype = record old.doctype { name = new.doctype.name };
+    errors = new.errors;
+    refused =
+        new.refused;
+  }
   pub name : IsSomeAnd new.doctype.name (λ text. string_bytes text ≡ encode_utf8 (shown_of (to_ascii_lowercase c)))
 
 -- only the name has one letter more
@@ -86,10 +91,12 @@ pub record AddsToName (old new : Tokenizer) (c : ℕ) : Type 0 where
 -- only an identifier begins, which is empty
 abbrev pub BeginsId : Id → Quote → Tokenizer → Tokenizer → Type 0
 BeginsId id.Public mark old new =
-    (new ≡ record old { state = state.Doctype (doctype.Quoted id.Public mark); doctype = record old.doctype { public_id = new.doctype.public_id } })
+    (new ≡ record old
+    { state = state.Doctype (doctype.Quoted id.Public mark); doctype = record old.doctype { public_id = new.doctype.public_id } })
     × IsSomeAnd new.doctype.public_id (λ text. string_bytes text ≡ [])
 BeginsId id.System mark old new =
-    (new ≡ record old { state = state.Doctype (doctype.Quoted id.System mark); doctype = record old.doctype { system_id = new.doctype.system_id } })
+    (new ≡ record old
+    { state = state.Doctype (doctype.Quoted id.System mark); doctype = record old.doctype { system_id = new.doctype.system_id } })
     × IsSomeAnd new.doctype.system_id (λ text. string_bytes text ≡ [])
 
 -- only an identifier has one character more

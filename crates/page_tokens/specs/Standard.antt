@@ -1,5 +1,6 @@
 -- What the tokenizer holds, and what the machine of the HTML Standard's tokenizer (standard_tokens) holds when it has read the same text.
-use Rattle.std.specs.Prelude.{◌≡◌, ℕ, ◌<◌, min, Bool, true, false, List, [], ◌∷◌, ◌++◌, ◌⊎◌, map, length, take, reverse, codes, Option, None, Some, Result, IfOk, String, string_bytes}
+use Rattle.std.specs.Prelude.{◌≡◌, ℕ, ◌<◌, min, Bool, true, false, List, [], ◌∷◌, ◌++◌, ◌⊎◌, map, length, take, reverse, codes, Option}
+use Rattle.std.specs.Prelude.{None, Some, Result, IfOk, String, string_bytes}
 use Rattle.std.specs.Char.{to_ascii_lowercase}
 use Rattle.std.specs.Option.{IsSomeAnd}
 use Rattle.std.specs.Str.{encode_utf8_all}
@@ -88,7 +89,8 @@ abbrev pub HoldsAttrs : List TagAttr → List ℕ → List ℕ → List Attr →
 HoldsAttrs kept [] value attrs = (value ≡ []) × AreAttrs kept (distinct (reverse attrs))
 HoldsAttrs kept (b ∷ name) value [] = ⊥
 HoldsAttrs kept (b ∷ name) value (attr ∷ attrs) =
-    (map to_ascii_lowercase (b ∷ name) ≡ encode_utf8_all attr.name) × (value ≡ encode_utf8_all attr.value) × AreAttrs kept (distinct (reverse attrs))
+    (map to_ascii_lowercase (b ∷ name) ≡ encode_utf8_all attr.name) × (value ≡ encode_utf8_all attr.value)
+    × AreAttrs kept (distinct (reverse attrs))
 
 pub record IsDraft (draft : TagDraft) (other : StandardTag) : Type 0 where
   pub kind : kind_of draft.kind ≡ other.kind
@@ -164,7 +166,8 @@ pub record Stands (t : Tokenizer) (ahead : List ℕ) (m : Machine) : Type 0 wher
 abbrev pub ReferenceHeld : Reference → Tokenizer → List ℕ → Machine → Type 0
 ReferenceHeld reference.None t ahead m = ⊥
 ReferenceHeld reference.Begun t ahead m = (ahead ≡ []) × (string_bytes t.written ≡ codes "&")
-ReferenceHeld (reference.Named found) t ahead m = (ahead ≡ read_of found.names) × (m.buffer ≡ codes "&") × Spells t.written (m.buffer ++ ahead)
+ReferenceHeld (reference.Named found) t ahead m = (ahead ≡ read_of found.names) × (m.buffer ≡ codes "&")
+    × Spells t.written (m.buffer ++ ahead)
 ReferenceHeld reference.Ambiguous t ahead m = ahead ≡ []
 ReferenceHeld reference.Number t ahead m = (ahead ≡ []) × Spells t.written m.buffer
 ReferenceHeld reference.HexStart t ahead m = (ahead ≡ []) × Spells t.written m.buffer × (m.code ≡ 0)
@@ -261,4 +264,5 @@ pub record EmitsTag (old new : Tokenizer) (told : Option TokenKind) : Type 0 whe
   pub same_reference : new.reference ≡ old.reference
   pub text : text_of new ≡ text_of old
   pub last_tag : (other : StandardTag) → IsDraft old.tag other → IsSomeAnd new.ended (IsTag other)
-  pub last_start : (other : StandardTag) → IsDraft old.tag other → (was : Option (List ℕ)) → IsLast old.last_start was → IsLast new.last_start (last_start_of other was)
+  pub last_start : (other : StandardTag) → IsDraft old.tag other → (was : Option (List ℕ)) → IsLast old.last_start was →
+      IsLast new.last_start (last_start_of other was)

@@ -39,8 +39,13 @@ pub record BeginsAttr (old new : Tokenizer) (name : List ℕ) : Type 0 where
   pub finished : TagDraft
   pub none : string_bytes old.tag.attr_name ≡ [] → finished ≡ old.tag
   pub some : 0 < length (string_bytes old.tag.attr_name) → FinishesAttr old.tag finished
-  pub only : new ≡ record old
-      { state = state.Attribute attr.Name; tag = record finished { attr_name = new.tag.attr_name }; errors = new.errors; refused = new.refused }
+  pub only : new ≡ record old {
+    state = state.Attribute attr.Name;
+    tag = record finished { attr_name = new.tag.attr_name };
+    errors = new.errors;
+    refused =
+        new.refused;
+  }
   pub name_is : string_bytes new.tag.attr_name ≡ name
 
 -- the character is read as the first one of a bogus comment
