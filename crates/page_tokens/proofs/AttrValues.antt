@@ -9,7 +9,7 @@ use Rattle.standard_tokens.specs.Table.{entries}
 use Rattle.page_tokens.specs.Changes.{Gains, Remembers}
 use Rattle.page_tokens.specs.Comments.{shown_of}
 use Rattle.page_tokens.specs.Runs.{is_space_of}
-use Rattle.page_tokens.specs.Standard.{EmitsTag, Follows, FollowsStandard, Held, IsDraft, Keeps}
+use Rattle.page_tokens.specs.Standard.{AllowsReference, EmitsTag, Follows, FollowsStandard, Held, IsDraft, Keeps}
 use Rattle.page_tokens.specs.StandardStates.{attr_state_of}
 use Rattle.page_tokens.specs.TagStates.{quote_of}
 use Rattle.page_tokens.specs.TextStates.{BeginsReference}
@@ -77,15 +77,15 @@ value_begins old new c r is no_space no_double no_single no_greater follows =
 
 -- ---- in a value
 
-reference_arm : {E : Type 0} (old new : Tokenizer) (inner : AttrState) (c : ℕ) (r : Result (Option TokenKind) E) → old.state ≡ state.Attribute inner → c ≡ 38 → OnOk r (BeginsReference old new) → IfOk r (λ told. told ≡ None) →
+reference_arm : {E : Type 0} (old new : Tokenizer) (inner : AttrState) (c : ℕ) (r : Result (Option TokenKind) E) → old.state ≡ state.Attribute inner → c ≡ 38 → AllowsReference (state.Attribute inner) → OnOk r (BeginsReference old new) → IfOk r (λ told. told ≡ None) →
     Entry (attr_state_of inner) 38 (ReturnTo (attr_state_of inner) ∷ []) (Switch there.CharacterReference) → ReadsNothingAhead (state.Attribute inner) → HoldsDraft (state.Attribute inner) → InValue inner → Follows old new (c ∷ []) r
-reference_arm old new inner c (Ok told) is at begins told_is entry nothing drafted in_value = λ none.
+reference_arm old new inner c (Ok told) is at allows begins told_is entry nothing drafted in_value = λ none.
     let same : new.tag ≡ old.tag = ap (λ t. t.tag) begins.only in
-    subst (λ d. FollowsStandard old new (d ∷ []) told) (sym at) (begins_reference old new (state.Attribute inner) told is begins told_is none entry nothing (λ m ahead held.
+    subst (λ d. FollowsStandard old new (d ∷ []) told) (sym at) (begins_reference old new (state.Attribute inner) told is allows begins told_is none entry nothing (λ m ahead held.
     let n : Machine = record m { state = there.CharacterReference; return_state = attr_state_of inner } in
     let some : 0 < length (string_bytes old.tag.attr_name) = (in_value old m).0 (subst (λ a. Held (state.Attribute inner) old a m) (nothing old ahead m held) held) in
     (in_value new n).1 (subst (λ (d : TagDraft). IsDraft d m.tag) (sym same) (drafted old ahead m held)) (subst (λ (d : TagDraft). 0 < length (string_bytes d.attr_name)) (sym same) some)))
-reference_arm old new inner c (Err e) is at begins told_is entry nothing drafted in_value = tt
+reference_arm old new inner c (Err e) is at allows begins told_is entry nothing drafted in_value = tt
 
 letter_arm : {E : Type 0} (old mid new : Tokenizer) (inner : AttrState) (c : ℕ) (r : Result (Option TokenKind) E) → old.state ≡ state.Attribute inner → OnlyErrors old mid → Remembers old mid →
     OnOk r (Gains place.AttrValue mid new (encode_utf8 (shown_of c))) → Remembers mid new → IfOk r (λ told. told ≡ None) → Entry (attr_state_of inner) 0 (Add AttrValue replacement ∷ []) Stay →
@@ -110,9 +110,9 @@ pub reference_in_value : {E : Type 0} (old new : Tokenizer) (which : Quote) (c :
     IfOk r (λ told. told ≡ None) → Follows old new (c ∷ []) r
 unfolding taken entries
 reference_in_value old new quote.Double c r is at begins told_is =
-    reference_arm old new (attr.Quoted quote.Double) c r is at begins told_is (λ b m rest. refl) (λ t ahead m held. held.0) (λ t ahead m held. held.1) (λ t m. ((λ held. held.2), (λ draft some. (refl, draft, some))))
+    reference_arm old new (attr.Quoted quote.Double) c r is at tt begins told_is (λ b m rest. refl) (λ t ahead m held. held.0) (λ t ahead m held. held.1) (λ t m. ((λ held. held.2), (λ draft some. (refl, draft, some))))
 reference_in_value old new quote.Single c r is at begins told_is =
-    reference_arm old new (attr.Quoted quote.Single) c r is at begins told_is (λ b m rest. refl) (λ t ahead m held. held.0) (λ t ahead m held. held.1) (λ t m. ((λ held. held.2), (λ draft some. (refl, draft, some))))
+    reference_arm old new (attr.Quoted quote.Single) c r is at tt begins told_is (λ b m rest. refl) (λ t ahead m held. held.0) (λ t ahead m held. held.1) (λ t m. ((λ held. held.2), (λ draft some. (refl, draft, some))))
 
 pub letter_in_value : {E : Type 0} (old new : Tokenizer) (which : Quote) (c : ℕ) (r : Result (Option TokenKind) E) → old.state ≡ state.Attribute (attr.Quoted which) → (c ≡ quote_of which → ⊥) → (c ≡ 38 → ⊥) →
     OnOk r (Gains place.AttrValue old new (encode_utf8 (shown_of c))) → Remembers old new → IfOk r (λ told. told ≡ None) → Follows old new (c ∷ []) r
@@ -142,7 +142,7 @@ pub reference_unquoted : {E : Type 0} (old new : Tokenizer) (c : ℕ) (r : Resul
     Follows old new (c ∷ []) r
 unfolding taken entries
 reference_unquoted old new c r is at begins told_is =
-    reference_arm old new attr.Unquoted c r is at begins told_is (λ b m rest. refl) (λ t ahead m held. held.0) (λ t ahead m held. held.1) (λ t m. ((λ held. held.2), (λ draft some. (refl, draft, some))))
+    reference_arm old new attr.Unquoted c r is at tt begins told_is (λ b m rest. refl) (λ t ahead m held. held.0) (λ t ahead m held. held.1) (λ t m. ((λ held. held.2), (λ draft some. (refl, draft, some))))
 
 pub greater_unquoted : {E : Type 0} (old new : Tokenizer) (c : ℕ) (r : Result (Option TokenKind) E) → old.state ≡ state.Attribute attr.Unquoted → c ≡ 62 → OnOk r (new.refused ≡ false → Keeps old new) →
     (0 < length (string_bytes old.tag.name) → IfOk r (λ told. new.refused ≡ false → EmitsTag old new told)) → Follows old new (c ∷ []) r

@@ -37,7 +37,7 @@ pub data_reference_arm : {E : Type 0} (old new : Tokenizer) (c : ℕ) (r : Resul
     Follows old new (c ∷ []) r
 unfolding taken entries
 data_reference_arm old new c (Ok told) is at begins told_is = λ none. subst (λ d. FollowsStandard old new (d ∷ []) told) (sym at)
-    (begins_reference old new state.Data told is begins told_is none (λ b m rest. refl) (λ t ahead m held. held) (λ m ahead held. refl))
+    (begins_reference old new state.Data told is tt begins told_is none (λ b m rest. refl) (λ t ahead m held. held) (λ m ahead held. refl))
 data_reference_arm old new c (Err e) is at begins told_is = tt
 
 pub tag_opens_arm : {E : Type 0} (old new : Tokenizer) (c : ℕ) (r : Result (Option TokenKind) E) → old.state ≡ state.Data → c ≡ 60 → new ≡ record old { state = state.Tag tag.Open } →
@@ -60,7 +60,7 @@ pub rcdata_reference_arm : {E : Type 0} (old new : Tokenizer) (c : ℕ) (r : Res
     Follows old new (c ∷ []) r
 unfolding taken entries
 rcdata_reference_arm old new c (Ok told) is at begins told_is = λ none. subst (λ d. FollowsStandard old new (d ∷ []) told) (sym at)
-    (begins_reference old new state.Rcdata told is begins told_is none (λ b m rest. refl) (λ t ahead m held. held) (λ m ahead held. refl))
+    (begins_reference old new state.Rcdata told is tt begins told_is none (λ b m rest. refl) (λ t ahead m held. held) (λ m ahead held. refl))
 rcdata_reference_arm old new c (Err e) is at begins told_is = tt
 
 end_tag_begins : (old new : Tokenizer) (which : Raw) (told : Option TokenKind) → old.state ≡ raw_state_of which → IsReadRaw which 60 → new ≡ record old { state = state.EndTag which end_tag.LessThan } → told ≡ None →

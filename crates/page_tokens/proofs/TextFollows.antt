@@ -14,7 +14,7 @@ use Rattle.standard_tokens.specs.Tokens.{Token as StandardToken, AChar}
 use Rattle.page_tokens.specs.Changes.{Gains, Remembers}
 use Rattle.page_tokens.specs.Comments.{shown_of}
 use Rattle.page_tokens.specs.Reading.{text_of}
-use Rattle.page_tokens.specs.Standard.{Behind, FollowsStandard, Goes, Held, IsLast, Leaves, ReferenceHeld, Stands}
+use Rattle.page_tokens.specs.Standard.{AllowsReference, Behind, FollowsStandard, Goes, Held, IsLast, Leaves, ReferenceHeld, Stands}
 use Rattle.page_tokens.specs.StandardStates.{state_in, state_of}
 use Rattle.page_tokens.specs.TextStates.{BeginsReference, TextGoesOn}
 use Rattle.page_tokens.specs.declared.token.TokenKind.{TokenKind}
@@ -144,10 +144,10 @@ goes_on_before old mid new from to c shown bytes told is goes_if bytes_are back 
 
 -- ---- a character reference begins
 
-pub begins_reference : (old new : Tokenizer) (from : State) (told : Option TokenKind) → old.state ≡ from → BeginsReference old new → told ≡ None → new.refused ≡ false →
+pub begins_reference : (old new : Tokenizer) (from : State) (told : Option TokenKind) → old.state ≡ from → AllowsReference from → BeginsReference old new → told ≡ None → new.refused ≡ false →
     ((b : Bool) (m : Machine) (rest : List ℕ) → taken b (at_state m (state_of from)) (38 ∷ rest) (entries (state_of from)) ≡ taking (ReturnTo (state_of from) ∷ []) (Switch there.CharacterReference) (38 ∷ [])) →
     ReadsNothingAhead from → ((m : Machine) (ahead : List ℕ) → Held from old ahead m → Held from new [] (record m { state = there.CharacterReference; return_state = state_of from })) → FollowsStandard old new (38 ∷ []) told
-begins_reference old new from told is begins told_is none entry nothing also = subst (λ k. FollowsStandard old new (38 ∷ []) k) (sym told_is) (record {
+begins_reference old new from told is allows begins told_is none entry nothing also = subst (λ k. FollowsStandard old new (38 ∷ []) k) (sym told_is) (record {
   memory = sym (ap (λ t. t.refused) begins.only) ∙ none;
   leaves = record { in_foreign = ap (λ t. t.in_foreign) begins.only; after_return = ap (λ t. t.after_return) begins.only };
   reads = λ m ahead rest stands.
@@ -169,6 +169,7 @@ begins_reference old new from told is begins told_is none entry nothing also = s
           state = ap (λ r. state_in r new.state) (sym new_reference);
           back = ap state_of (sym same_state);
           last_start = subst (λ t. IsLast t.last_start m.last_start) (sym begins.only) stands.last_start;
+          place = subst AllowsReference (sym same_state) allows;
           outside = subst (λ s. Held s new [] n) (sym same_state) (also m ahead held);
           inside = subst (λ r. ReferenceHeld r new [] n) (sym new_reference) (refl, begins.written);
         });

@@ -1,7 +1,7 @@
 //! The character reference states (13.2.5.72 to 13.2.5.80).
 
-ghost use Rattle.std.specs.Prelude.{◌≡◌, ◌≤◌, ◌+◌, ◌*◌, ◌==◌, [], IfOk, OnOk, true, false, min, None};
-ghost use Rattle.std.specs.Prelude.{encode_utf8, string_bytes};
+ghost use Rattle.std.specs.Prelude.{◌≡◌, ◌≤◌, ◌+◌, ◌*◌, ◌==◌, [], IfOk, OnOk, true, false, min};
+ghost use Rattle.std.specs.Prelude.{None, encode_utf8, string_bytes};
 ghost use Rattle.std.specs.Char.{is_ascii_alphanumeric};
 ghost use Rattle.standard_tokens.specs.Machine.{is_value};
 ghost use Rattle.page_tokens.specs.Numbers.{character_of};
