@@ -26,7 +26,8 @@ escaped_step_of dash c = cond (c == 45) (its.Text (state.ScriptData dash)) (cond
 
 -- the same where it is escaped twice
 abbrev pub doubled_step_of : DoubleState → ℕ → ScriptStep
-doubled_step_of dash c = cond (c == 45) (its.Text (doubled dash)) (cond (c == 60) (its.Text (doubled double.LessThan)) (its.Text (doubled double.Escaped)))
+doubled_step_of dash c =
+    cond (c == 45) (its.Text (doubled dash)) (cond (c == 60) (its.Text (doubled double.LessThan)) (its.Text (doubled double.Escaped)))
 
 -- the name of what may be a tag ends
 abbrev pub ends_name : ℕ → Bool
