@@ -158,8 +158,10 @@ before_name : (b : Bool) (m : Machine) (rest : List ℕ) (c : ℕ) → Comes b d
 unfolding taken entries
 before_name b m rest c =
     let P : ℕ → DoctypeStep → Type 0 = λ d k. Comes b doctype.BeforeName m [] rest d k in
-    spaced P doctype.BeforeName c (ends_or_of true c its.NameBegins) (by_entry (at doctype.BeforeName m) (9 ∷ rest) (taking ([]) (Stay) (9 ∷ [])) refl refl, (λ t ahead m held. (refl, held.1)))
-    (by_entry (at doctype.BeforeName m) (10 ∷ rest) (taking ([]) (Stay) (10 ∷ [])) refl refl, (λ t ahead m held. (refl, held.1))) (by_entry (at doctype.BeforeName m) (12 ∷ rest) (taking ([]) (Stay) (12 ∷ [])) refl refl, (λ t ahead m held. (refl, held.1)))
+    spaced P doctype.BeforeName c (ends_or_of true c its.NameBegins)
+    (by_entry (at doctype.BeforeName m) (9 ∷ rest) (taking ([]) (Stay) (9 ∷ [])) refl refl, (λ t ahead m held. (refl, held.1)))
+    (by_entry (at doctype.BeforeName m) (10 ∷ rest) (taking ([]) (Stay) (10 ∷ [])) refl refl, (λ t ahead m held. (refl, held.1)))
+    (by_entry (at doctype.BeforeName m) (12 ∷ rest) (taking ([]) (Stay) (12 ∷ [])) refl refl, (λ t ahead m held. (refl, held.1)))
     (by_entry (at doctype.BeforeName m) (32 ∷ rest) (taking ([]) (Stay) (32 ∷ [])) refl refl, (λ t ahead m held. (refl, held.1)))
     (λ s. by_test P c 62 (its.Ends true) its.NameBegins
     (by_entry (at doctype.BeforeName m) (62 ∷ rest) (taking (NewDoctype ∷ ForceQuirks ∷ EmitDoctype ∷ []) (Switch there.Data) (62 ∷ [])) refl refl)
@@ -169,7 +171,8 @@ at_begin : (b : Bool) (m : Machine) (rest : List ℕ) (c : ℕ) → Comes b doct
 unfolding taken entries
 at_begin b m rest c =
     let P : ℕ → DoctypeStep → Type 0 = λ d k. Comes b doctype.Begin m [] rest d k in
-    spaced P doctype.BeforeName c (ends_or_of true c its.NameBegins) (by_entry (at doctype.Begin m) (9 ∷ rest) (taking ([]) (Switch there.BeforeDOCTYPEName) (9 ∷ [])) refl refl, (λ t ahead m held. (refl, held.1)))
+    spaced P doctype.BeforeName c (ends_or_of true c its.NameBegins)
+    (by_entry (at doctype.Begin m) (9 ∷ rest) (taking ([]) (Switch there.BeforeDOCTYPEName) (9 ∷ [])) refl refl, (λ t ahead m held. (refl, held.1)))
     (by_entry (at doctype.Begin m) (10 ∷ rest) (taking ([]) (Switch there.BeforeDOCTYPEName) (10 ∷ [])) refl refl, (λ t ahead m held. (refl, held.1)))
     (by_entry (at doctype.Begin m) (12 ∷ rest) (taking ([]) (Switch there.BeforeDOCTYPEName) (12 ∷ [])) refl refl, (λ t ahead m held. (refl, held.1)))
     (by_entry (at doctype.Begin m) (32 ∷ rest) (taking ([]) (Switch there.BeforeDOCTYPEName) (32 ∷ [])) refl refl, (λ t ahead m held. (refl, held.1)))
@@ -181,8 +184,10 @@ in_name : (b : Bool) (m : Machine) (rest : List ℕ) (c : ℕ) → Comes b docty
 unfolding taken entries
 in_name b m rest c =
     let P : ℕ → DoctypeStep → Type 0 = λ d k. Comes b doctype.Name m [] rest d k in
-    spaced P doctype.AfterName c (ends_or_of false c its.NameLetter) (by_entry (at doctype.Name m) (9 ∷ rest) (taking ([]) (Switch there.AfterDOCTYPEName) (9 ∷ [])) refl refl, (λ t ahead m held. (refl, held.1)))
-    (by_entry (at doctype.Name m) (10 ∷ rest) (taking ([]) (Switch there.AfterDOCTYPEName) (10 ∷ [])) refl refl, (λ t ahead m held. (refl, held.1))) (by_entry (at doctype.Name m) (12 ∷ rest) (taking ([]) (Switch there.AfterDOCTYPEName) (12 ∷ [])) refl refl, (λ t ahead m held. (refl, held.1)))
+    spaced P doctype.AfterName c (ends_or_of false c its.NameLetter)
+    (by_entry (at doctype.Name m) (9 ∷ rest) (taking ([]) (Switch there.AfterDOCTYPEName) (9 ∷ [])) refl refl, (λ t ahead m held. (refl, held.1)))
+    (by_entry (at doctype.Name m) (10 ∷ rest) (taking ([]) (Switch there.AfterDOCTYPEName) (10 ∷ [])) refl refl, (λ t ahead m held. (refl, held.1)))
+    (by_entry (at doctype.Name m) (12 ∷ rest) (taking ([]) (Switch there.AfterDOCTYPEName) (12 ∷ [])) refl refl, (λ t ahead m held. (refl, held.1)))
     (by_entry (at doctype.Name m) (32 ∷ rest) (taking ([]) (Switch there.AfterDOCTYPEName) (32 ∷ [])) refl refl, (λ t ahead m held. (refl, held.1)))
     (λ s. by_test P c 62 (its.Ends false) its.NameLetter
     (by_entry (at doctype.Name m) (62 ∷ rest) (taking (EmitDoctype ∷ []) (Switch there.Data) (62 ∷ [])) refl refl)
@@ -192,7 +197,8 @@ after_public_keyword : (b : Bool) (m : Machine) (rest : List ℕ) (c : ℕ) → 
 unfolding taken entries
 after_public_keyword b m rest c =
     let P : ℕ → DoctypeStep → Type 0 = λ d k. Comes b (doctype.AfterKeyword id.Public) m [] rest d k in
-    spaced P (doctype.BeforeId id.Public) c (before_id_of id.Public true c) (by_entry (at (doctype.AfterKeyword id.Public) m) (9 ∷ rest) (taking ([]) (Switch there.BeforeDOCTYPEPublicIdentifier) (9 ∷ [])) refl refl, (λ t ahead m held. (refl, held.1)))
+    spaced P (doctype.BeforeId id.Public) c (before_id_of id.Public true c)
+    (by_entry (at (doctype.AfterKeyword id.Public) m) (9 ∷ rest) (taking ([]) (Switch there.BeforeDOCTYPEPublicIdentifier) (9 ∷ [])) refl refl, (λ t ahead m held. (refl, held.1)))
     (by_entry (at (doctype.AfterKeyword id.Public) m) (10 ∷ rest) (taking ([]) (Switch there.BeforeDOCTYPEPublicIdentifier) (10 ∷ [])) refl refl, (λ t ahead m held. (refl, held.1)))
     (by_entry (at (doctype.AfterKeyword id.Public) m) (12 ∷ rest) (taking ([]) (Switch there.BeforeDOCTYPEPublicIdentifier) (12 ∷ [])) refl refl, (λ t ahead m held. (refl, held.1)))
     (by_entry (at (doctype.AfterKeyword id.Public) m) (32 ∷ rest) (taking ([]) (Switch there.BeforeDOCTYPEPublicIdentifier) (32 ∷ [])) refl refl, (λ t ahead m held. (refl, held.1)))
@@ -208,8 +214,10 @@ before_public_id : (b : Bool) (m : Machine) (rest : List ℕ) (c : ℕ) → Come
 unfolding taken entries
 before_public_id b m rest c =
     let P : ℕ → DoctypeStep → Type 0 = λ d k. Comes b (doctype.BeforeId id.Public) m [] rest d k in
-    spaced P (doctype.BeforeId id.Public) c (before_id_of id.Public true c) (by_entry (at (doctype.BeforeId id.Public) m) (9 ∷ rest) (taking ([]) (Stay) (9 ∷ [])) refl refl, (λ t ahead m held. (refl, held.1)))
-    (by_entry (at (doctype.BeforeId id.Public) m) (10 ∷ rest) (taking ([]) (Stay) (10 ∷ [])) refl refl, (λ t ahead m held. (refl, held.1))) (by_entry (at (doctype.BeforeId id.Public) m) (12 ∷ rest) (taking ([]) (Stay) (12 ∷ [])) refl refl, (λ t ahead m held. (refl, held.1)))
+    spaced P (doctype.BeforeId id.Public) c (before_id_of id.Public true c)
+    (by_entry (at (doctype.BeforeId id.Public) m) (9 ∷ rest) (taking ([]) (Stay) (9 ∷ [])) refl refl, (λ t ahead m held. (refl, held.1)))
+    (by_entry (at (doctype.BeforeId id.Public) m) (10 ∷ rest) (taking ([]) (Stay) (10 ∷ [])) refl refl, (λ t ahead m held. (refl, held.1)))
+    (by_entry (at (doctype.BeforeId id.Public) m) (12 ∷ rest) (taking ([]) (Stay) (12 ∷ [])) refl refl, (λ t ahead m held. (refl, held.1)))
     (by_entry (at (doctype.BeforeId id.Public) m) (32 ∷ rest) (taking ([]) (Stay) (32 ∷ [])) refl refl, (λ t ahead m held. (refl, held.1)))
     (λ s. by_test P c 34 (its.IdBegins id.Public quote.Double) (cond (c == 39) (its.IdBegins id.Public quote.Single) (ends_or_of true c (its.Malformed true)))
     (by_entry (at (doctype.BeforeId id.Public) m) (34 ∷ rest) (taking (SetEmpty PublicId ∷ []) (Switch (doctype_state_of (doctype.Quoted id.Public quote.Double))) (34 ∷ [])) refl refl)
@@ -223,7 +231,8 @@ after_system_keyword : (b : Bool) (m : Machine) (rest : List ℕ) (c : ℕ) → 
 unfolding taken entries
 after_system_keyword b m rest c =
     let P : ℕ → DoctypeStep → Type 0 = λ d k. Comes b (doctype.AfterKeyword id.System) m [] rest d k in
-    spaced P (doctype.BeforeId id.System) c (before_id_of id.System true c) (by_entry (at (doctype.AfterKeyword id.System) m) (9 ∷ rest) (taking ([]) (Switch there.BeforeDOCTYPESystemIdentifier) (9 ∷ [])) refl refl, (λ t ahead m held. (refl, held.1)))
+    spaced P (doctype.BeforeId id.System) c (before_id_of id.System true c)
+    (by_entry (at (doctype.AfterKeyword id.System) m) (9 ∷ rest) (taking ([]) (Switch there.BeforeDOCTYPESystemIdentifier) (9 ∷ [])) refl refl, (λ t ahead m held. (refl, held.1)))
     (by_entry (at (doctype.AfterKeyword id.System) m) (10 ∷ rest) (taking ([]) (Switch there.BeforeDOCTYPESystemIdentifier) (10 ∷ [])) refl refl, (λ t ahead m held. (refl, held.1)))
     (by_entry (at (doctype.AfterKeyword id.System) m) (12 ∷ rest) (taking ([]) (Switch there.BeforeDOCTYPESystemIdentifier) (12 ∷ [])) refl refl, (λ t ahead m held. (refl, held.1)))
     (by_entry (at (doctype.AfterKeyword id.System) m) (32 ∷ rest) (taking ([]) (Switch there.BeforeDOCTYPESystemIdentifier) (32 ∷ [])) refl refl, (λ t ahead m held. (refl, held.1)))
@@ -239,8 +248,10 @@ before_system_id : (b : Bool) (m : Machine) (rest : List ℕ) (c : ℕ) → Come
 unfolding taken entries
 before_system_id b m rest c =
     let P : ℕ → DoctypeStep → Type 0 = λ d k. Comes b (doctype.BeforeId id.System) m [] rest d k in
-    spaced P (doctype.BeforeId id.System) c (before_id_of id.System true c) (by_entry (at (doctype.BeforeId id.System) m) (9 ∷ rest) (taking ([]) (Stay) (9 ∷ [])) refl refl, (λ t ahead m held. (refl, held.1)))
-    (by_entry (at (doctype.BeforeId id.System) m) (10 ∷ rest) (taking ([]) (Stay) (10 ∷ [])) refl refl, (λ t ahead m held. (refl, held.1))) (by_entry (at (doctype.BeforeId id.System) m) (12 ∷ rest) (taking ([]) (Stay) (12 ∷ [])) refl refl, (λ t ahead m held. (refl, held.1)))
+    spaced P (doctype.BeforeId id.System) c (before_id_of id.System true c)
+    (by_entry (at (doctype.BeforeId id.System) m) (9 ∷ rest) (taking ([]) (Stay) (9 ∷ [])) refl refl, (λ t ahead m held. (refl, held.1)))
+    (by_entry (at (doctype.BeforeId id.System) m) (10 ∷ rest) (taking ([]) (Stay) (10 ∷ [])) refl refl, (λ t ahead m held. (refl, held.1)))
+    (by_entry (at (doctype.BeforeId id.System) m) (12 ∷ rest) (taking ([]) (Stay) (12 ∷ [])) refl refl, (λ t ahead m held. (refl, held.1)))
     (by_entry (at (doctype.BeforeId id.System) m) (32 ∷ rest) (taking ([]) (Stay) (32 ∷ [])) refl refl, (λ t ahead m held. (refl, held.1)))
     (λ s. by_test P c 34 (its.IdBegins id.System quote.Double) (cond (c == 39) (its.IdBegins id.System quote.Single) (ends_or_of true c (its.Malformed true)))
     (by_entry (at (doctype.BeforeId id.System) m) (34 ∷ rest) (taking (SetEmpty SystemId ∷ []) (Switch (doctype_state_of (doctype.Quoted id.System quote.Double))) (34 ∷ [])) refl refl)
@@ -254,7 +265,8 @@ after_public_id : (b : Bool) (m : Machine) (rest : List ℕ) (c : ℕ) → Comes
 unfolding taken entries
 after_public_id b m rest c =
     let P : ℕ → DoctypeStep → Type 0 = λ d k. Comes b (doctype.AfterId id.Public) m [] rest d k in
-    spaced P doctype.BetweenIds c (before_id_of id.System false c) (by_entry (at (doctype.AfterId id.Public) m) (9 ∷ rest) (taking ([]) (Switch there.BetweenDOCTYPEPublicAndSystemIdentifiers) (9 ∷ [])) refl refl, (λ t ahead m held. (refl, held.1)))
+    spaced P doctype.BetweenIds c (before_id_of id.System false c)
+    (by_entry (at (doctype.AfterId id.Public) m) (9 ∷ rest) (taking ([]) (Switch there.BetweenDOCTYPEPublicAndSystemIdentifiers) (9 ∷ [])) refl refl, (λ t ahead m held. (refl, held.1)))
     (by_entry (at (doctype.AfterId id.Public) m) (10 ∷ rest) (taking ([]) (Switch there.BetweenDOCTYPEPublicAndSystemIdentifiers) (10 ∷ [])) refl refl, (λ t ahead m held. (refl, held.1)))
     (by_entry (at (doctype.AfterId id.Public) m) (12 ∷ rest) (taking ([]) (Switch there.BetweenDOCTYPEPublicAndSystemIdentifiers) (12 ∷ [])) refl refl, (λ t ahead m held. (refl, held.1)))
     (by_entry (at (doctype.AfterId id.Public) m) (32 ∷ rest) (taking ([]) (Switch there.BetweenDOCTYPEPublicAndSystemIdentifiers) (32 ∷ [])) refl refl, (λ t ahead m held. (refl, held.1)))
@@ -270,8 +282,10 @@ between_ids : (b : Bool) (m : Machine) (rest : List ℕ) (c : ℕ) → Comes b d
 unfolding taken entries
 between_ids b m rest c =
     let P : ℕ → DoctypeStep → Type 0 = λ d k. Comes b doctype.BetweenIds m [] rest d k in
-    spaced P doctype.BetweenIds c (before_id_of id.System false c) (by_entry (at doctype.BetweenIds m) (9 ∷ rest) (taking ([]) (Stay) (9 ∷ [])) refl refl, (λ t ahead m held. (refl, held.1)))
-    (by_entry (at doctype.BetweenIds m) (10 ∷ rest) (taking ([]) (Stay) (10 ∷ [])) refl refl, (λ t ahead m held. (refl, held.1))) (by_entry (at doctype.BetweenIds m) (12 ∷ rest) (taking ([]) (Stay) (12 ∷ [])) refl refl, (λ t ahead m held. (refl, held.1)))
+    spaced P doctype.BetweenIds c (before_id_of id.System false c)
+    (by_entry (at doctype.BetweenIds m) (9 ∷ rest) (taking ([]) (Stay) (9 ∷ [])) refl refl, (λ t ahead m held. (refl, held.1)))
+    (by_entry (at doctype.BetweenIds m) (10 ∷ rest) (taking ([]) (Stay) (10 ∷ [])) refl refl, (λ t ahead m held. (refl, held.1)))
+    (by_entry (at doctype.BetweenIds m) (12 ∷ rest) (taking ([]) (Stay) (12 ∷ [])) refl refl, (λ t ahead m held. (refl, held.1)))
     (by_entry (at doctype.BetweenIds m) (32 ∷ rest) (taking ([]) (Stay) (32 ∷ [])) refl refl, (λ t ahead m held. (refl, held.1)))
     (λ s. by_test P c 34 (its.IdBegins id.System quote.Double) (cond (c == 39) (its.IdBegins id.System quote.Single) (ends_or_of false c (its.Malformed true)))
     (by_entry (at doctype.BetweenIds m) (34 ∷ rest) (taking (SetEmpty SystemId ∷ []) (Switch (doctype_state_of (doctype.Quoted id.System quote.Double))) (34 ∷ [])) refl refl)
@@ -345,8 +359,10 @@ after_system_id : (b : Bool) (m : Machine) (rest : List ℕ) (c : ℕ) → Comes
 unfolding taken entries
 after_system_id b m rest c =
     let P : ℕ → DoctypeStep → Type 0 = λ d k. Comes b (doctype.AfterId id.System) m [] rest d k in
-    spaced P (doctype.AfterId id.System) c (ends_or_of false c (its.Malformed false)) (by_entry (at (doctype.AfterId id.System) m) (9 ∷ rest) (taking ([]) (Stay) (9 ∷ [])) refl refl, (λ t ahead m held. (refl, held.1)))
-    (by_entry (at (doctype.AfterId id.System) m) (10 ∷ rest) (taking ([]) (Stay) (10 ∷ [])) refl refl, (λ t ahead m held. (refl, held.1))) (by_entry (at (doctype.AfterId id.System) m) (12 ∷ rest) (taking ([]) (Stay) (12 ∷ [])) refl refl, (λ t ahead m held. (refl, held.1)))
+    spaced P (doctype.AfterId id.System) c (ends_or_of false c (its.Malformed false))
+    (by_entry (at (doctype.AfterId id.System) m) (9 ∷ rest) (taking ([]) (Stay) (9 ∷ [])) refl refl, (λ t ahead m held. (refl, held.1)))
+    (by_entry (at (doctype.AfterId id.System) m) (10 ∷ rest) (taking ([]) (Stay) (10 ∷ [])) refl refl, (λ t ahead m held. (refl, held.1)))
+    (by_entry (at (doctype.AfterId id.System) m) (12 ∷ rest) (taking ([]) (Stay) (12 ∷ [])) refl refl, (λ t ahead m held. (refl, held.1)))
     (by_entry (at (doctype.AfterId id.System) m) (32 ∷ rest) (taking ([]) (Stay) (32 ∷ [])) refl refl, (λ t ahead m held. (refl, held.1)))
     (λ s. by_test P c 62 (its.Ends false) (its.Malformed false)
     (by_entry (at (doctype.AfterId id.System) m) (62 ∷ rest) (taking (EmitDoctype ∷ []) (Switch there.Data) (62 ∷ [])) refl refl)
@@ -407,8 +423,11 @@ after_name : (b : Bool) (m : Machine) (rest : List ℕ) (c : ℕ) → Comes b do
 unfolding taken entries
 after_name b m rest c =
     let P : ℕ → DoctypeStep → Type 0 = λ d k. Comes b doctype.AfterName m [] rest d k in
-    spaced P doctype.AfterName c (after_name_of c) (by_entry (at doctype.AfterName m) (9 ∷ rest) (taking ([]) (Stay) (9 ∷ [])) refl refl, (λ t ahead m held. (refl, held.1))) (by_entry (at doctype.AfterName m) (10 ∷ rest) (taking ([]) (Stay) (10 ∷ [])) refl refl, (λ t ahead m held. (refl, held.1)))
-    (by_entry (at doctype.AfterName m) (12 ∷ rest) (taking ([]) (Stay) (12 ∷ [])) refl refl, (λ t ahead m held. (refl, held.1))) (by_entry (at doctype.AfterName m) (32 ∷ rest) (taking ([]) (Stay) (32 ∷ [])) refl refl, (λ t ahead m held. (refl, held.1)))
+    spaced P doctype.AfterName c (after_name_of c)
+    (by_entry (at doctype.AfterName m) (9 ∷ rest) (taking ([]) (Stay) (9 ∷ [])) refl refl, (λ t ahead m held. (refl, held.1)))
+    (by_entry (at doctype.AfterName m) (10 ∷ rest) (taking ([]) (Stay) (10 ∷ [])) refl refl, (λ t ahead m held. (refl, held.1)))
+    (by_entry (at doctype.AfterName m) (12 ∷ rest) (taking ([]) (Stay) (12 ∷ [])) refl refl, (λ t ahead m held. (refl, held.1)))
+    (by_entry (at doctype.AfterName m) (32 ∷ rest) (taking ([]) (Stay) (32 ∷ [])) refl refl, (λ t ahead m held. (refl, held.1)))
     (λ s. by_bool (λ e x. P e (cond (x || e == 80) (its.Letter id.Public 1) (cond (e == 115 || e == 83) (its.Letter id.System 1) (ends_or_of false e (its.Malformed true))))) c 112
     (refl, (λ one. refl), (omega arith, omega arith, refl))
     (λ h112. by_bool (λ e x. P e (cond x (its.Letter id.Public 1) (cond (e == 115 || e == 83) (its.Letter id.System 1) (ends_or_of false e (its.Malformed true))))) c 80

@@ -18,7 +18,8 @@ mod state;
 mod tags;
 mod text;
 
-ghost use Rattle.std.specs.Prelude.{◌≡◌, ◌∷◌, ◌++◌, [], IfOk, OnOk, None, string_bytes, encode_utf8};
+ghost use Rattle.std.specs.Prelude.{◌≡◌, ◌∷◌, ◌++◌, [], IfOk, OnOk, None, string_bytes};
+ghost use Rattle.std.specs.Prelude.{encode_utf8};
 ghost use Rattle.page_tokens.specs.Runs.{is_space_of};
 
 use crate::parse_error::ErrorAt;
