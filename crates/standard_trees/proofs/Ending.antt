@@ -1,19 +1,19 @@
 -- Rules that use rules come to an end: what `ends` of Routes computes is so.
-use Rattle.std.specs.Prelude.{◌≡◌, ◌⊎◌, refl, ℕ, zero, suc, Bool, true, false, ◌||◌, ◌&&◌, List, [], ◌∷◌, Option, None, Some}
+use Rattle.std.specs.Prelude.{◌≡◌, ◌⊎◌, refl, ℕ, zero, suc, Bool, true, false, List, [], ◌∷◌, Option, None, Some}
 use Rattle.std.proofs.Common.{inl, inr}
 use Rattle.std.specs.List.{list_all}
 use Rattle.std.specs.Option.{option_and_then}
 use mathlib.Core.Path.{◌∙◌, sym, ap, subst}
 use Rattle.standard_tokens.specs.Tokens.{Token, AnEof}
-use Rattle.standard_trees.specs.RuleWords.{Act, Action, Dispatcher, ForeignContent, InBody, Mode, PopForeignElements, Reprocess, Test, Use, UseCurrentMode}
+use Rattle.standard_trees.specs.RuleWords.{Act, Action, Dispatcher, ForeignContent, InBody, Mode, PopForeignElements, Reprocess, Use, UseCurrentMode}
 use Rattle.standard_trees.specs.RuleWords.{UseForEachPending, Way, does, goes}
 use Rattle.standard_trees.specs.TreeRules.{rules}
-use Rattle.standard_trees.specs.Building.{Building, gone, is_met, perform, performed, run, taken}
-use Rattle.standard_trees.proofs.MoreDepth.{BelowIn, gone_below, more, performed_below, run_left, run_right, then_below}
-use Rattle.standard_trees.proofs.Routes.{all_taken, are_quiet, change, dispatcher_passes, dispatches, ends, foreign_passes, is_end_of_file, is_foreign_or_quiet}
-use Rattle.standard_trees.proofs.Routes.{is_quiet, is_real, leaves_foreign, like, may_do, may_go, may_perform, mode_after, passes_over, pops_foreign, rules_known}
+use Rattle.standard_trees.specs.Building.{Building, gone, perform, performed, run, taken}
+use Rattle.standard_trees.proofs.MoreDepth.{BelowIn, gone_below, more, performed_below, run_left, run_right}
+use Rattle.standard_trees.proofs.Routes.{all_taken, are_quiet, change, dispatcher_passes, dispatches, ends, foreign_passes, is_foreign_or_quiet}
+use Rattle.standard_trees.proofs.Routes.{is_quiet, is_real, leaves_foreign, may_do, may_go, may_perform, mode_after, passes_over, pops_foreign, rules_known}
 use Rattle.standard_trees.proofs.Routes.{token_after}
-use Rattle.standard_trees.proofs.KeptModes.{Good, Stands, after, at_from_stands, both, both_in_turn, either, good_after, perform_good, stands_after, taken_of_all}
+use Rattle.standard_trees.proofs.KeptModes.{Good, Stands, after, at_from_stands, both, both_in_turn, either, good_after, stands_after, taken_of_all}
 use Rattle.standard_trees.proofs.KeptModes.{taken_passes}
 
 -- the rules for a mode come to an end at some depth, and the building is good then

@@ -1,24 +1,22 @@
 -- In every mode every token comes to an end.
-use Rattle.std.specs.Prelude.{◌≡◌, ◌⊎◌, refl, ℕ, zero, suc, Bool, true, false, not, ◌==◌, ◌||◌, ◌&&◌, List, [], ◌∷◌, Option, None, Some, bytes_eq, codes, drop}
+use Rattle.std.specs.Prelude.{◌≡◌, ◌||◌, ◌⊎◌, refl, ℕ, zero, suc, Bool, true, false, not, ◌==◌, ◌&&◌, List, [], ◌∷◌, None, Some, bytes_eq, codes, drop}
 use Rattle.std.specs.Prelude.{option_map, reverse}
 use Rattle.std.proofs.Common.{inl, inr}
 use Rattle.std.specs.List.{list_all}
-use Rattle.std.specs.Option.{option_and_then}
 use Rattle.std.proofs.lemmas.Slice.Eq.{bytes_eq-Decides}
 use mathlib.Core.Path.{◌∙◌, sym, ap, subst}
 use Rattle.standard_tokens.specs.Machine.{no_doctype}
 use Rattle.standard_tokens.specs.Tokens.{Attr, Token, AChar, AComment, ADoctype, AStart, AnEnd, AnEof}
-use Rattle.standard_trees.specs.RuleWords.{Act, Action, ClearListToMarker, Dispatcher, FosterOff, FosterOn, InBody, InColumnGroup, InRow, InScope, InTable, InTableBody}
-use Rattle.standard_trees.specs.RuleWords.{InTableText, InTemplate, InsertPending, Mode, Pop, PopForeignElements, PopTemplateMode, PopUntil, PendingAllWhiteSpace}
-use Rattle.standard_trees.specs.RuleWords.{Reprocess, ResetMode, Stop, SwitchBack, SwitchTo, TableScope, Test, TemplateModeSet, TemplateOpen, Text, These, Use}
-use Rattle.standard_trees.specs.RuleWords.{UseForEachPending, does, goes, is, isnt, CurrentNode, AfterAfterBody, AfterAfterFrameset, ForeignContent}
-use Rattle.standard_trees.specs.TreeRules.{resets, rules}
-use Rattle.standard_trees.specs.TreeStore.{NodeAttr}
+use Rattle.standard_trees.specs.RuleWords.{Act, Action, ClearListToMarker, Dispatcher, InBody, InColumnGroup, InRow, InTable, InTableBody}
+use Rattle.standard_trees.specs.RuleWords.{InTableText, InTemplate, Mode, Pop, PopTemplateMode, PopUntil}
+use Rattle.standard_trees.specs.RuleWords.{Reprocess, ResetMode, Stop, SwitchBack, SwitchTo, TableScope, TemplateOpen, Text, These, Use}
+use Rattle.standard_trees.specs.RuleWords.{UseForEachPending, does, goes, isnt, CurrentNode}
+use Rattle.standard_trees.specs.TreeRules.{rules}
 use Rattle.standard_trees.specs.GrowingTree.{GrowingTree, beyond, ends_scope, in_scope, is_among, is_foreign, is_one, past}
-use Rattle.standard_trees.specs.Building.{Building, each_char, gone, holds, is_empty, is_met, perform, performed, reset_from, run, taken, with_token}
+use Rattle.standard_trees.specs.Building.{Building, each_char, is_empty, is_met, perform, reset_from, run, taken, with_token}
 use Rattle.standard_trees.specs.Building.{is_line_feed, is_space, tree_step, tree_steps, with_next}
 use Rattle.standard_trees.proofs.MoreDepth.{BelowIn, each_below, more, run_left, run_right, step_below, steps_below}
-use Rattle.standard_trees.proofs.Routes.{acts_pass, are_quiet, char_like, chars_end, depth, end_ends, ends, ends_end, is_among_tables, is_body_at_end, is_end_of_file, is_plain, is_real}
+use Rattle.standard_trees.proofs.Routes.{acts_pass, are_quiet, char_like, chars_end, depth, end_ends, ends, ends_end, is_among_tables, is_body_at_end, is_plain, is_real}
 use Rattle.standard_trees.proofs.Routes.{is_table_in_table, is_table_tag, is_template_mode, known_name, like, may_do, names, never, others_end, starts_end, tables_end}
 use Rattle.standard_trees.proofs.KeptModes.{Good, Stands, both, dropped_plain, either, perform_good, plain_real, plain_reset, reset_from_passes, taken_of_all}
 use Rattle.standard_trees.proofs.Ending.{ActsEnd, Ends, IsShown, WayEnds, by_rules, computed, dispatch, go_on, only_goes, quiet_end, then_some, without_foreign}

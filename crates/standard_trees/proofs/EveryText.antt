@@ -1,21 +1,19 @@
 -- Every text has a document, and in every context a fragment.
-use Rattle.std.specs.Prelude.{◌≡◌, refl, ℕ, zero, suc, Bool, true, false, cond, ◌&&◌, List, [], ◌∷◌, Option, None, Some, codes, option_map}
+use Rattle.std.specs.Prelude.{◌≡◌, refl, ℕ, zero, suc, Bool, true, false, cond, ◌&&◌, [], ◌∷◌, Option, None, Some, option_map}
 use Rattle.std.specs.List.{list_all}
-use Rattle.std.specs.Option.{option_and_then}
 use Rattle.std.proofs.Common.{arith}
 use mathlib.Core.Path.{◌∙◌, sym, ap, subst}
-use Rattle.standard_tokens.specs.Machine.{Machine, Step, normalized, step}
+use Rattle.standard_tokens.specs.Machine.{Machine, Step}
 use Rattle.standard_tokens.specs.Reading.{switched}
 use Rattle.standard_tokens.specs.States.{State, PLAINTEXT, RAWTEXT, RCDATA, ScriptData}
-use Rattle.standard_trees.specs.RuleWords.{InTemplate, Mode, PlainText, RawText, RcdataText, ScriptText, TextState}
+use Rattle.standard_trees.specs.RuleWords.{InTemplate, PlainText, RawText, RcdataText, ScriptText, TextState}
 use Rattle.standard_trees.specs.GrowingTree.{is_template}
 use Rattle.standard_trees.specs.Building.{Building, Surroundings, fragment_start, reset, run, start, tree_steps}
 use Rattle.standard_trees.specs.Laws.{EveryTextHasADocument, EveryTextHasAFragment}
 use Rattle.standard_trees.specs.Parsing.{Parser, after_step, behind, document_of, fragment_parser, is_foreign_now, nodes_of, page_parser, parsed, state_of, step_of}
 use Rattle.standard_trees.proofs.MoreDepth.{BelowIn, more, run_left, run_right, steps_below}
 use Rattle.standard_trees.proofs.OneWay.{deeper_only}
-use Rattle.standard_trees.proofs.Routes.{is_plain, is_real}
-use Rattle.standard_trees.proofs.KeptModes.{Good, both, plain_real, plain_reset}
+use Rattle.standard_trees.proofs.KeptModes.{Good, plain_real, plain_reset}
 use Rattle.standard_trees.proofs.Ending.{then_some}
 use Rattle.standard_trees.proofs.EveryMode.{StepsEnd, Within, size, steps_end, within_size}
 use Rattle.standard_trees.proofs.Settling.{Progress, all_settle, closer, front, further, is_return, progress, return_after, settles, soon, stopped, text_states}

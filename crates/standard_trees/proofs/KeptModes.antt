@@ -1,5 +1,5 @@
 -- What actions do to the modes of a building, and to its token.
-use Rattle.std.specs.Prelude.{◌≡◌, ◌⊎◌, refl, ℕ, Bool, true, false, not, ◌==◌, ◌||◌, ◌&&◌, List, [], ◌∷◌, Option, None, Some, drop, bytes_eq, codes, unwrap_or}
+use Rattle.std.specs.Prelude.{◌≡◌, ◌||◌, ◌⊎◌, refl, ℕ, Bool, true, false, not, ◌==◌, ◌&&◌, List, [], ◌∷◌, Option, None, Some, drop, bytes_eq, unwrap_or}
 use Rattle.std.proofs.Common.{inl, inr}
 use Rattle.std.proofs.lemmas.Bool.Decides.{Decides-eqb}
 use Rattle.std.specs.List.{list_all, list_any}
@@ -8,9 +8,9 @@ use Rattle.std.proofs.lemmas.Option.{same_Some}
 use mathlib.Core.Path.{◌∙◌, sym, ap, subst}
 use Rattle.standard_tokens.specs.Machine.{no_doctype}
 use Rattle.standard_tokens.specs.Tokens.{Token, AChar, AComment, ADoctype, AStart, AnEnd, AnEof}
-use Rattle.standard_trees.specs.RuleWords.{Act, Action, AdjustSvgName, InBody, KeepMode, Mode, NodeTest, Pattern, PopTemplateMode, PushTemplateMode}
-use Rattle.standard_trees.specs.RuleWords.{Rename, Reset, ResetMode, Rule, StartTagBut, StartTagOf, EndTagOf, SwitchBack, SwitchTo, Test, does, goes, reset_to}
-use Rattle.standard_trees.specs.RuleWords.{Anything, WhiteSpace, Null, Character, Comment, Doctype, EndOfFile, AnyStartTag, AnyEndTag}
+use Rattle.standard_trees.specs.RuleWords.{Act, Action, AdjustSvgName, InBody, KeepMode, Mode, Pattern, PopTemplateMode, PushTemplateMode}
+use Rattle.standard_trees.specs.RuleWords.{Reset, ResetMode, Rule, StartTagBut, StartTagOf, EndTagOf, SwitchBack, SwitchTo, Test, reset_to}
+use Rattle.standard_trees.specs.RuleWords.{Anything, WhiteSpace, Null}
 use Rattle.standard_trees.specs.RuleWords.{reset_to_template_mode, rule, Text, InTableText, Dispatcher, ForeignContent}
 use Rattle.standard_trees.specs.TreeRules.{resets}
 use Rattle.standard_trees.specs.TreeStore.{key_in}

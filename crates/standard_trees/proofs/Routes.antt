@@ -1,12 +1,12 @@
 -- Where the rules send a token. Of a token only its kind counts, and its tag's name where that is among `names`; of the building only
 -- its mode. `ends` follows every rule that may then be taken.
-use Rattle.std.specs.Prelude.{◌≡◌, refl, ℕ, zero, suc, Bool, true, false, not, ◌==◌, ◌||◌, ◌&&◌, List, [], ◌∷◌, Option, None, Some, bytes_eq, codes}
+use Rattle.std.specs.Prelude.{◌≡◌, ◌||◌, refl, ℕ, zero, suc, Bool, true, false, not, ◌==◌, ◌&&◌, List, [], ◌∷◌, Option, None, Some, bytes_eq, codes}
 use Rattle.std.specs.List.{list_all, list_any}
 use Rattle.standard_tokens.specs.Machine.{no_doctype}
 use Rattle.standard_tokens.specs.Tokens.{Token, AChar, AComment, ADoctype, AStart, AnEnd, AnEof}
-use Rattle.standard_trees.specs.RuleWords.{Act, Action, AdjustSvgName, AfterAfterBody, AfterAfterFrameset, AfterBody, AfterFrameset, AfterHead}
-use Rattle.standard_trees.specs.RuleWords.{BeforeHead, BeforeHtml, Dispatcher, EndTagOf, ForeignContent, InBody, InCaption, InCell, InColumnGroup}
-use Rattle.standard_trees.specs.RuleWords.{InFrameset, InHead, InHeadNoscript, InRow, InTable, InTableBody, InTableText, InTemplate, Initial}
+use Rattle.standard_trees.specs.RuleWords.{Act, Action, AdjustSvgName}
+use Rattle.standard_trees.specs.RuleWords.{Dispatcher, EndTagOf, ForeignContent, InBody, InColumnGroup}
+use Rattle.standard_trees.specs.RuleWords.{InRow, InTable, InTableBody, InTableText, InTemplate}
 use Rattle.standard_trees.specs.RuleWords.{KeepMode, Mode, Pattern, PopForeignElements, PopTemplateMode, PushTemplateMode, Rename, Reprocess, ResetMode, Rule}
 use Rattle.standard_trees.specs.RuleWords.{StartTagBut, StartTagOf, SwitchBack, SwitchTo, Test, Text, Use, UseCurrentMode, UseForEachPending, Way}
 use Rattle.standard_trees.specs.RuleWords.{does, goes, rule}

@@ -1,16 +1,14 @@
 -- The tokenizer comes to an end: where it reconsumes a character, it soon consumes it or stops.
-use Rattle.std.specs.Prelude.{◌≡◌, ◌⊎◌, refl, ℕ, zero, suc, ◌+◌, Bool, true, false, cond, not, eqb, ◌||◌, ◌&&◌, List, [], ◌∷◌, Option, None, Some, drop, length, take}
-use Rattle.std.specs.Prelude.{◌==◌, nat_le, nat_lt, option_map}
+use Rattle.std.specs.Prelude.{◌≡◌, ◌||◌, refl, ℕ, zero, suc, Bool, true, false, cond, not, eqb, ◌&&◌, List, [], ◌∷◌, Option, None, Some, drop, length, take}
+use Rattle.std.specs.Prelude.{◌==◌, nat_lt, option_map}
 use lib.Pointwise.{pointwise}
 use Rattle.std.specs.Char.{char_set_contains}
 use Rattle.std.proofs.lemmas.Bool.Decides.{Decides-eqb}
-use Rattle.std.proofs.Common.{inl, inr}
 use Rattle.std.specs.List.{list_all, list_any, starts_with}
 use Rattle.std.proofs.lemmas.Option.{same_Some}
 use mathlib.Core.Path.{◌∙◌, sym, ap, subst}
 use Rattle.standard_tokens.specs.Entries.{Act, Always, AnyCase, Else, End, Entry, Guard, Mark, Name, Next, On, OneOf, Range, Reconsume, ReconsumeBack, ReturnTo, Stay}
-use Rattle.standard_tokens.specs.Entries.{Flush, SetEmpty, Add, Stop, Switch, SwitchBack, Then, Word, entry, Place, Buffer, TheTagName, AttrName, AttrValue, Comment}
-use Rattle.standard_tokens.specs.Entries.{DoctypeName, PublicId, SystemId}
+use Rattle.standard_tokens.specs.Entries.{Flush, SetEmpty, Add, Stop, Switch, SwitchBack, Then, Word, entry, Place, Buffer, AttrValue}
 use Rattle.standard_tokens.specs.Machine.{Machine, Step, Taken, added, all_done, characters, consumed, done, emptied, fits_mark, is_met, is_value, longer_of}
 use Rattle.standard_tokens.specs.Machine.{longest_among, longest_name, same_case_less, step, step_by, taken, taken_if}
 use Rattle.standard_tokens.specs.NamedReferences.{NamedReference, named_references}
@@ -18,7 +16,7 @@ use Rattle.standard_tokens.specs.States.{State, AttributeValueDoubleQuoted, Attr
 use Rattle.standard_tokens.specs.States.{ScriptData}
 use Rattle.standard_tokens.specs.Table.{entries}
 use Rattle.standard_trees.specs.Building.{is_empty}
-use Rattle.standard_trees.proofs.KeptModes.{both, both_in_turn}
+use Rattle.standard_trees.proofs.KeptModes.{both}
 use Rattle.standard_trees.proofs.EveryMode.{Within, looser}
 
 -- ---- computed over the table
