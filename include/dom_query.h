@@ -227,6 +227,16 @@ typedef enum dq_rule {
     DQ_DISALLOW_CLASS = 11     /* takes back DQ_ALLOW_CLASS; behind the last one no class stays */
 } dq_rule;
 
+/* Purposes that have rules of their own: dq_policy_preset. */
+typedef enum dq_preset {
+    DQ_FOR_TEXT = 0,    /* only texts stay, as by dq_policy_empty */
+    DQ_FOR_INLINE = 1,  /* a place that holds phrases alone: emphasised, marked, quoted and linked words */
+    DQ_FOR_COMMENT = 2, /* comments of strangers: paragraphs, lists, quotes, code, links to other sites with rel="nofollow noopener noreferrer" */
+    DQ_FOR_ARTICLE = 3, /* articles: texts, tables, images, links and sections, without attributes that only say how they look */
+    DQ_FOR_EMAIL = 4,   /* mails: also tables and fonts with the old attributes of layout; images show their text, and aren't loaded */
+    DQ_FOR_COMMON = 5   /* all of these, as by dq_policy_common */
+} dq_preset;
+
 /* Rules of a policy that have a number: dq_policy_set. */
 typedef enum dq_setting {
     DQ_DEPTH = 0,           /* so many elements that stay may be nested, 256 at most; deeper ones are replaced by their children */
@@ -418,6 +428,10 @@ DQ_API int64_t dq_policy_empty(dq_policy *policy);
  * addresses stay, and 256 elements may be nested. What the handle held is freed. After a fault the handle
  * holds what it held before. */
 DQ_API int64_t dq_policy_common(dq_policy *policy);
+
+/* Begins a policy with the rules for a purpose. What the handle held is freed. After a fault the handle
+ * holds what it held before. Faults: DQ_ARGUMENT for a number that is none of dq_preset, DQ_MEMORY. */
+DQ_API int64_t dq_policy_preset(dq_policy *policy, dq_preset preset);
 
 /* The next functions change the rules and finish them. After a fault of one of them the policy is refused
  * for good: each later call, dq_policy_finish and those that clean too, answers the first fault. So of all
