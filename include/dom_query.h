@@ -88,7 +88,7 @@ typedef struct dq_reader {
 
 /* ---- Answers. Read the fields that are named first; the others are the library's. */
 
-/* A text: `length` bytes of UTF-8, and a 0 behind them. */
+/* A text: `length` bytes of UTF-8, and a 0 after them. */
 typedef struct dq_string {
     char *bytes;
     size_t length;
@@ -114,7 +114,7 @@ typedef struct dq_view {
 typedef struct dq_strings {
     dq_view *items;
     size_t count;
-    dq_string joined;  /* all texts, one behind the other */
+    dq_string joined;  /* all texts, one after the other */
     dq_nodes lengths;  /* the length of each in bytes, or DQ_NO_TEXT */
     size_t room;
 } dq_strings;
@@ -183,7 +183,7 @@ typedef enum dq_kind_number {
 /* Where markup or a node goes, as seen from a node. */
 typedef enum dq_place {
     DQ_AS_CONTENTS = 0, /* in the place of its children; not for dq_move */
-    DQ_AT_END = 1,      /* behind its children */
+    DQ_AT_END = 1,      /* after its children */
     DQ_AT_FRONT = 2,    /* in front of its children */
     DQ_BEFORE = 3,      /* right before it */
     DQ_AFTER = 4,       /* right after it */
@@ -224,7 +224,7 @@ typedef enum dq_rule {
     DQ_UNDROP_ELEMENT = 8,     /* takes back DQ_DROP_ELEMENT */
     DQ_DISALLOW_ATTRIBUTE = 9, /* takes back DQ_ALLOW_ATTRIBUTE; what single elements may have stays */
     DQ_DISALLOW_SCHEME = 10,   /* takes back DQ_ALLOW_SCHEME */
-    DQ_DISALLOW_CLASS = 11     /* takes back DQ_ALLOW_CLASS; behind the last one no class stays */
+    DQ_DISALLOW_CLASS = 11     /* takes back DQ_ALLOW_CLASS; after the last one no class stays */
 } dq_rule;
 
 /* Purposes that have rules of their own: dq_policy_preset. */
@@ -480,7 +480,7 @@ DQ_API int64_t dq_clean_document(dq_policy *policy, dq_document *document, dq_st
 
 /* ---- Faults, and the version. */
 
-/* Writes what a fault means, in English, and a 0 behind it, as far as there is room, and returns the whole length without
+/* Writes what a fault means, in English, and a 0 after it, as far as there is room, and returns the whole length without
  * the 0; 0 for a number that is no fault. Nothing is written where the text is null or there is no room. */
 DQ_API size_t dq_fault_text(int64_t fault, char *text, size_t room);
 
