@@ -9,42 +9,13 @@ use std::alloc::Global;
 
 /// The elements that stay in a place that holds phrases alone.
 static INLINE: [&str; 28] = [
-    "a",
-    "abbr",
-    "b",
-    "bdi",
-    "bdo",
-    "br",
-    "cite",
-    "code",
-    "data",
-    "del",
-    "dfn",
-    "em",
-    "i",
-    "ins",
-    "kbd",
-    "mark",
-    "q",
-    "s",
-    "samp",
-    "small",
-    "span",
-    "strong",
-    "sub",
-    "sup",
-    "time",
-    "u",
-    "var",
+    "a", "abbr", "b", "bdi", "bdo", "br", "cite", "code", "data", "del", "dfn", "em", "i", "ins",
+    "kbd", "mark", "q", "s", "samp", "small", "span", "strong", "sub", "sup", "time", "u", "var",
     "wbr",
 ];
 
 /// The attributes of one of these elements.
-static INLINE_OWN: [(&str, &str); 3] = [
-    ("a", "href"),
-    ("bdo", "dir"),
-    ("time", "datetime"),
-];
+static INLINE_OWN: [(&str, &str); 3] = [("a", "href"), ("bdo", "dir"), ("time", "datetime")];
 
 /// The elements that stay in a comment.
 static COMMENT: [&str; 19] = [
@@ -70,10 +41,7 @@ static COMMENT: [&str; 19] = [
 ];
 
 /// The attributes of one of these elements.
-static COMMENT_OWN: [(&str, &str); 2] = [
-    ("a", "href"),
-    ("ol", "start"),
-];
+static COMMENT_OWN: [(&str, &str); 2] = [("a", "href"), ("ol", "start")];
 
 /// The elements that stay in an article.
 static ARTICLE: [&str; 71] = [
@@ -289,17 +257,10 @@ static EMAIL_OWN: [(&str, &str); 48] = [
 ];
 
 /// The attributes of every element of phrases, articles and mails.
-static EVERYWHERE: [&str; 2] = [
-    "lang",
-    "title",
-];
+static EVERYWHERE: [&str; 2] = ["lang", "title"];
 
 /// The schemes of addresses, for all of these rules.
-static SAFE_SCHEMES: [&str; 3] = [
-    "http",
-    "https",
-    "mailto",
-];
+static SAFE_SCHEMES: [&str; 3] = ["http", "https", "mailto"];
 
 impl Rules {
     /// Returns rules by which only texts stay, those of scripts and styles aside: the same as

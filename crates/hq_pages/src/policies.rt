@@ -11,6 +11,7 @@ use std::alloc::Global;
 use std::fs;
 
 const ONLY: &str = "--preset, --policy, --allow and --deny: only with --sanitize";
+
 const PRESETS: &str = "--preset: common, article, comment, email, inline or text";
 
 /// Returns the policy that the command line asks for, or `None` without `--sanitize`.

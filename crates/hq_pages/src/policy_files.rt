@@ -9,7 +9,9 @@ use toml::{Table, Value, table_from_str};
 use url::{ParseError, Url};
 
 const NAMES: &str = "a list of names in quotes";
-const EXTENDED: &str = "\"common\", \"article\", \"comment\", \"email\", \"inline\", \"text\" or \"none\"";
+
+const EXTENDED: &str =
+    "\"common\", \"article\", \"comment\", \"email\", \"inline\", \"text\" or \"none\"";
 
 /// Returns the rules in the text of a file. Without the key `extends` they allow only what the file
 /// names. Fails if the text isn't TOML, if it has a key that no rule has, or a value that the rule
