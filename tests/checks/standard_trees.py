@@ -1,8 +1,7 @@
 """The whole of tree construction by docs/standard/tree_construction.txt: what is made of that text is what the crate standard_trees holds; the
 rows of tests/standard/trees/rows.jsonl, whose trees browsers and parse5 gave, have these trees by the interpreter, and take every rule; so do
 the pages and fragments of html5lib's tests, and random soups, whose trees parse5 gave; and the rows of changes.jsonl show what single changes of
-the text do. `checked()` prints what failed, and returns how
-many of these passed and how many failed."""
+the text do. `checked()` prints what failed, and returns how many of these passed and how many failed."""
 import json
 import pathlib
 import random

@@ -1,7 +1,7 @@
-"""mutate_trees.py LIMIT SOUPS [LIST]: leaves one thing out of docs/standard/tree_construction.txt at a time (a rule, an action, a condition of a rule or of
-an action, a name of a pattern) and lists the changes that no text shows. The texts are the rows of tests/standard/trees (rows.jsonl, changes.jsonl), html5lib's
-tests, the rows of `hq`, and so many random soups; of those that take a rule about LIMIT are tried. With a file of such a list only its
-changes are tried again."""
+"""mutate_trees.py LIMIT SOUPS [LIST]: leaves one thing out of docs/standard/tree_construction.txt at a time (a rule, an action, a condition of
+a rule or of an action, a name of a pattern) and lists the changes that no text shows. The texts are the rows of tests/standard/trees
+(rows.jsonl, changes.jsonl), html5lib's tests, the rows of `hq`, and so many random soups; of those that take a rule about LIMIT are tried.
+With a file of such a list only its changes are tried again."""
 import collections
 import json
 import pathlib
