@@ -1,7 +1,7 @@
 """The whole of tree construction by docs/standard/tree_construction.txt: what is made of that text is what the crate standard_trees holds; the
 rows of tests/standard/trees/rows.jsonl, whose trees browsers and parse5 gave, have these trees by the interpreter, and take every rule; so do
-the pages and fragments of html5lib's tests, and random soups, whose trees parse5 gave. `checked()` prints what failed, and returns how
-many of these passed and how many failed."""
+the pages and fragments of html5lib's tests, and random soups, whose trees parse5 gave; and the rows of changes.jsonl show what single changes of
+the text do. `checked()` prints what failed, and returns how many of these passed and how many failed."""
 import json
 import pathlib
 import random
@@ -10,6 +10,7 @@ import sys
 ROOT = pathlib.Path(__file__).resolve().parents[2]
 sys.dont_write_bytecode = True
 sys.path.insert(0, str(ROOT / "tests" / "standard" / "trees"))
+import changes  # noqa: E402
 import construction  # noqa: E402
 import definition  # noqa: E402
 import soups  # noqa: E402
@@ -18,6 +19,7 @@ from whole_parsing import by_rules  # noqa: E402
 ROWS = ROOT / "tests" / "standard" / "trees" / "rows.jsonl"
 FRAGMENTS = ROOT / "tests" / "standard" / "trees" / "fragments.jsonl"
 SOUPS = ROOT / "tests" / "standard" / "trees" / "soups.jsonl"
+UNSEEN = ROOT / "tests" / "standard" / "trees" / "unseen_changes.txt"
 
 # rules that no token comes to: in these modes such an element is always in table scope
 NEVER_TAKEN = {
@@ -72,8 +74,22 @@ def random_soups():
         yield soups.digest(tests) == row["digest"], f"the soups of seed {row['seed']} have other trees"
 
 
+def single_changes():
+    """The rows that show what a single change of the text does, and the names of those that no row shows."""
+    found = changes.rows()
+    for number, (row, hidden) in enumerate(zip(found, changes.not_shown(found)), 1):
+        where = f"tests/standard/trees/changes.jsonl, line {number}"
+        tree = by_rules(*changes.of(row))[0]
+        yield tree == row["tree"], f"{where}: the rules give\n{tree}"
+        yield row["shows"] and not hidden, f"{where}: it doesn't show {hidden or 'any change'}"
+    names = {name for name, *_ in changes.all_changes()}
+    for line in UNSEEN.read_text(encoding="utf-8").splitlines():
+        if line and not line.startswith("#"):
+            yield line in names, f"tests/standard/trees/unseen_changes.txt: no change of the text has this name: {line}"
+
+
 def checked():
-    results = [result for part in (made, rows, html5lib, random_soups) for result in part()]
+    results = [result for part in (made, rows, html5lib, random_soups, single_changes) for result in part()]
     failed = [fault for passed, fault in results if not passed]
     for fault in failed:
         print(f"tree construction: {fault}")

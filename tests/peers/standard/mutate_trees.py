@@ -1,7 +1,7 @@
-"""mutate_trees.py LIMIT SOUPS [LIST]: leaves one thing out of docs/standard/tree_construction.txt at a time (a rule, an action, a condition of a rule or of
-an action, a name of a pattern) and lists the changes that no text shows. The texts are the rows of tests/standard/trees, html5lib's
-tests, the rows of `hq`, and so many random soups; of those that take a rule about LIMIT are tried. With a file of such a list only its
-changes are tried again."""
+"""mutate_trees.py LIMIT SOUPS [LIST]: leaves one thing out of docs/standard/tree_construction.txt at a time (a rule, an action, a condition of
+a rule or of an action, a name of a pattern) and lists the changes that no text shows. The texts are the rows of tests/standard/trees
+(rows.jsonl, changes.jsonl), html5lib's tests, the rows of `hq`, and so many random soups; of those that take a rule about LIMIT are tried.
+With a file of such a list only its changes are tried again."""
 import collections
 import json
 import pathlib
@@ -11,41 +11,13 @@ import sys
 ROOT = pathlib.Path(__file__).resolve().parents[3]
 sys.dont_write_bytecode = True
 sys.path.insert(0, str(ROOT / "tests" / "standard" / "trees"))
+import changes  # noqa: E402
 import choose_rows  # noqa: E402
 import construction  # noqa: E402
 import soups  # noqa: E402
-import whole_parsing  # noqa: E402
+from changes import tree  # noqa: E402
 
 MODES = construction.MODES
-
-
-def tree(test):
-    try:
-        return whole_parsing.by_rules(*test)
-    except RecursionError:
-        return "without an end"
-    except Exception as fault:
-        return repr(fault)
-
-
-def changes(r):
-    """What is changed, and the rule then; None where it is left out."""
-    yield "left out", None
-    for i, (a, when) in enumerate(r.actions):
-        yield f"without the action {a}", r._replace(actions=r.actions[:i] + r.actions[i + 1 :])
-        for j, c in enumerate(when):
-            yield f"{a} without {c}", r._replace(actions=r.actions[:i] + [(a, when[:j] + when[j + 1 :])] + r.actions[i + 1 :])
-        if len(a) > 1 and isinstance(a[1], list) and len(a[1]) > 1:
-            for n in a[1]:
-                yield f"{a[0]} without {n}", r._replace(actions=r.actions[:i] + [((a[0], [m for m in a[1] if m != n]), when)] + r.actions[i + 1 :])
-    for j, c in enumerate(r.conditions):
-        yield f"without the condition {c}", r._replace(conditions=r.conditions[:j] + r.conditions[j + 1 :])
-    for i, p in enumerate(r.patterns):
-        if len(r.patterns) > 1:
-            yield f"not for {p}", r._replace(patterns=r.patterns[:i] + r.patterns[i + 1 :])
-        if len(p) > 1 and len(p[1]) > 1:
-            for n in p[1]:
-                yield f"not for {p[0]} {n}", r._replace(patterns=r.patterns[:i] + [(p[0], [m for m in p[1] if m != n])] + r.patterns[i + 1 :])
 
 
 def sample(rng, items, count):
@@ -55,7 +27,7 @@ def sample(rng, items, count):
 def main(limit, count, again=None):
     sys.setrecursionlimit(1500)
     rows = (ROOT / "tests" / "standard" / "trees" / "rows.jsonl").read_text(encoding="utf-8").splitlines()
-    tests = [(row["text"], row["context"], row["scripting"]) for row in map(json.loads, rows)]
+    tests = [changes.of(row) for row in [*map(json.loads, rows), *changes.rows()]]
     tests += choose_rows.candidates(0)
     rng = random.Random(7 if again is None else 8)
     tests += [soups.test(rng) for _ in range(count)]
@@ -69,7 +41,7 @@ def main(limit, count, again=None):
     for mode, rules in MODES.items():
         for index, r in enumerate(list(rules)):
             own = takers[mode, index]
-            for what, new in changes(r):
+            for what, new in changes.changes_of(r):
                 line = f"{mode}: {r.line[:110]}: {what}"
                 if again is not None and line not in again:
                     continue
@@ -78,12 +50,7 @@ def main(limit, count, again=None):
                 if "without" in what or "condition" in what:  # texts that take a later rule of the mode, too
                     for later in range(index + 1, len(rules)):
                         some += sample(rng, takers[mode, later], limit // 4)
-                rules[index : index + 1] = [] if new is None else [new]
-                shown = any(tree(tests[i]) != right[i] for i in some)
-                if new is None:
-                    rules.insert(index, r)
-                else:
-                    rules[index] = r
+                shown = any(changes.changed_tree(tests[i], rules, index, new) != right[i] for i in some)
                 counts["shown" if shown else "not shown"] += 1
                 if not shown:
                     print(line, flush=True)
