@@ -106,6 +106,9 @@ template_ends modes later b end =
     good : Good closed
     good = (end.2.0, end.2.1, dropped_plain b.template_modes end.2.2)
 
+    end_of : (c : Building) → AtEnd (drop 1 modes) c → Unit {0}
+    end_of c h = tt
+
     goes_on : (c : Building) → c.token ≡ AnEof → c.template_modes ≡ closed.template_modes → Good c → c.mode ≡ (perform ResetMode closed).mode → Ends c.mode c
     goes_on c e f g h =
         later c (e, f ∙ ap (λ (ms : List Mode). drop 1 ms) end.1, g) (ap is_plain h ∙ plain_reset closed good)
@@ -156,6 +159,10 @@ looser zero [] h = tt
 looser zero (m ∷ ms) h = absurd h
 looser (suc n) [] h = tt
 looser (suc n) (m ∷ ms) h = looser n ms h
+
+none_within : (n : ℕ) → Within n []
+none_within zero = tt
+none_within (suc n) = tt
 
 pub size : List ℕ → ℕ
 size [] = zero

@@ -33,6 +33,10 @@ pub either : (x y : Bool) → x || y ≡ true → (x ≡ true) ⊎ (y ≡ true)
 either true y h = inl refl
 either false y h = inr h
 
+pub cases : (x : Bool) → (x ≡ true) ⊎ (x ≡ false)
+cases true = inl refl
+cases false = inr refl
+
 -- ---- modes
 
 -- the original insertion mode and the template insertion modes are among the plain ones

@@ -41,6 +41,10 @@ abbrev pub returns_well : Act → Bool
 returns_well (ReturnTo state) = is_return state
 returns_well _ = true
 
+abbrev pub is_end : Mark → Bool
+is_end End = true
+is_end _ = false
+
 -- what comes first in the text that is left: nothing, one of the characters that end an attribute's name, or another character
 pub data Front : Type 0 where
   AtEnd Elsewhere : Front
