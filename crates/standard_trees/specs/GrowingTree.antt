@@ -120,7 +120,7 @@ implied_of names but t = with_stack t (beyond (λ n. is_one t names n && not (is
 -- ---- scopes (13.2.4.2)
 
 -- "has an element in the specific scope": from the current node up, a wanted element comes before one that ends the scope
-abbrev pub in_scope : (ℕ → Bool) → (ℕ → Bool) → List ℕ → Bool
+abbrev pub in_scope : {X : Type 0} → (X → Bool) → (X → Bool) → List X → Bool
 in_scope wanted ends [] = false
 in_scope wanted ends (n ∷ ns) = wanted n || (not (ends n) && in_scope wanted ends ns)
 

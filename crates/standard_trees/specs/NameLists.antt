@@ -62,6 +62,22 @@ html_points = codes "svg foreignObject" ∷ codes "svg desc" ∷ codes "svg titl
 abbrev pub html_encodings : List (List ℕ)
 html_encodings = codes "text/html" ∷ codes "application/xhtml+xml" ∷ []
 
+abbrev pub table_context : List (List ℕ)
+table_context = codes "table" ∷ codes "template" ∷ codes "html" ∷ []
+
+abbrev pub table_body_context : List (List ℕ)
+table_body_context = codes "tbody" ∷ codes "tfoot" ∷ codes "thead" ∷ codes "template" ∷ codes "html" ∷ []
+
+abbrev pub table_row_context : List (List ℕ)
+table_row_context = codes "tr" ∷ codes "template" ∷ codes "html" ∷ []
+
+abbrev pub breakouts : List (List ℕ)
+breakouts = codes "b" ∷ codes "big" ∷ codes "blockquote" ∷ codes "body" ∷ codes "br" ∷ codes "center" ∷ codes "code" ∷ codes "dd" ∷
+    codes "div" ∷ codes "dl" ∷ codes "dt" ∷ codes "em" ∷ codes "embed" ∷ codes "h1" ∷ codes "h2" ∷ codes "h3" ∷ codes "h4" ∷ codes "h5" ∷
+    codes "h6" ∷ codes "head" ∷ codes "hr" ∷ codes "i" ∷ codes "img" ∷ codes "li" ∷ codes "listing" ∷ codes "menu" ∷ codes "meta" ∷
+    codes "nobr" ∷ codes "ol" ∷ codes "p" ∷ codes "pre" ∷ codes "ruby" ∷ codes "s" ∷ codes "small" ∷ codes "span" ∷ codes "strong" ∷
+    codes "strike" ∷ codes "sub" ∷ codes "sup" ∷ codes "table" ∷ codes "tt" ∷ codes "u" ∷ codes "ul" ∷ codes "var" ∷ []
+
 abbrev pub svg_names : List (List ℕ)
 svg_names = codes "altGlyph" ∷ codes "altGlyphDef" ∷ codes "altGlyphItem" ∷ codes "animateColor" ∷ codes "animateMotion" ∷
     codes "animateTransform" ∷ codes "clipPath" ∷ codes "feBlend" ∷ codes "feColorMatrix" ∷ codes "feComponentTransfer" ∷

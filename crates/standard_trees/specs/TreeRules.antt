@@ -2,7 +2,7 @@
 -- tests/standard/trees/definition.py.
 use Rattle.std.specs.Prelude.{Bool, List, [], codes, cond, ℕ, ◌∷◌}
 use Rattle.standard_tokens.specs.States.{Data, PLAINTEXT, RAWTEXT, RCDATA, ScriptData, State}
-use Rattle.standard_trees.specs.NameLists.{fostering_names, headings}
+use Rattle.standard_trees.specs.NameLists.{breakouts, fostering_names, headings, table_body_context, table_context, table_row_context}
 use Rattle.standard_trees.specs.RuleWords.{AddToPending, AdjustForeignAttributes, AdjustMathmlAttributes, AdjustSvgAttributes}
 use Rattle.standard_trees.specs.RuleWords.{AdjustSvgName, AdjustedCurrentNode, AdjustedCurrentNodeInHtml, AdjustedCurrentNodeInMathml}
 use Rattle.standard_trees.specs.RuleWords.{AdoptionAgency, AfterAfterBody, AfterAfterFrameset, AfterBody, AfterFrameset, AfterHead}
@@ -414,20 +414,20 @@ rules InTable =
     -- doctype: ignore
     rule (Doctype ∷ []) [] ([]) ∷
     -- <caption>: pop up to table template html, list marker, insert element, switch to "in caption"
-    rule (StartTagOf (codes "caption" ∷ []) ∷ []) [] (does (PopUpTo (These (codes "table" ∷ codes "template" ∷ codes "html" ∷ []))) [] ∷
-    does ListMarker [] ∷ does InsertElement [] ∷ does (SwitchTo InCaption) [] ∷ []) ∷
+    rule (StartTagOf (codes "caption" ∷ []) ∷ []) [] (does (PopUpTo (These table_context)) [] ∷ does ListMarker [] ∷ does InsertElement [] ∷
+    does (SwitchTo InCaption) [] ∷ []) ∷
     -- <colgroup>: pop up to table template html, insert element, switch to "in column group"
-    rule (StartTagOf (codes "colgroup" ∷ []) ∷ []) [] (does (PopUpTo (These (codes "table" ∷ codes "template" ∷ codes "html" ∷ []))) [] ∷
-    does InsertElement [] ∷ does (SwitchTo InColumnGroup) [] ∷ []) ∷
+    rule (StartTagOf (codes "colgroup" ∷ []) ∷ []) [] (does (PopUpTo (These table_context)) [] ∷ does InsertElement [] ∷
+    does (SwitchTo InColumnGroup) [] ∷ []) ∷
     -- <col>: pop up to table template html, insert element colgroup, switch to "in column group", reprocess
-    rule (StartTagOf (codes "col" ∷ []) ∷ []) [] (does (PopUpTo (These (codes "table" ∷ codes "template" ∷ codes "html" ∷ []))) [] ∷
-    does (InsertNamed (codes "colgroup")) [] ∷ does (SwitchTo InColumnGroup) [] ∷ goes Reprocess ∷ []) ∷
+    rule (StartTagOf (codes "col" ∷ []) ∷ []) [] (does (PopUpTo (These table_context)) [] ∷ does (InsertNamed (codes "colgroup")) [] ∷
+    does (SwitchTo InColumnGroup) [] ∷ goes Reprocess ∷ []) ∷
     -- <tbody tfoot thead>: pop up to table template html, insert element, switch to "in table body"
-    rule (StartTagOf (codes "tbody" ∷ codes "tfoot" ∷ codes "thead" ∷ []) ∷ []) [] (does (PopUpTo (These (codes "table" ∷ codes "template" ∷
-    codes "html" ∷ []))) [] ∷ does InsertElement [] ∷ does (SwitchTo InTableBody) [] ∷ []) ∷
+    rule (StartTagOf (codes "tbody" ∷ codes "tfoot" ∷ codes "thead" ∷ []) ∷ []) [] (does (PopUpTo (These table_context)) [] ∷
+    does InsertElement [] ∷ does (SwitchTo InTableBody) [] ∷ []) ∷
     -- <td th tr>: pop up to table template html, insert element tbody, switch to "in table body", reprocess
-    rule (StartTagOf (codes "td" ∷ codes "th" ∷ codes "tr" ∷ []) ∷ []) [] (does (PopUpTo (These (codes "table" ∷ codes "template" ∷
-    codes "html" ∷ []))) [] ∷ does (InsertNamed (codes "tbody")) [] ∷ does (SwitchTo InTableBody) [] ∷ goes Reprocess ∷ []) ∷
+    rule (StartTagOf (codes "td" ∷ codes "th" ∷ codes "tr" ∷ []) ∷ []) [] (does (PopUpTo (These table_context)) [] ∷
+    does (InsertNamed (codes "tbody")) [] ∷ does (SwitchTo InTableBody) [] ∷ goes Reprocess ∷ []) ∷
     -- <table> if not in table scope table: ignore
     rule (StartTagOf (codes "table" ∷ []) ∷ []) (isnt (InScope TableScope (These (codes "table" ∷ []))) ∷ []) ([]) ∷
     -- <table>: pop until table, reset mode, reprocess
@@ -516,24 +516,24 @@ rules InColumnGroup =
 -- 13.2.6.4.13
 rules InTableBody =
     -- <tr>: pop up to tbody tfoot thead template html, insert element, switch to "in row"
-    rule (StartTagOf (codes "tr" ∷ []) ∷ []) [] (does (PopUpTo (These (codes "tbody" ∷ codes "tfoot" ∷ codes "thead" ∷ codes "template" ∷
-    codes "html" ∷ []))) [] ∷ does InsertElement [] ∷ does (SwitchTo InRow) [] ∷ []) ∷
+    rule (StartTagOf (codes "tr" ∷ []) ∷ []) [] (does (PopUpTo (These table_body_context)) [] ∷ does InsertElement [] ∷
+    does (SwitchTo InRow) [] ∷ []) ∷
     -- <th td>: pop up to tbody tfoot thead template html, insert element tr, switch to "in row", reprocess
-    rule (StartTagOf (codes "th" ∷ codes "td" ∷ []) ∷ []) [] (does (PopUpTo (These (codes "tbody" ∷ codes "tfoot" ∷ codes "thead" ∷
-    codes "template" ∷ codes "html" ∷ []))) [] ∷ does (InsertNamed (codes "tr")) [] ∷ does (SwitchTo InRow) [] ∷ goes Reprocess ∷ []) ∷
+    rule (StartTagOf (codes "th" ∷ codes "td" ∷ []) ∷ []) [] (does (PopUpTo (These table_body_context)) [] ∷
+    does (InsertNamed (codes "tr")) [] ∷ does (SwitchTo InRow) [] ∷ goes Reprocess ∷ []) ∷
     -- </tbody tfoot thead> if not in table scope own: ignore
     rule (EndTagOf (codes "tbody" ∷ codes "tfoot" ∷ codes "thead" ∷ []) ∷ []) (isnt (InScope TableScope Own) ∷ []) ([]) ∷
     -- </tbody tfoot thead>: pop up to tbody tfoot thead template html, pop, switch to "in table"
-    rule (EndTagOf (codes "tbody" ∷ codes "tfoot" ∷ codes "thead" ∷ []) ∷ []) [] (does (PopUpTo (These (codes "tbody" ∷ codes "tfoot" ∷
-    codes "thead" ∷ codes "template" ∷ codes "html" ∷ []))) [] ∷ does Pop [] ∷ does (SwitchTo InTable) [] ∷ []) ∷
+    rule (EndTagOf (codes "tbody" ∷ codes "tfoot" ∷ codes "thead" ∷ []) ∷ []) [] (does (PopUpTo (These table_body_context)) [] ∷
+    does Pop [] ∷ does (SwitchTo InTable) [] ∷ []) ∷
     -- <caption col colgroup tbody tfoot thead> or </table> if not in table scope tbody thead tfoot: ignore
     rule (StartTagOf (codes "caption" ∷ codes "col" ∷ codes "colgroup" ∷ codes "tbody" ∷ codes "tfoot" ∷ codes "thead" ∷ []) ∷
     EndTagOf (codes "table" ∷ []) ∷ []) (isnt (InScope TableScope (These (codes "tbody" ∷ codes "thead" ∷ codes "tfoot" ∷ []))) ∷
     []) ([]) ∷
     -- <caption col colgroup tbody tfoot thead> or </table>: pop up to tbody tfoot thead template html, pop, switch to "in table", reprocess
     rule (StartTagOf (codes "caption" ∷ codes "col" ∷ codes "colgroup" ∷ codes "tbody" ∷ codes "tfoot" ∷ codes "thead" ∷ []) ∷
-    EndTagOf (codes "table" ∷ []) ∷ []) [] (does (PopUpTo (These (codes "tbody" ∷ codes "tfoot" ∷ codes "thead" ∷ codes "template" ∷
-    codes "html" ∷ []))) [] ∷ does Pop [] ∷ does (SwitchTo InTable) [] ∷ goes Reprocess ∷ []) ∷
+    EndTagOf (codes "table" ∷ []) ∷ []) [] (does (PopUpTo (These table_body_context)) [] ∷ does Pop [] ∷ does (SwitchTo InTable) [] ∷
+    goes Reprocess ∷ []) ∷
     -- </body caption col colgroup html td th tr>: ignore
     rule (EndTagOf (codes "body" ∷ codes "caption" ∷ codes "col" ∷ codes "colgroup" ∷ codes "html" ∷ codes "td" ∷ codes "th" ∷ codes "tr" ∷
     []) ∷ []) [] ([]) ∷
@@ -542,28 +542,28 @@ rules InTableBody =
 -- 13.2.6.4.14
 rules InRow =
     -- <th td>: pop up to tr template html, insert element, switch to "in cell", list marker
-    rule (StartTagOf (codes "th" ∷ codes "td" ∷ []) ∷ []) [] (does (PopUpTo (These (codes "tr" ∷ codes "template" ∷ codes "html" ∷
-    []))) [] ∷ does InsertElement [] ∷ does (SwitchTo InCell) [] ∷ does ListMarker [] ∷ []) ∷
+    rule (StartTagOf (codes "th" ∷ codes "td" ∷ []) ∷ []) [] (does (PopUpTo (These table_row_context)) [] ∷ does InsertElement [] ∷
+    does (SwitchTo InCell) [] ∷ does ListMarker [] ∷ []) ∷
     -- </tr> if not in table scope tr: ignore
     rule (EndTagOf (codes "tr" ∷ []) ∷ []) (isnt (InScope TableScope (These (codes "tr" ∷ []))) ∷ []) ([]) ∷
     -- </tr>: pop up to tr template html, pop, switch to "in table body"
-    rule (EndTagOf (codes "tr" ∷ []) ∷ []) [] (does (PopUpTo (These (codes "tr" ∷ codes "template" ∷ codes "html" ∷ []))) [] ∷ does Pop [] ∷
-    does (SwitchTo InTableBody) [] ∷ []) ∷
+    rule (EndTagOf (codes "tr" ∷ []) ∷ []) [] (does (PopUpTo (These table_row_context)) [] ∷ does Pop [] ∷ does (SwitchTo InTableBody) [] ∷
+    []) ∷
     -- <caption col colgroup tbody tfoot thead tr> or </table> if not in table scope tr: ignore
     rule (StartTagOf (codes "caption" ∷ codes "col" ∷ codes "colgroup" ∷ codes "tbody" ∷ codes "tfoot" ∷ codes "thead" ∷ codes "tr" ∷ []) ∷
     EndTagOf (codes "table" ∷ []) ∷ []) (isnt (InScope TableScope (These (codes "tr" ∷ []))) ∷ []) ([]) ∷
     -- <caption col colgroup tbody tfoot thead tr> or </table>: pop up to tr template html, pop, switch to "in table body", reprocess
     rule (StartTagOf (codes "caption" ∷ codes "col" ∷ codes "colgroup" ∷ codes "tbody" ∷ codes "tfoot" ∷ codes "thead" ∷ codes "tr" ∷ []) ∷
-    EndTagOf (codes "table" ∷ []) ∷ []) [] (does (PopUpTo (These (codes "tr" ∷ codes "template" ∷ codes "html" ∷ []))) [] ∷
-    does Pop [] ∷ does (SwitchTo InTableBody) [] ∷ goes Reprocess ∷ []) ∷
+    EndTagOf (codes "table" ∷ []) ∷ []) [] (does (PopUpTo (These table_row_context)) [] ∷ does Pop [] ∷ does (SwitchTo InTableBody) [] ∷
+    goes Reprocess ∷ []) ∷
     -- </tbody tfoot thead> if not in table scope own: ignore
     rule (EndTagOf (codes "tbody" ∷ codes "tfoot" ∷ codes "thead" ∷ []) ∷ []) (isnt (InScope TableScope Own) ∷ []) ([]) ∷
     -- </tbody tfoot thead> if not in table scope tr: ignore
     rule (EndTagOf (codes "tbody" ∷ codes "tfoot" ∷ codes "thead" ∷ []) ∷ []) (isnt (InScope TableScope (These (codes "tr" ∷ []))) ∷
     []) ([]) ∷
     -- </tbody tfoot thead>: pop up to tr template html, pop, switch to "in table body", reprocess
-    rule (EndTagOf (codes "tbody" ∷ codes "tfoot" ∷ codes "thead" ∷ []) ∷ []) [] (does (PopUpTo (These (codes "tr" ∷ codes "template" ∷
-    codes "html" ∷ []))) [] ∷ does Pop [] ∷ does (SwitchTo InTableBody) [] ∷ goes Reprocess ∷ []) ∷
+    rule (EndTagOf (codes "tbody" ∷ codes "tfoot" ∷ codes "thead" ∷ []) ∷ []) [] (does (PopUpTo (These table_row_context)) [] ∷
+    does Pop [] ∷ does (SwitchTo InTableBody) [] ∷ goes Reprocess ∷ []) ∷
     -- </body caption col colgroup html td th>: ignore
     rule (EndTagOf (codes "body" ∷ codes "caption" ∷ codes "col" ∷ codes "colgroup" ∷ codes "html" ∷ codes "td" ∷ codes "th" ∷ []) ∷
     []) [] ([]) ∷
@@ -717,14 +717,8 @@ rules ForeignContent =
     rule (Comment ∷ []) [] (does InsertComment [] ∷ []) ∷
     -- doctype: ignore
     rule (Doctype ∷ []) [] ([]) ∷
-    -- <b big blockquote body br center code dd div dl dt em embed $headings head hr i img li listing menu meta nobr ol p pre ruby s small
-    --    span strong strike sub sup table tt u ul var>: pop foreign elements, use current mode
-    rule (StartTagOf (codes "b" ∷ codes "big" ∷ codes "blockquote" ∷ codes "body" ∷ codes "br" ∷ codes "center" ∷ codes "code" ∷
-    codes "dd" ∷ codes "div" ∷ codes "dl" ∷ codes "dt" ∷ codes "em" ∷ codes "embed" ∷ codes "h1" ∷ codes "h2" ∷ codes "h3" ∷
-    codes "h4" ∷ codes "h5" ∷ codes "h6" ∷ codes "head" ∷ codes "hr" ∷ codes "i" ∷ codes "img" ∷ codes "li" ∷ codes "listing" ∷
-    codes "menu" ∷ codes "meta" ∷ codes "nobr" ∷ codes "ol" ∷ codes "p" ∷ codes "pre" ∷ codes "ruby" ∷ codes "s" ∷ codes "small" ∷
-    codes "span" ∷ codes "strong" ∷ codes "strike" ∷ codes "sub" ∷ codes "sup" ∷ codes "table" ∷ codes "tt" ∷ codes "u" ∷ codes "ul" ∷
-    codes "var" ∷ []) ∷ []) [] (does PopForeignElements [] ∷ goes UseCurrentMode ∷ []) ∷
+    -- <$breakouts>: pop foreign elements, use current mode
+    rule (StartTagOf breakouts ∷ []) [] (does PopForeignElements [] ∷ goes UseCurrentMode ∷ []) ∷
     -- <font> if any attribute color face size: pop foreign elements, use current mode
     rule (StartTagOf (codes "font" ∷ []) ∷ []) (is (AnyAttribute (codes "color" ∷ codes "face" ∷ codes "size" ∷ [])) ∷
     []) (does PopForeignElements [] ∷ goes UseCurrentMode ∷ []) ∷
