@@ -1,7 +1,7 @@
 use Rattle.std.proofs.Common.{sym, ◌∙◌}
 use Rattle.page_trees.specs.Sets.{ends_context}
 use Rattle.page_trees.proofs.PoppingLemmas.{front_shorter, goes_past, stops_at}
-use Rattle.page_trees.proofs.stack.OpenElements.depth_of_context.Goals as goal
+use Rattle.page_trees.proofs.stack.OpenElements.up_to_context.Goals as goal
 
 pub returns-then-ends_at : goal.returns-then-ends_at
 returns-then-ends_at c =
