@@ -42,7 +42,7 @@ in_declaration t s ahead m is stands =
     let at : m.state ≡ there.MarkupDeclarationOpen = stands.state ∙ ap state_of is in
     record { comment = held.0; seen = held.1; at = at; machine = ap (at_state m) (sym at) }
 
-one_more : (bytes old_bytes ahead : List ℕ) (c : ℕ) → bytes ≡ old_bytes ++ encode_utf8 c → old_bytes ≡ encode_utf8_all ahead → bytes ≡ encode_utf8_all (ahead ++ c ∷ [])
+pub one_more : (bytes old_bytes ahead : List ℕ) (c : ℕ) → bytes ≡ old_bytes ++ encode_utf8 c → old_bytes ≡ encode_utf8_all ahead → bytes ≡ encode_utf8_all (ahead ++ c ∷ [])
 one_more bytes old_bytes ahead c is old_is =
     is ∙ ap (λ e. e ++ encode_utf8 c) old_is ∙ ap (λ e. encode_utf8_all ahead ++ e) (sym (append-nil (encode_utf8 c))) ∙ sym (encodes-append ahead (c ∷ []))
 
@@ -181,7 +181,8 @@ cdata_begins old new s c told is foreign only goes told_is none =
     (led old made (c ∷ []) memory (record { in_foreign = refl; after_return = refl }) refl (λ m ahead rest stands.
     let at : InDeclaration old s ahead m = in_declaration old s ahead m is stands in
     let n : Machine = at_state m there.CDATASection in
-    let steps : Goes true (at_state m there.MarkupDeclarationOpen) (ahead ++ (c ∷ []) ++ rest) [] n rest = subst (λ text. Goes true (at_state m there.MarkupDeclarationOpen) text [] n rest) (in_front ahead c rest) (subst (Declares true m ahead rest c) (sym goes) (declares true m ahead rest c s at.seen)) in
+    let steps : Goes true (at_state m there.MarkupDeclarationOpen) (ahead ++ (c ∷ []) ++ rest) [] n rest =
+    subst (λ text. Goes true (at_state m there.MarkupDeclarationOpen) text [] n rest) (in_front ahead c rest) (subst (Declares true m ahead rest c) (sym goes) (declares true m ahead rest c s at.seen)) in
     record {
       machine = n;
       goes = subst (λ b. Goes b m (ahead ++ (c ∷ []) ++ rest) [] n rest) (sym foreign) (subst (λ k. Goes true k (ahead ++ (c ∷ []) ++ rest) [] n rest) at.machine steps);
@@ -197,7 +198,8 @@ no_cdata_begins old new s c told is html goes_on goes told_is =
     (led old made (c ∷ []) goes_on.memory (record { in_foreign = refl; after_return = refl }) refl (λ m ahead rest stands.
     let at : InDeclaration old s ahead m = in_declaration old s ahead m is stands in
     let n : Machine = commenting m there.BogusComment (ahead ++ c ∷ []) in
-    let steps : Goes false (at_state m there.MarkupDeclarationOpen) (ahead ++ (c ∷ []) ++ rest) [] n rest = subst (λ text. Goes false (at_state m there.MarkupDeclarationOpen) text [] n rest) (in_front ahead c rest) (subst (Declares false m ahead rest c) (sym goes) (declares false m ahead rest c s at.seen)) in
+    let steps : Goes false (at_state m there.MarkupDeclarationOpen) (ahead ++ (c ∷ []) ++ rest) [] n rest =
+    subst (λ text. Goes false (at_state m there.MarkupDeclarationOpen) text [] n rest) (in_front ahead c rest) (subst (Declares false m ahead rest c) (sym goes) (declares false m ahead rest c s at.seen)) in
     record {
       machine = n;
       goes = subst (λ b. Goes b m (ahead ++ (c ∷ []) ++ rest) [] n rest) (sym html) (subst (λ k. Goes false k (ahead ++ (c ∷ []) ++ rest) [] n rest) at.machine steps);
@@ -218,7 +220,8 @@ bogus_begins old mid new s c told is only remembers goes follows =
     let at : InDeclaration old s ahead m = in_declaration old s ahead m is stands in
     let b : Bool = old.in_foreign in
     let n : Machine = commenting m there.BogusComment ahead in
-    let steps : Goes b (at_state m there.MarkupDeclarationOpen) (ahead ++ (c ∷ []) ++ rest) [] n (c ∷ rest) = subst (λ text. Goes b (at_state m there.MarkupDeclarationOpen) text [] n (c ∷ rest)) (in_front ahead c rest) (subst (Declares b m ahead rest c) (sym goes) (declares b m ahead rest c s at.seen)) in
+    let steps : Goes b (at_state m there.MarkupDeclarationOpen) (ahead ++ (c ∷ []) ++ rest) [] n (c ∷ rest) =
+    subst (λ text. Goes b (at_state m there.MarkupDeclarationOpen) text [] n (c ∷ rest)) (in_front ahead c rest) (subst (Declares b m ahead rest c) (sym goes) (declares b m ahead rest c s at.seen)) in
     record {
       machine = n;
       goes = subst (λ k. Goes b k (ahead ++ (c ∷ []) ++ rest) [] n (c ∷ rest)) at.machine steps;

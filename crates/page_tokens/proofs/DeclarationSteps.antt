@@ -127,16 +127,16 @@ is_lower a x is high = grind arith
 itself : (a : ℕ) → 62 < a → Itself a
 itself a high = record { no_end = grind arith; no_null = grind arith }
 
-abbrev High : List ℕ → Type 0
+abbrev pub High : List ℕ → Type 0
 High [] = Unit {0}
 High (x ∷ xs) = (90 < x) × High xs
 
-high_taken : (n : ℕ) (xs : List ℕ) → High xs → High (take n xs)
+pub high_taken : (n : ℕ) (xs : List ℕ) → High xs → High (take n xs)
 high_taken zero xs all = tt
 high_taken (suc n) [] all = tt
 high_taken (suc n) (x ∷ xs) all = (all.0, high_taken n xs all.1)
 
-lower_themselves : (ahead xs : List ℕ) → map to_ascii_lowercase ahead ≡ xs → High xs → AllThemselves ahead
+pub lower_themselves : (ahead xs : List ℕ) → map to_ascii_lowercase ahead ≡ xs → High xs → AllThemselves ahead
 lower_themselves [] xs is all = tt
 lower_themselves (a ∷ ahead) [] is all = absurd (cc)
 lower_themselves (a ∷ ahead) (x ∷ xs) is all = (itself a (is_lower a x (cc) all.0), lower_themselves ahead xs (cc) all.1)

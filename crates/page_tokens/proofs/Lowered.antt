@@ -53,3 +53,11 @@ pub one_lowered : (old more name : List ℕ) (c : ℕ) → map to_ascii_lowercas
 one_lowered old more name c is more_is =
     map_append to_ascii_lowercase old more ∙ ap (λ t. t ++ map to_ascii_lowercase more) is ∙ ap (λ t. encode_utf8_all name ++ map to_ascii_lowercase t) more_is
     ∙ ap (λ t. encode_utf8_all name ++ t) (lowered_encoded c ∙ sym (append-nil (encode_utf8 (to_ascii_lowercase c)))) ∙ sym (encodes-append name (to_ascii_lowercase c ∷ []))
+
+-- a name in lower case stays as it is
+once : (c : ℕ) → to_ascii_lowercase (to_ascii_lowercase c) ≡ to_ascii_lowercase c
+once c = grind arith
+
+pub lowered_once : (bs : List ℕ) → map to_ascii_lowercase (map to_ascii_lowercase bs) ≡ map to_ascii_lowercase bs
+lowered_once [] = refl
+lowered_once (b ∷ bs) = ap (λ x. x ∷ map to_ascii_lowercase (map to_ascii_lowercase bs)) (once b) ∙ ap (λ t. to_ascii_lowercase b ∷ t) (lowered_once bs)

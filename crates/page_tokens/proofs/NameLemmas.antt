@@ -1,5 +1,6 @@
 -- The names that begin with a text stand side by side, and so do those of them with one next character.
-use Rattle.std.proofs.Common.{◌≡◌, ℕ, zero, suc, ◌+◌, ◌<◌, ◌≤◌, ◌⊎◌, ◌↔◌, true, List, [], ◌∷◌, ◌++◌, take, length, refl, sym, ap, ap₂, subst, ◌∙◌, arith, inl, inr, length-take-le, take_all, le_of_suc-le-suc, suc-le-suc, zero-le, le_refl, le_of_eq, le_trans, lt_of_le_of_lt, lt_of_lt_of_le, nat_lt, nat_le, false, get_or, leb-true, leb-false, le-leb, ltb-true, zero-lt-suc, Option, None, Some}
+use Rattle.std.proofs.Common.{◌≡◌, ℕ, zero, suc, ◌+◌, ◌<◌, ◌≤◌, ◌⊎◌, ◌↔◌, true, List, [], ◌∷◌, ◌++◌, take, length, refl, sym, ap, ap₂, subst, ◌∙◌, arith, inl, inr, length-take-le, take_all, le_of_suc-le-suc, suc-le-suc, zero-le, le_refl, le_of_eq, le_trans, lt_of_le_of_lt, lt_of_lt_of_le, nat_lt}
+use Rattle.std.proofs.Common.{nat_le, false, get_or, leb-true, leb-false, le-leb, ltb-true, zero-lt-suc, Option, None, Some}
 use Rattle.std.proofs.lemmas.Bool.{cases_lt, and_parts}
 use Rattle.std.proofs.lemmas.Bool.Decides.{nat_tests}
 use Rattle.std.proofs.lemmas.List.{length_push}

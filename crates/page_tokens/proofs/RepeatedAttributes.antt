@@ -53,7 +53,7 @@ pub distinct_with : (a : Attr) (attrs : List Attr) → distinct (reverse (a ∷ 
 distinct_with a attrs = ap distinct (reverse-append (a ∷ []) attrs) ∙ distinct_snoc [] (reverse attrs) a
 
 -- names are the same as bytes and as characters
-same_names : (a b xs ys : List ℕ) → a ≡ encode_utf8_all xs → b ≡ encode_utf8_all ys → bytes_eq a b ≡ bytes_eq xs ys
+pub same_names : (a b xs ys : List ℕ) → a ≡ encode_utf8_all xs → b ≡ encode_utf8_all ys → bytes_eq a b ≡ bytes_eq xs ys
 same_names a b xs ys one other =
     same_from_decides _ _ (Decides-like _ (λ e. encodes_same xs ys (sym one ∙ e ∙ other)) (λ e. one ∙ ap encode_utf8_all e ∙ sym other) (bytes_eq-Decides a b)) (bytes_eq-Decides xs ys)
 

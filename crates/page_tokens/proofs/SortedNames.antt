@@ -1,5 +1,6 @@
 -- The names of the table stand in the order of their bytes: shown by computing over the table.
-use Rattle.std.proofs.Common.{◌≡◌, ℕ, zero, suc, ◌+◌, ◌-◌, ◌<◌, ◌≤◌, ◌⊎◌, Bool, true, false, ◌&&◌, ◌||◌, ◌==◌, nat_lt, nat_le, List, [], ◌∷◌, take, drop, length, get_or, slice_index, slice_range, refl, sym, ap, ap₂, subst, ◌∙◌, arith, inl, inr, ltb-true, lt-ltb, eqb-true, eq-eqb, leb-true, drop-drop, length-take, length-drop, add-one, le_of_suc-le-suc, le_of_lt, Option, Some}
+use Rattle.std.proofs.Common.{◌≡◌, ℕ, zero, suc, ◌+◌, ◌-◌, ◌<◌, ◌≤◌, ◌⊎◌, Bool, true, false, ◌&&◌, ◌||◌, ◌==◌, nat_lt, nat_le, List, [], ◌∷◌, take, drop, length, get_or, slice_index, slice_range, refl, sym, ap, ap₂, subst, ◌∙◌, arith, inl, inr, ltb-true, lt-ltb, eqb-true, eq-eqb, leb-true}
+use Rattle.std.proofs.Common.{drop-drop, length-take, length-drop, add-one, le_of_suc-le-suc, le_of_lt, Option, Some}
 use Rattle.std.proofs.lemmas.Bool.{and_parts, and_from, or_cases, or_left, or_right, cases_order}
 use Rattle.page_tokens.specs.declared.named_references.table.TheConstants.{LETTERS, STARTS, FIRSTS, SECONDS}
 use Rattle.std.specs.Char.{IsScalar}

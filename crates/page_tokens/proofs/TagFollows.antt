@@ -26,6 +26,7 @@ use Rattle.page_tokens.specs.declared.token.TokenKind.TheVariants as token
 use Rattle.page_tokens.specs.declared.tokenizer.Tokenizer.{Tokenizer}
 use Rattle.page_tokens.specs.declared.tokenizer.state.State.TheVariants as state
 use Rattle.page_tokens.specs.declared.tokenizer.draft.TagDraft.{TagDraft}
+use Rattle.page_tokens.proofs.Lowered.{lowered_once}
 use Rattle.page_tokens.proofs.RepeatedAttributes.{finished_first, finished_twice}
 
 -- what is held of attributes, once the one that was being read is finished
@@ -42,7 +43,7 @@ finished_attrs old new name value attr attrs are name_is value_is adds = go (lis
         (finished_first old attrs attr k are (record { name = more.2 ∙ name_is; value = more.3 ∙ value_is }) (ap (λ n. list_any (is_named n) old) more.2 ∙ has))
 
 -- with an attribute that is being read
-unfinished : (kept : List TagAttr) (name value : List ℕ) (attrs : List Attr) → 0 < length name → HoldsAttrs kept name value attrs →
+pub unfinished : (kept : List TagAttr) (name value : List ℕ) (attrs : List Attr) → 0 < length name → HoldsAttrs kept name value attrs →
     (attr : Attr) × (older : List Attr) × (attrs ≡ attr ∷ older) × (map to_ascii_lowercase name ≡ encode_utf8_all attr.name) × (value ≡ encode_utf8_all attr.value) × AreAttrs kept (distinct (reverse older))
 unfinished kept [] value attrs some held = absurd (omega (arith, some))
 unfinished kept (b ∷ name) value [] some held = absurd held
@@ -106,15 +107,16 @@ last_is draft None other none is of = of
 last_is draft (Some tag) other none is of = tag_of_draft draft tag other none is of
 
 -- and so is the name of the last start tag
-last_start_is : (ended : Option Tag) (other : StandardTag) (old new : Tokenizer) (was : Option (List ℕ)) → IsSomeAnd ended (IsTag other) → NotesStart ended old new → IsLast old.last_start was → IsLast new.last_start (last_start_of other was)
-last_start_is None other old new was is notes last = absurd is
-last_start_is (Some tag) other old new was is notes last = go tag.kind refl notes
+last_start_is : (draft : TagDraft) (ended : Option Tag) (other : StandardTag) (old new : Tokenizer) (was : Option (List ℕ)) → IsSomeAnd ended (IsTag other) → IsSomeAnd ended (IsTagOf draft) → NotesStart ended old new → IsLast old.last_start was → IsLast new.last_start (last_start_of other was)
+last_start_is draft None other old new was is of_draft notes last = absurd is
+last_start_is draft (Some tag) other old new was is of_draft notes last = go tag.kind refl notes
   where
     of : (one : TagKind) (that : StandardKind) → kind_of one ≡ that → IsLast new.last_start (elim (kind_of one) [ Starting ↦ Some other.name | Ending ↦ was ]) → IsLast new.last_start (elim that [ Starting ↦ Some other.name | Ending ↦ was ])
     of one that e = subst (λ (k : StandardKind). IsLast new.last_start (elim k [ Starting ↦ Some other.name | Ending ↦ was ])) e
 
     go : (one : TagKind) → tag.kind ≡ one → NotesKind one tag old new → IsLast new.last_start (last_start_of other was)
-    go kind.Start e noted = of kind.Start other.kind (sym (ap kind_of e) ∙ is.kind) (noted ∙ is.name)
+    go kind.Start e noted = of kind.Start other.kind (sym (ap kind_of e) ∙ is.kind)
+        (noted ∙ is.name, ap (map to_ascii_lowercase) (noted ∙ of_draft.name) ∙ lowered_once (string_bytes draft.name) ∙ sym (noted ∙ of_draft.name))
     go kind.End e noted = of kind.End other.kind (sym (ap kind_of e) ∙ is.kind) (subst (λ name. IsLast name was) (sym noted) last)
 
 -- what emitting a tag comes to: `done` is the tokenizer with the attribute finished, `checked` with errors
@@ -142,6 +144,6 @@ emits old done checked new draft ended told done_is none some checked_is remembe
       same_reference = ap (λ t. t.reference) new_is ∙ ap (λ t. t.reference) checked_is ∙ ap (λ t. t.reference) done_is;
       text = ap text_of new_is ∙ ap text_of checked_is ∙ ap text_of done_is;
       last_tag = λ other is. subst (λ (e : Option Tag). IsSomeAnd e (IsTag other)) (sym (ap (λ t. t.ended) new_is)) (last other is);
-      last_start = λ other is was before. last_start_is ended other (record checked { tag = draft; ended = ended }) new was (last other is) notes
+      last_start = λ other is was before. last_start_is checked.tag ended other (record checked { tag = draft; ended = ended }) new was (last other is) of notes
           (subst (λ name. IsLast name was) (sym (ap (λ t. t.last_start) checked_is ∙ ap (λ t. t.last_start) done_is)) before);
     }

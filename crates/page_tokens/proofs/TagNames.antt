@@ -38,10 +38,11 @@ use Rattle.page_tokens.proofs.TagSteps.{IsNameLetter, name_letter, naming}
 abbrev pub HoldsDraft : State → Type 0
 HoldsDraft from = (t : Tokenizer) (ahead : List ℕ) (m : Machine) → Held from t ahead m → IsDraft t.tag m.tag
 
-pub emitted_tag : (old new : Tokenizer) (from : State) (told : Option TokenKind) → old.state ≡ from → Keeps old new → (0 < length (string_bytes old.tag.name) → EmitsTag old new told) →
-    ((b : Bool) (m : Machine) (rest : List ℕ) → taken b (at_state m (state_of from)) (62 ∷ rest) (entries (state_of from)) ≡ taking (EmitTag ∷ []) (Switch there.Data) (62 ∷ [])) →
+-- where the machine stands, the entry is this one
+pub emitted_tag_where : (old new : Tokenizer) (from : State) (told : Option TokenKind) → old.state ≡ from → Keeps old new → (0 < length (string_bytes old.tag.name) → EmitsTag old new told) →
+    ((b : Bool) (m : Machine) (ahead rest : List ℕ) → Stands old ahead m → taken b (at_state m (state_of from)) (62 ∷ rest) (entries (state_of from)) ≡ taking (EmitTag ∷ []) (Switch there.Data) (62 ∷ [])) →
     ReadsNothingAhead from → HoldsDraft from → FollowsStandard old new (62 ∷ []) told
-emitted_tag old new from told is keeps named_emits entry nothing drafted = record {
+emitted_tag_where old new from told is keeps named_emits entry nothing drafted = record {
   memory = keeps.memory;
   leaves = keeps.leaves;
   reads = λ m ahead rest stands.
@@ -52,7 +53,7 @@ emitted_tag old new from told is keeps named_emits entry nothing drafted = recor
       let n : Machine = record m { state = there.Data; last_start = last_start_of m.tag m.last_start } in
       let at : m.state ≡ state_of from = stands.state ∙ ap state_of is in
       let step : Goes b (at_state m (state_of from)) (62 ∷ rest) (token_of m.tag ∷ []) n rest =
-      by_entry (at_state m (state_of from)) (62 ∷ rest) (taking (EmitTag ∷ []) (Switch there.Data) (62 ∷ [])) (entry b m rest) refl in
+      by_entry (at_state m (state_of from)) (62 ∷ rest) (taking (EmitTag ∷ []) (Switch there.Data) (62 ∷ [])) (entry b m ahead rest stands) refl in
       record {
         machine = n;
         ahead' = [];
@@ -71,6 +72,12 @@ emitted_tag old new from told is keeps named_emits entry nothing drafted = recor
       };
 }
 
+-- the entry is this one on every machine
+pub emitted_tag : (old new : Tokenizer) (from : State) (told : Option TokenKind) → old.state ≡ from → Keeps old new → (0 < length (string_bytes old.tag.name) → EmitsTag old new told) →
+    ((b : Bool) (m : Machine) (rest : List ℕ) → taken b (at_state m (state_of from)) (62 ∷ rest) (entries (state_of from)) ≡ taking (EmitTag ∷ []) (Switch there.Data) (62 ∷ [])) →
+    ReadsNothingAhead from → HoldsDraft from → FollowsStandard old new (62 ∷ []) told
+emitted_tag old new from told is keeps named_emits entry nothing drafted = emitted_tag_where old new from told is keeps named_emits (λ b m ahead rest stands. entry b m rest) nothing drafted
+
 -- ---- the name
 
 name_nothing : ReadsNothingAhead (state.Tag tag.Name)
@@ -86,7 +93,7 @@ slash_arm old new c (Ok told) is at only told_is = λ none. subst (λ d. Follows
     (switches old new (state.Tag tag.Name) (state.Tag tag.SelfClosing) 47 told is only told_is none (λ b m rest. refl) name_nothing (λ t other ahead m held. (refl, held.1)))
 slash_arm old new c (Err e) is at only told_is = tt
 
-space_cases : (P : ℕ → Type 0) (c : ℕ) → is_space_of c ≡ true → P 9 → P 10 → P 12 → P 32 → P c
+pub space_cases : (P : ℕ → Type 0) (c : ℕ) → is_space_of c ≡ true → P 9 → P 10 → P 12 → P 32 → P c
 space_cases P c h p9 p10 p12 p32 =
     by_bool (λ e x. (x || e == 10 || e == 12 || e == 32) ≡ true → P e) c 9 (λ _. p9)
     (λ h9. by_bool (λ e x. (x || e == 12 || e == 32) ≡ true → P e) c 10 (λ _. p10)
@@ -109,10 +116,10 @@ greater_arm old new c (Ok told) is at keeps emits = λ none. subst (λ d. Follow
     (emitted_tag old new (state.Tag tag.Name) told is (keeps none) (λ named. emits named none) (λ b m rest. refl) name_nothing name_draft)
 greater_arm old new c (Err e) is at keeps emits = tt
 
-differs : (test : ℕ → Bool) (k c : ℕ) → test c ≡ false → test k ≡ true → (k == c) ≡ false
+pub differs : (test : ℕ → Bool) (k c : ℕ) → test c ≡ false → test k ≡ true → (k == c) ≡ false
 differs test k c fails passes = ne_eqb k c (λ e. true≢false (sym passes ∙ ap test e ∙ fails))
 
-name_letter_of : (c : ℕ) → (c ≡ 47 → ⊥) → (c ≡ 62 → ⊥) → is_space_of c ≡ false → IsNameLetter c
+pub name_letter_of : (c : ℕ) → (c ≡ 47 → ⊥) → (c ≡ 62 → ⊥) → is_space_of c ≡ false → IsNameLetter c
 name_letter_of c no_slash no_greater no_space = record {
   tab = differs is_space_of 9 c no_space refl;
   line_feed = differs is_space_of 10 c no_space refl;
@@ -122,7 +129,7 @@ name_letter_of c no_slash no_greater no_space = record {
   greater = ne_eqb 62 c (λ e. no_greater (sym e));
 }
 
-long : (xs ys : List ℕ) → 0 < length xs → 0 < length (xs ++ ys)
+pub long : (xs ys : List ℕ) → 0 < length xs → 0 < length (xs ++ ys)
 long [] ys h = absurd (omega (arith, h))
 long (x ∷ xs) ys h = omega arith
 

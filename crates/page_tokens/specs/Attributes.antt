@@ -21,4 +21,5 @@ Gains name old new = (other : List ℕ) → contains_text new other ≡ (contain
 -- The attribute is appended, unless there is one with its name.
 abbrev pub AddsAttr : List TagAttr → List TagAttr → List ℕ → List ℕ → Type 0
 AddsAttr old new name value =
-    MatchBool (list_any (is_named name) old) (new ≡ old) ((attr : TagAttr) × (new ≡ old ++ attr ∷ []) × (string_bytes attr.name ≡ name) × (string_bytes attr.value ≡ value))
+    MatchBool (list_any (is_named name) old) (new ≡ old)
+    ((attr : TagAttr) × (new ≡ old ++ attr ∷ []) × (string_bytes attr.name ≡ name) × (string_bytes attr.value ≡ value))

@@ -13,9 +13,11 @@ Remembers old new = new.refused ≡ false → old.refused ≡ false
 -- the bytes are appended at a place, and besides them only errors change
 abbrev pub Gains : Place → Tokenizer → Tokenizer → List ℕ → Type 0
 Gains place.Text old new more =
-    (new ≡ record old { text = new.text; errors = new.errors; refused = new.refused }) × (string_bytes new.text ≡ string_bytes old.text ++ more)
+    (new ≡ record old { text = new.text; errors = new.errors; refused = new.refused })
+    × (string_bytes new.text ≡ string_bytes old.text ++ more)
 Gains place.Comment old new more =
-    (new ≡ record old { comment = new.comment; errors = new.errors; refused = new.refused }) × (string_bytes new.comment ≡ string_bytes old.comment ++ more)
+    (new ≡ record old { comment = new.comment; errors = new.errors; refused = new.refused })
+    × (string_bytes new.comment ≡ string_bytes old.comment ++ more)
 Gains place.TagName old new more =
     (new ≡ record old { tag = record old.tag { name = new.tag.name }; errors = new.errors; refused = new.refused })
     × (string_bytes new.tag.name ≡ string_bytes old.tag.name ++ more)

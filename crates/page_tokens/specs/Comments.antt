@@ -3,7 +3,9 @@ use Rattle.std.specs.Prelude.{◌≡◌, ℕ, ◌==◌, cond, List, [], ◌∷�
 use Rattle.page_tokens.specs.declared.tokenizer.comments.CommentStep.{CommentStep}
 use Rattle.page_tokens.specs.declared.tokenizer.comments.CommentStep.TheVariants as its
 use Rattle.page_tokens.specs.declared.tokenizer.state.CommentState.{CommentState}
-use Rattle.page_tokens.specs.declared.tokenizer.state.CommentState.TheVariants.{Bogus, Start, StartDash, Comment, LessThan, LessThanBang, LessThanBangDash, LessThanBangDashDash, EndDash, End, EndBang}
+use Rattle.page_tokens.specs.declared.tokenizer.state.CommentState.TheVariants.{Bogus, Start, StartDash, Comment, LessThan, LessThanBang}
+use Rattle.page_tokens.specs.declared.tokenizer.state.CommentState.TheVariants.{LessThanBangDash, LessThanBangDashDash, EndDash, End}
+use Rattle.page_tokens.specs.declared.tokenizer.state.CommentState.TheVariants.{EndBang}
 
 -- the part of a comment's end that was read
 abbrev pub begun_end_of : CommentState → List ℕ
@@ -36,9 +38,11 @@ came_of Comment c = Resumes []
 came_of LessThan c = cond (c == 33) (Appends (codes "!") LessThanBang) (cond (c == 60) (Appends (codes "<") LessThan) (Resumes []))
 came_of LessThanBang c = cond (c == 45) (Appends [] LessThanBangDash) (Resumes [])
 came_of LessThanBangDash c = cond (c == 45) (Appends [] LessThanBangDashDash) (Resumes (codes "-"))
-came_of LessThanBangDashDash c = cond (c == 62) Finishes (cond (c == 33) (Appends [] EndBang) (cond (c == 45) (Appends (codes "-") End) (Resumes (codes "--"))))
+came_of LessThanBangDashDash c =
+    cond (c == 62) Finishes (cond (c == 33) (Appends [] EndBang) (cond (c == 45) (Appends (codes "-") End) (Resumes (codes "--"))))
 came_of EndDash c = cond (c == 45) (Appends [] End) (Resumes (codes "-"))
-came_of End c = cond (c == 62) Finishes (cond (c == 33) (Appends [] EndBang) (cond (c == 45) (Appends (codes "-") End) (Resumes (codes "--"))))
+came_of End c =
+    cond (c == 62) Finishes (cond (c == 33) (Appends [] EndBang) (cond (c == 45) (Appends (codes "-") End) (Resumes (codes "--"))))
 came_of EndBang c = cond (c == 62) Finishes (cond (c == 45) (Appends (codes "--!") EndDash) (Resumes (codes "--!")))
 
 -- a null is replaced

@@ -14,7 +14,10 @@ letter_is word n c = option_map_or (λ d. d == c) (slice_get word n) false
 
 -- what begins with what was seen and one more character
 abbrev pub declared_of : Seen → ℕ → Declared
-declared_of seen.Nothing c = cond (c == 45) (it.More seen.Dash) (cond (c == 100 || c == 68) (it.More (seen.Doctype 1)) (cond (c == 91) (it.More (seen.Cdata 1)) it.Bogus))
+declared_of seen.Nothing c =
+    cond (c == 45) (it.More seen.Dash)
+    (cond (c == 100 || c == 68) (it.More (seen.Doctype 1)) (cond (c == 91) (it.More (seen.Cdata 1)) it.Bogus))
 declared_of seen.Dash c = cond (c == 45) it.Comment it.Bogus
-declared_of (seen.Doctype n) c = cond (letter_is (codes "doctype") n (to_ascii_lowercase c)) (cond (n == 6) it.Doctype (it.More (seen.Doctype (n + 1)))) it.Bogus
+declared_of (seen.Doctype n) c =
+    cond (letter_is (codes "doctype") n (to_ascii_lowercase c)) (cond (n == 6) it.Doctype (it.More (seen.Doctype (n + 1)))) it.Bogus
 declared_of (seen.Cdata n) c = cond (letter_is (codes "[CDATA[") n c) (cond (n == 6) it.Cdata (it.More (seen.Cdata (n + 1)))) it.Bogus

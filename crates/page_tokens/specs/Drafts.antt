@@ -38,7 +38,8 @@ pub record FinishesAttr (old new : TagDraft) : Type 0 where
   pub only : new ≡ record old { attrs = new.attrs; attr_name = new.attr_name; attr_value = new.attr_value }
   pub name : string_bytes new.attr_name ≡ []
   pub value : string_bytes new.attr_value ≡ []
-  pub adds : AddsAttr old.attrs.kept.items new.attrs.kept.items (map to_ascii_lowercase (string_bytes old.attr_name)) (string_bytes old.attr_value)
+  pub adds : AddsAttr old.attrs.kept.items new.attrs.kept.items (map to_ascii_lowercase (string_bytes old.attr_name))
+      (string_bytes old.attr_value)
 
 -- the name of a start tag is kept
 abbrev pub NotesKind : TagKind → Tag → Tokenizer → Tokenizer → Type 0

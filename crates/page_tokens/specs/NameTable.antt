@@ -1,5 +1,6 @@
 -- The table of named character references: its names, and which of them start with a given text.
-use Rattle.std.specs.Prelude.{◌≡◌, ℕ, zero, suc, ◌+◌, ◌<◌, ◌≤◌, ◌↔◌, List, [], ◌∷◌, length, take, slice_index, slice_range, Option, None, Some}
+use Rattle.std.specs.Prelude.{◌≡◌, ℕ, zero, suc, ◌+◌, ◌<◌, ◌≤◌, ◌↔◌, List, [], ◌∷◌, length, take, slice_index, slice_range, Option, None}
+use Rattle.std.specs.Prelude.{Some}
 use Rattle.page_tokens.specs.declared.named_references.Value.{Value}
 use Rattle.page_tokens.specs.declared.named_references.table.TheConstants.{LETTERS, STARTS, FIRSTS, SECONDS}
 

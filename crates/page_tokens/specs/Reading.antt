@@ -1,5 +1,5 @@
 -- What a tokenizer has read so far.
-use Rattle.std.specs.Prelude.{◌≡◌, ℕ, Bool, false, List, [], ◌∷◌, ◌++◌, MatchBool, MatchOption, Option, None, Result, IfOk, string_bytes}
+use Rattle.std.specs.Prelude.{◌≡◌, ℕ, false, List, [], ◌∷◌, ◌++◌, ◌⊎◌, MatchOption, Option, None, Result, IfOk, string_bytes}
 use Rattle.std.specs.Borrow.{Bor}
 use Rattle.page_tokens.specs.declared.named_references.Value.{Value}
 use Rattle.page_tokens.specs.declared.tokenizer.Tokenizer.{Tokenizer}
@@ -47,13 +47,18 @@ pub record IsInName (reference : Reference) (read : List ℕ) : Type 0 where
   pub named : reference ≡ Named found
   pub read_is : read_of found.names ≡ read
 
+-- no name is read in the reference
+abbrev pub IsNoName : Reference → Type 0
+IsNoName (Named found) = ⊥
+IsNoName _ = Unit {0}
+
 -- These characters of a name were read, and the character `c` comes. Either a name continues with it, or the value is that of the
 -- longest name with which the text starts, whatever follows.
-abbrev pub IsNameRead : List ℕ → Option Value → ℕ → Reference → Bool → Type 0
-IsNameRead read value c new goes_on = MatchBool goes_on (IsInName new (read ++ c ∷ [])) (IsSettled read c value)
+abbrev pub IsNameRead : List ℕ → Option Value → ℕ → Reference → Type 0
+IsNameRead read value c new = IsInName new (read ++ c ∷ []) ⊎ (IsNoName new × IsSettled read c value)
 
 -- `IsNameRead` after the characters that a match has read
-abbrev pub IsReadBehind : Match → ℕ → Reference → Bool → Type 0
+abbrev pub IsReadBehind : Match → ℕ → Reference → Type 0
 IsReadBehind found = IsNameRead (read_of found.names) found.value
 
 -- the match is extended by one character, or its value is final

@@ -1,5 +1,6 @@
 -- What the tokenizer holds, and what the machine of the HTML Standard's tokenizer (standard_tokens) holds when it has read the same text.
-use Rattle.std.specs.Prelude.{◌≡◌, ℕ, ◌<◌, min, Bool, true, false, List, [], ◌∷◌, ◌++◌, ◌⊎◌, map, length, take, reverse, codes, Option, None, Some, Result, IfOk, String, string_bytes}
+use Rattle.std.specs.Prelude.{◌≡◌, ℕ, ◌<◌, min, Bool, true, false, List, [], ◌∷◌, ◌++◌, ◌⊎◌, map, length, take, reverse, codes, Option}
+use Rattle.std.specs.Prelude.{None, Some, Result, IfOk, String, string_bytes}
 use Rattle.std.specs.Char.{to_ascii_lowercase}
 use Rattle.std.specs.Option.{IsSomeAnd}
 use Rattle.std.specs.Str.{encode_utf8_all}
@@ -17,6 +18,7 @@ use Rattle.page_tokens.specs.declared.tokenizer.Tokenizer.{Tokenizer}
 use Rattle.page_tokens.specs.declared.tokenizer.draft.TagDraft.{TagDraft}
 use Rattle.page_tokens.specs.declared.tokenizer.references.Reference.{Reference}
 use Rattle.page_tokens.specs.declared.tokenizer.references.Reference.TheVariants as reference
+use Rattle.page_tokens.specs.declared.tokenizer.state.AttrState.TheVariants as attr
 use Rattle.page_tokens.specs.declared.tokenizer.state.CommentState.{CommentState}
 use Rattle.page_tokens.specs.declared.tokenizer.state.DoctypeState.{DoctypeState}
 use Rattle.page_tokens.specs.declared.tokenizer.state.DoctypeState.TheVariants as doctype
@@ -54,10 +56,10 @@ MaySpell None (Some cs) = ⊥
 MaySpell (Some text) None = ⊥
 MaySpell (Some text) (Some cs) = Spells text cs
 
--- the name of the last start tag; before the first one it is empty
+-- the name of the last start tag, in lower case; before the first one it is empty
 abbrev pub IsLast : {A : Type 0} → String A → Option (List ℕ) → Type 0
 IsLast name None = string_bytes name ≡ []
-IsLast name (Some cs) = Spells name cs
+IsLast name (Some cs) = Spells name cs × (map to_ascii_lowercase (string_bytes name) ≡ string_bytes name)
 
 -- ---- tags and doctypes
 
@@ -87,7 +89,8 @@ abbrev pub HoldsAttrs : List TagAttr → List ℕ → List ℕ → List Attr →
 HoldsAttrs kept [] value attrs = (value ≡ []) × AreAttrs kept (distinct (reverse attrs))
 HoldsAttrs kept (b ∷ name) value [] = ⊥
 HoldsAttrs kept (b ∷ name) value (attr ∷ attrs) =
-    (map to_ascii_lowercase (b ∷ name) ≡ encode_utf8_all attr.name) × (value ≡ encode_utf8_all attr.value) × AreAttrs kept (distinct (reverse attrs))
+    (map to_ascii_lowercase (b ∷ name) ≡ encode_utf8_all attr.name) × (value ≡ encode_utf8_all attr.value)
+    × AreAttrs kept (distinct (reverse attrs))
 
 pub record IsDraft (draft : TagDraft) (other : StandardTag) : Type 0 where
   pub kind : kind_of draft.kind ≡ other.kind
@@ -136,13 +139,16 @@ DoctypeHeld _ t ahead m = (ahead ≡ []) × IsDoctype t.doctype m.doctype
 abbrev pub EndTagHeld : Tokenizer → Machine → Type 0
 EndTagHeld t m = IsDraft t.tag m.tag × Spells t.tag.name m.buffer
 
+-- From the first letter of an attribute to the end of its value, that attribute has a name.
 abbrev pub Held : State → Tokenizer → List ℕ → Machine → Type 0
 Held (state.Comment inner) t ahead m = (ahead ≡ []) × Spells t.comment m.comment
 Held (state.Declaration seen) t ahead m = Spells t.comment ahead × IsSeen seen ahead
 Held (state.Doctype inner) t ahead m = DoctypeHeld inner t ahead m
 Held (state.Tag tag.Name) t ahead m = (ahead ≡ []) × IsDraft t.tag m.tag
 Held (state.Tag tag.SelfClosing) t ahead m = (ahead ≡ []) × IsDraft t.tag m.tag
-Held (state.Attribute inner) t ahead m = (ahead ≡ []) × IsDraft t.tag m.tag
+Held (state.Attribute attr.BeforeName) t ahead m = (ahead ≡ []) × IsDraft t.tag m.tag
+Held (state.Attribute attr.AfterQuoted) t ahead m = (ahead ≡ []) × IsDraft t.tag m.tag
+Held (state.Attribute inner) t ahead m = (ahead ≡ []) × IsDraft t.tag m.tag × (0 < length (string_bytes t.tag.attr_name))
 Held (state.EndTag raw end_tag.Name) t ahead m = (ahead ≡ []) × EndTagHeld t m
 Held (state.EndTag raw end_tag.Open) t ahead m = (ahead ≡ []) × (m.buffer ≡ [])
 Held (state.ScriptData script.DoubleStart) t ahead m = (ahead ≡ []) × Spells t.letters m.buffer
@@ -160,17 +166,27 @@ pub record Stands (t : Tokenizer) (ahead : List ℕ) (m : Machine) : Type 0 wher
 abbrev pub ReferenceHeld : Reference → Tokenizer → List ℕ → Machine → Type 0
 ReferenceHeld reference.None t ahead m = ⊥
 ReferenceHeld reference.Begun t ahead m = (ahead ≡ []) × (string_bytes t.written ≡ codes "&")
-ReferenceHeld (reference.Named found) t ahead m = (ahead ≡ read_of found.names) × (m.buffer ≡ codes "&") × Spells t.written (m.buffer ++ ahead)
+ReferenceHeld (reference.Named found) t ahead m = (ahead ≡ read_of found.names) × (m.buffer ≡ codes "&")
+    × Spells t.written (m.buffer ++ ahead)
 ReferenceHeld reference.Ambiguous t ahead m = ahead ≡ []
 ReferenceHeld reference.Number t ahead m = (ahead ≡ []) × Spells t.written m.buffer
 ReferenceHeld reference.HexStart t ahead m = (ahead ≡ []) × Spells t.written m.buffer × (m.code ≡ 0)
 ReferenceHeld (reference.Hex number) t ahead m = (ahead ≡ []) × (number ≡ min m.code 0x110000)
 ReferenceHeld (reference.Decimal number) t ahead m = (ahead ≡ []) × (number ≡ min m.code 0x110000)
 
+-- where a reference may stand: in text, and in the value of an attribute
+abbrev pub AllowsReference : State → Type 0
+AllowsReference state.Data = Unit {0}
+AllowsReference state.Rcdata = Unit {0}
+AllowsReference (state.Attribute (attr.Quoted quote)) = Unit {0}
+AllowsReference (state.Attribute attr.Unquoted) = Unit {0}
+AllowsReference _ = ⊥
+
 pub record StandsInReference (t : Tokenizer) (ahead : List ℕ) (m : Machine) : Type 0 where
   pub state : m.state ≡ state_in t.reference t.state
   pub back : m.return_state ≡ state_of t.state
   pub last_start : IsLast t.last_start m.last_start
+  pub place : AllowsReference t.state
   pub outside : Held t.state t [] m
   pub inside : ReferenceHeld t.reference t ahead m
 
@@ -248,4 +264,5 @@ pub record EmitsTag (old new : Tokenizer) (told : Option TokenKind) : Type 0 whe
   pub same_reference : new.reference ≡ old.reference
   pub text : text_of new ≡ text_of old
   pub last_tag : (other : StandardTag) → IsDraft old.tag other → IsSomeAnd new.ended (IsTag other)
-  pub last_start : (other : StandardTag) → IsDraft old.tag other → (was : Option (List ℕ)) → IsLast old.last_start was → IsLast new.last_start (last_start_of other was)
+  pub last_start : (other : StandardTag) → IsDraft old.tag other → (was : Option (List ℕ)) → IsLast old.last_start was →
+      IsLast new.last_start (last_start_of other was)

@@ -1,4 +1,5 @@
--- How the calls of the tokenizer read a page, in pieces cut anywhere: what the public functions promise once every state follows the standard.
+-- How the calls of the tokenizer read a page, in pieces cut anywhere: what the public functions promise once every state follows the
+-- standard.
 use Rattle.std.specs.Prelude.{◌≡◌, ℕ, Bool, true, false, List, [], ◌∷◌, ◌++◌, map, Option, None, Some, Result, IfOk}
 use Rattle.std.specs.Borrow.{Bor}
 use Rattle.std.specs.Str.{encode_utf8_all}
@@ -39,7 +40,8 @@ pub record ReadsUpTo (old new : Tokenizer) (text rest : List ℕ) (before after 
   pub none : told ≡ None → (rest ≡ []) × (after ≡ before)
   pub some : (kind : TokenKind) → told ≡ Some kind → after ≡ Some kind
 
-abbrev pub ReadsAsStandard : {E : Type 0} → Tokenizer → Tokenizer → List ℕ → Option TokenKind → Option TokenKind → Result (Bor (List ℕ)) E → Type 0
+abbrev pub ReadsAsStandard : {E : Type 0} → Tokenizer → Tokenizer → List ℕ → Option TokenKind → Option TokenKind →
+    Result (Bor (List ℕ)) E → Type 0
 ReadsAsStandard old new text before after result = IfOk result (λ rest. ReadsUpTo old new text rest.now before after)
 
 -- ---- the end of the page
@@ -60,11 +62,13 @@ pub record StopsAt (old new : Tokenizer) (told : Option TokenKind) (m : Machine)
 -- Where reading a page from its beginning has come: whatever follows what was read, the standard's tokenizer comes, with the answers `f` of
 -- tree construction, to a machine that holds what this tokenizer holds. `told` are the tokens so far without the characters that the
 -- tokenizer still keeps.
-pub record IsAt (f : Feedback) (first : StandardState) (read : List ℕ) (told : List StandardToken) (t : Tokenizer) (rest : List ℕ) : Type 0 where
+pub record IsAt (f : Feedback) (first : StandardState) (read : List ℕ) (told : List StandardToken) (t : Tokenizer) (rest : List ℕ) :
+    Type 0 where
   pub machine : Machine
   pub ahead : List ℕ
   pub kept : List ℕ
-  pub reads : Reads f (reader (start_in first) (normalized (read ++ rest)) []) (reader machine (ahead ++ normalized_behind t.after_return rest) (told ++ map AChar kept))
+  pub reads : Reads f (reader (start_in first) (normalized (read ++ rest)) [])
+      (reader machine (ahead ++ normalized_behind t.after_return rest) (told ++ map AChar kept))
   pub holds : Holds t ahead machine
   pub text : text_of t ≡ encode_utf8_all kept
 

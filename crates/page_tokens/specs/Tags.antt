@@ -70,4 +70,5 @@ TakesPlainTag old new text token result = IsInText old → old.errors ≡ None �
 
 -- if the token is a tag, the last tag is taken out of the tokenizer and returned
 abbrev pub TakesTag : Option TokenKind → Tokenizer → Tokenizer → Option Token → Type 0
-TakesTag kind old new token = (tag : TagToken) → kind ≡ Some Tag → old.ended ≡ Some tag → (token ≡ Some (TheTag tag)) × (new ≡ record old { ended = None })
+TakesTag kind old new token = (tag : TagToken) → kind ≡ Some Tag → old.ended ≡ Some tag → (token ≡ Some (TheTag tag))
+    × (new ≡ record old { ended = None })

@@ -18,7 +18,8 @@ mod state;
 mod tags;
 mod text;
 
-ghost use Rattle.std.specs.Prelude.{◌≡◌, ◌++◌, [], IfOk, OnOk, None, string_bytes, encode_utf8};
+ghost use Rattle.std.specs.Prelude.{◌≡◌, ◌∷◌, ◌++◌, [], IfOk, OnOk, None, string_bytes};
+ghost use Rattle.std.specs.Prelude.{encode_utf8};
 ghost use Rattle.page_tokens.specs.Runs.{is_space_of};
 
 use crate::parse_error::ErrorAt;
@@ -27,7 +28,7 @@ use draft::TagDraft;
 use references::Reference;
 pub use runs::MARKS;
 pub use state::State;
-use state::{Place, Raw, ScriptState};
+use state::{Raw, ScriptState};
 use std::alloc::{AllocError, Global};
 use std::mem;
 
@@ -104,7 +105,9 @@ fn push(text: &mut String, c: char) -> Progress
 impl Tokenizer {
     ghost use Rattle.std.specs.Option.{option_copied};
     ghost use Rattle.page_tokens.specs.Reading.{IsInText, text_of};
+    ghost use Rattle.page_tokens.specs.Standard.{Follows};
     ghost use Rattle.page_tokens.specs.Tags.{TakesTag};
+    ghost use Rattle.page_tokens.specs.TextStates.{raw_state_of};
 
     /// Returns a tokenizer at the start of a page, in the data state.
     pub fn new(alloc: Global) -> Tokenizer
@@ -242,7 +245,7 @@ impl Tokenizer {
             State::Rcdata => self.in_rcdata(c),
             State::Rawtext => self.in_raw(Raw::Rawtext, c),
             State::Script => self.in_raw(Raw::Script, c),
-            State::Plaintext => self.letter(Place::Text, c),
+            State::Plaintext => self.in_plaintext(c),
             State::Cdata(state) => self.in_cdata(state, c),
             State::Tag(state) => self.in_tag(state, c),
             State::EndTag(raw, state) => self.in_end_tag(raw, state, c),
@@ -265,12 +268,27 @@ impl Tokenizer {
 
     /// Changes back to the state for the characters of the element, and processes this character
     /// there.
-    fn back_to(&mut self, raw: Raw, c: char) -> Progress {
-        self.state = raw.state();
+    fn back_to(&mut self, raw: Raw, c: char) -> Progress
+        ensures { Follows (record self.old { state = raw_state_of raw }) self.new
+            (c ∷ []) result }
+    {
         match raw {
-            Raw::Rcdata => self.in_rcdata(c),
-            Raw::Rawtext | Raw::Script => self.in_raw(raw, c),
-            Raw::Escaped => self.in_script(ScriptState::Escaped, c),
+            Raw::Rcdata => {
+                self.state = State::Rcdata;
+                self.in_rcdata(c)
+            }
+            Raw::Rawtext => {
+                self.state = State::Rawtext;
+                self.in_raw(Raw::Rawtext, c)
+            }
+            Raw::Script => {
+                self.state = State::Script;
+                self.in_raw(Raw::Script, c)
+            }
+            Raw::Escaped => {
+                self.state = State::ScriptData(ScriptState::Escaped);
+                self.in_script(ScriptState::Escaped, c)
+            }
         }
     }
 }

@@ -1,3 +1,9 @@
 mod ExamplesComputed
 mod MoreDepth
 mod OneWay
+mod Ending
+mod EveryMode
+mod EveryText
+mod Settling
+mod KeptModes
+mod Routes

@@ -21,7 +21,7 @@ pub then_below : (f g : Building → Option Building) → Below f g → (o p : O
 then_below f g below None p same c h = cc
 then_below f g below (Some x) p same c h = ap (option_and_then g) (same x refl) ∙ below x c h
 
-each_below : (again other : Building → Option Building) → Below again other → (cs : List ℕ) → Below (each_char again cs) (each_char other cs)
+pub each_below : (again other : Building → Option Building) → Below again other → (cs : List ℕ) → Below (each_char again cs) (each_char other cs)
 each_below again other below [] b c h = h
 each_below again other below (d ∷ cs) b c h =
     then_below (each_char again cs) (each_char other cs) (each_below again other below cs) (again (with_token (AChar d) [] b))
@@ -32,7 +32,7 @@ map_below : (f : Building → Building) (o p : Option Building) → ((x : Buildi
 map_below f None p same c h = cc
 map_below f (Some x) p same c h = ap (option_map f) (same x refl) ∙ h
 
-gone_below : (again other : Mode → Building → Option Building) → BelowIn again other → (way : Way) → Below (gone again way) (gone other way)
+pub gone_below : (again other : Mode → Building → Option Building) → BelowIn again other → (way : Way) → Below (gone again way) (gone other way)
 gone_below again other below Reprocess b c h = below Dispatcher b c h
 gone_below again other below UseCurrentMode b c h = below b.mode b c h
 gone_below again other below (Use mode) b c h = below mode b c h
@@ -69,7 +69,7 @@ pub run_right : (d e : ℕ) → BelowIn (run e) (run (more d e))
 run_right zero e mode b c h = h
 run_right (suc d) e mode b c h = run_next (more d e) mode b c (run_right d e mode b c h)
 
-step_below : (d e : ℕ) → BelowIn (run d) (run e) → (token : Token) (b c : Building) → tree_step d b token ≡ Some c → tree_step e b token ≡ Some c
+pub step_below : (d e : ℕ) → BelowIn (run d) (run e) → (token : Token) (b c : Building) → tree_step d b token ≡ Some c → tree_step e b token ≡ Some c
 unfolding tree_step
 step_below d e below token b c h = by_skip (b.skip && is_line_feed token) h
   where

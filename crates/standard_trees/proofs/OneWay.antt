@@ -34,7 +34,7 @@ left : (d e n m : ℕ) → BelowIn (run d) (run e) → (p : Parser) (c : Buildin
 left d e zero m deeper p c h = absurd (no_steps d p c h)
 left d e (suc n) m deeper p c h = step_more d e n (more n m) deeper (left d e n m deeper) p c h
 
-deeper_only : (d e n : ℕ) → BelowIn (run d) (run e) → (p : Parser) (c : Building) → parsed d n p ≡ Some c → parsed e n p ≡ Some c
+pub deeper_only : (d e n : ℕ) → BelowIn (run d) (run e) → (p : Parser) (c : Building) → parsed d n p ≡ Some c → parsed e n p ≡ Some c
 deeper_only d e zero deeper p c h = absurd (no_steps d p c h)
 deeper_only d e (suc n) deeper p c h = step_more d e n n deeper (deeper_only d e n deeper) p c h
 

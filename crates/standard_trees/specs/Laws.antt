@@ -21,3 +21,12 @@ FunctionsParse =
     parse scripting text ≡ Some document → IsDocumentOf scripting text document) ×
     ((scripting : Bool) (around : Surroundings) (text : List ℕ) (nodes : Trees) →
     parse_fragment scripting around text ≡ Some nodes → IsFragmentOf scripting around text nodes)
+
+-- every text is parsed as a Document
+abbrev pub EveryTextHasADocument : Type 0
+EveryTextHasADocument = (scripting : Bool) (text : List ℕ) → (document : Document) × IsDocumentOf scripting text document
+
+-- and in every context as a fragment
+abbrev pub EveryTextHasAFragment : Type 0
+EveryTextHasAFragment = (scripting : Bool) (around : Surroundings) (text : List ℕ) →
+    (nodes : Trees) × IsFragmentOf scripting around text nodes

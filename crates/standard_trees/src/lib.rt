@@ -4,8 +4,16 @@
 #![tactic(auto)]
 
 ghost use Rattle.standard_trees.specs.Examples.{PagesAreParsed};
-ghost use Rattle.standard_trees.specs.Laws.{DocumentsAreParsedOneWay, FragmentsAreParsedOneWay};
+ghost use Rattle.standard_trees.specs.Laws.{DocumentsAreParsedOneWay, EveryTextHasADocument};
+ghost use Rattle.standard_trees.specs.Laws.{EveryTextHasAFragment, FragmentsAreParsedOneWay};
 ghost use Rattle.standard_trees.specs.Laws.{FunctionsParse};
+
+/// Every text is parsed as a document, and in every context as a fragment: the tokenizer comes to an
+/// end, and so do rules that use rules.
+pub fn every_text_has_a_document()
+    ensures documents { EveryTextHasADocument }
+    ensures fragments { EveryTextHasAFragment }
+{}
 
 /// A text is parsed as one document at most, and in one context as one fragment at most, however
 /// many steps the tokenizer is given, and however deep rules may use rules.

@@ -1,12 +1,139 @@
 //! The doctype states (13.2.5.53 to 13.2.5.68).
 
+ghost use Rattle.std.specs.Prelude.{◌≡◌, ◌∷◌, [], IfOk, OnOk, None, Some};
+ghost use Rattle.page_tokens.specs.DoctypeSteps.{AddsTo, after_name_of, before_id_of, broken};
+ghost use Rattle.page_tokens.specs.DoctypeSteps.{doctype_step_of, ends_or_of, keyword_step_of};
+ghost use Rattle.page_tokens.specs.DoctypeSteps.{quoted_step_of, spaced_of};
+ghost use Rattle.page_tokens.specs.Standard.{keyword_of};
+
 use super::declarations::goes_on;
 use super::state::{DoctypeState, Id, Quote};
 use super::{Progress, State, Tokenizer, append, is_space, push};
 use crate::parse_error::ParseError;
 use crate::token::TokenKind;
-use std::alloc::AllocError;
+use std::alloc::{AllocError, Global};
 use std::mem;
+
+/// What a character in a doctype does.
+#[derive(Clone, Copy, Drop)]
+enum DoctypeStep {
+    /// Another state follows, or the same one.
+    Then(DoctypeState),
+    /// The first letter of the name.
+    NameBegins,
+    NameLetter,
+    /// The quote before an identifier.
+    IdBegins(Id, Quote),
+    IdLetter(Id),
+    /// A letter of a keyword, and how many letters of it were read.
+    Letter(Id, usize),
+    /// The doctype ends. The force-quirks flag is set if this is `true`.
+    Ends(bool),
+    /// The rest of the doctype is ignored. The force-quirks flag is set if this is `true`.
+    Malformed(bool),
+}
+
+fn doctype_step(state: DoctypeState, c: char) -> DoctypeStep
+    ensures { result ≡ doctype_step_of state c }
+{
+    match state {
+        DoctypeState::Begin | DoctypeState::BeforeName => {
+            spaced(
+                DoctypeState::BeforeName,
+                c,
+                ends_or(true, c, DoctypeStep::NameBegins),
+            )
+        }
+        DoctypeState::Name => {
+            spaced(
+                DoctypeState::AfterName,
+                c,
+                ends_or(false, c, DoctypeStep::NameLetter),
+            )
+        }
+        DoctypeState::AfterName => spaced(DoctypeState::AfterName, c, after_name(c)),
+        DoctypeState::Keyword(id, count) => keyword_step(id, count, c),
+        DoctypeState::AfterKeyword(id) | DoctypeState::BeforeId(id) => {
+            spaced(DoctypeState::BeforeId(id), c, before_id(id, true, c))
+        }
+        DoctypeState::Quoted(id, quote) => quoted_step(id, quote, c),
+        DoctypeState::AfterId(Id::Public) | DoctypeState::BetweenIds => {
+            spaced(DoctypeState::BetweenIds, c, before_id(Id::System, false, c))
+        }
+        DoctypeState::AfterId(Id::System) => {
+            let other = ends_or(false, c, DoctypeStep::Malformed(false));
+            spaced(DoctypeState::AfterId(Id::System), c, other)
+        }
+        DoctypeState::Bogus => ends_or(false, c, DoctypeStep::Malformed(false)),
+    }
+}
+
+/// Returns the step for a character where white space leads to a state.
+fn spaced(next: DoctypeState, c: char, other: DoctypeStep) -> DoctypeStep
+    ensures { result ≡ spaced_of next c other }
+{
+    if is_space(c) {
+        return DoctypeStep::Then(next);
+    }
+    other
+}
+
+/// Returns the step for a character where `>` ends the doctype.
+fn ends_or(breaks: bool, c: char, other: DoctypeStep) -> DoctypeStep
+    ensures { result ≡ ends_or_of breaks c other }
+{
+    match c {
+        '>' => DoctypeStep::Ends(breaks),
+        _ => other,
+    }
+}
+
+/// Returns the step for a character where an identifier may begin.
+fn before_id(id: Id, breaks: bool, c: char) -> DoctypeStep
+    ensures { result ≡ before_id_of id breaks c }
+{
+    match c {
+        '"' => DoctypeStep::IdBegins(id, Quote::Double),
+        '\'' => DoctypeStep::IdBegins(id, Quote::Single),
+        _ => ends_or(breaks, c, DoctypeStep::Malformed(true)),
+    }
+}
+
+/// Returns the step for a character after the name that is not white space.
+fn after_name(c: char) -> DoctypeStep
+    ensures { result ≡ after_name_of c }
+{
+    match c {
+        'p' | 'P' => DoctypeStep::Letter(Id::Public, 1),
+        's' | 'S' => DoctypeStep::Letter(Id::System, 1),
+        _ => ends_or(false, c, DoctypeStep::Malformed(true)),
+    }
+}
+
+/// Returns the step for a character in a keyword of which `count` letters were read.
+fn keyword_step(id: Id, count: usize, c: char) -> DoctypeStep
+    ensures { result ≡ keyword_step_of id count c }
+{
+    if !goes_on(keyword(id), count, c.to_ascii_lowercase()) {
+        return ends_or(true, c, DoctypeStep::Malformed(true));
+    }
+    match count {
+        5 => DoctypeStep::Then(DoctypeState::AfterKeyword(id)),
+        _ => DoctypeStep::Letter(id, count + 1),
+    }
+}
+
+/// Returns the step for a character in an identifier.
+fn quoted_step(id: Id, quote: Quote, c: char) -> DoctypeStep
+    ensures { result ≡ quoted_step_of id quote c }
+{
+    match (quote, c) {
+        (Quote::Double, '"') | (Quote::Single, '\'') => {
+            DoctypeStep::Then(DoctypeState::AfterId(id))
+        }
+        _ => ends_or(true, c, DoctypeStep::IdLetter(id)),
+    }
+}
 
 /// The parse errors of a public or a system identifier.
 #[derive(Clone, Copy, Drop)]
@@ -96,128 +223,104 @@ fn is_quote(c: char) -> bool {
 }
 
 /// Returns the keyword before an identifier.
-fn keyword(id: Id) -> &'static [u8] {
+fn keyword(id: Id) -> &'static [u8]
+    ensures { result.now ≡ keyword_of id }
+{
     match id {
         Id::Public => b"public",
         Id::System => b"system",
     }
 }
 
-/// Returns whether a doctype that ends in this state sets the force-quirks flag.
-fn breaks(state: DoctypeState) -> bool {
-    matches!(
-        state,
-        DoctypeState::Begin
-            | DoctypeState::BeforeName
-            | DoctypeState::AfterKeyword(_)
-            | DoctypeState::BeforeId(_)
-    )
-}
-
-/// Returns the state after whitespace.
-fn behind_space(state: DoctypeState) -> DoctypeState {
-    match state {
-        DoctypeState::Begin => DoctypeState::BeforeName,
-        DoctypeState::Name => DoctypeState::AfterName,
-        DoctypeState::AfterKeyword(id) => DoctypeState::BeforeId(id),
-        DoctypeState::AfterId(Id::Public) => DoctypeState::BetweenIds,
-        _ => state,
+/// Appends a character to a text. Where there is none, the character becomes one.
+fn push_to(alloc: Global, text: &mut Option<String>, c: char) -> Progress
+    ensures told { IfOk result (λ told. told ≡ None) }
+    ensures adds { OnOk result (AddsTo text.old text.new c) }
+{
+    match text {
+        Some(text) => push(text, c),
+        None => {
+            let mut made = String::new(alloc);
+            made.push(c)?;
+            *text = Some(made);
+            Ok(None)
+        }
     }
 }
 
 impl Tokenizer {
-    pub(super) fn in_doctype(&mut self, state: DoctypeState, c: char) -> Progress {
-        if let Some(error) = doctype_error(state, c) {
-            self.error(error);
-        }
-        match state {
-            DoctypeState::Keyword(id, count) => self.doctype_keyword(id, count, c),
-            DoctypeState::Quoted(id, quote) => self.quoted_id(id, quote, c),
-            _ if c == '>' => self.emit_doctype(breaks(state)),
-            _ if is_space(c) => self.then(State::Doctype(behind_space(state))),
-            _ => self.doctype_goes_on(state, c),
+    ghost use Rattle.page_tokens.specs.Changes.{Remembers};
+    ghost use Rattle.page_tokens.specs.DoctypeSteps.{AddsToId, AddsToName, BeginsId, BeginsName};
+    ghost use Rattle.page_tokens.specs.Standard.{Follows};
+
+    pub(super) fn in_doctype(&mut self, state: DoctypeState, c: char) -> Progress
+        ensures { self.old.state ≡ State.Doctype state →
+            Follows self.old self.new (c ∷ []) result }
+    {
+        self.report(doctype_error(state, c));
+        match doctype_step(state, c) {
+            DoctypeStep::Then(next) => self.then(State::Doctype(next)),
+            DoctypeStep::NameBegins => self.begin_doctype_name(c),
+            DoctypeStep::NameLetter => self.doctype_letter(c),
+            DoctypeStep::IdBegins(id, quote) => self.begin_id(id, quote),
+            DoctypeStep::IdLetter(id) => self.id_letter(id, c),
+            DoctypeStep::Letter(id, count) => {
+                self.then(State::Doctype(DoctypeState::Keyword(id, count)))
+            }
+            DoctypeStep::Ends(breaks) => self.emit_doctype(breaks),
+            DoctypeStep::Malformed(breaks) => self.bogus_doctype(c, breaks),
         }
     }
 
-    /// Processes a character of a doctype's name, or between its parts.
-    fn doctype_goes_on(&mut self, state: DoctypeState, c: char) -> Progress {
-        match (state, c) {
-            (DoctypeState::Begin | DoctypeState::BeforeName, _) => {
-                self.doctype.name = Some(String::new(self.alloc));
-                self.state = State::Doctype(DoctypeState::Name);
-                self.doctype_letter(c)
-            }
-            (DoctypeState::Name, _) => self.doctype_letter(c),
-            (DoctypeState::AfterName, 'p' | 'P') => {
-                self.then(State::Doctype(DoctypeState::Keyword(Id::Public, 1)))
-            }
-            (DoctypeState::AfterName, 's' | 'S') => {
-                self.then(State::Doctype(DoctypeState::Keyword(Id::System, 1)))
-            }
-            (DoctypeState::AfterKeyword(id) | DoctypeState::BeforeId(id), _) => {
-                self.begin_id(id, c)
-            }
-            (DoctypeState::AfterId(Id::Public) | DoctypeState::BetweenIds, _) => {
-                self.begin_id(Id::System, c)
-            }
-            (DoctypeState::AfterName, _) => self.bogus_doctype(c, true),
-            _ => self.bogus_doctype(c, false),
-        }
-    }
-
-    fn doctype_letter(&mut self, c: char) -> Progress {
+    /// Starts the name of the doctype with its first letter.
+    fn begin_doctype_name(&mut self, c: char) -> Progress
+        ensures told { IfOk result (λ told. told ≡ None) }
+        ensures begins { OnOk result (BeginsName self.old self.new c) }
+        ensures memory { Remembers self.old self.new }
+    {
+        let mut name = String::new(self.alloc);
         let shown = self.shown(c.to_ascii_lowercase());
-        match &mut self.doctype.name {
-            Some(name) => push(name, shown),
-            None => Ok(None),
-        }
+        name.push(shown)?;
+        self.doctype.name = Some(name);
+        self.then(State::Doctype(DoctypeState::Name))
     }
 
-    fn doctype_keyword(&mut self, id: Id, count: usize, c: char) -> Progress {
-        if !goes_on(keyword(id), count, c.to_ascii_lowercase()) {
-            return self.bogus_doctype(c, true);
-        }
-        let state = match count {
-            5 => DoctypeState::AfterKeyword(id),
-            _ => DoctypeState::Keyword(id, count.saturating_add(1)),
-        };
-        self.then(State::Doctype(state))
+    fn doctype_letter(&mut self, c: char) -> Progress
+        ensures told { IfOk result (λ told. told ≡ None) }
+        ensures adds { OnOk result (AddsToName self.old self.new c) }
+        ensures memory { Remembers self.old self.new }
+    {
+        let shown = self.shown(c.to_ascii_lowercase());
+        push_to(self.alloc, &mut self.doctype.name, shown)
     }
 
     /// Starts an identifier at its quote.
-    fn begin_id(&mut self, id: Id, c: char) -> Progress {
-        let quote = match c {
-            '"' => Quote::Double,
-            '\'' => Quote::Single,
-            _ => return self.bogus_doctype(c, true),
-        };
+    fn begin_id(&mut self, id: Id, quote: Quote) -> Progress
+        ensures told { IfOk result (λ told. told ≡ None) }
+        ensures begins { BeginsId id quote self.old self.new }
+    {
         let empty = Some(String::new(self.alloc));
         match id {
-            Id::Public => self.doctype.public_id = empty,
-            Id::System => self.doctype.system_id = empty,
+            Id::Public => {
+                self.doctype.public_id = empty;
+                self.then(State::Doctype(DoctypeState::Quoted(Id::Public, quote)))
+            }
+            Id::System => {
+                self.doctype.system_id = empty;
+                self.then(State::Doctype(DoctypeState::Quoted(Id::System, quote)))
+            }
         }
-        self.then(State::Doctype(DoctypeState::Quoted(id, quote)))
     }
 
-    fn quoted_id(&mut self, id: Id, quote: Quote, c: char) -> Progress {
-        if c == quote.letter() {
-            return self.then(State::Doctype(DoctypeState::AfterId(id)));
-        }
-        if c == '>' {
-            return self.emit_doctype(true);
-        }
+    fn id_letter(&mut self, id: Id, c: char) -> Progress
+        ensures told { IfOk result (λ told. told ≡ None) }
+        ensures adds { OnOk result (AddsToId id self.old self.new c) }
+        ensures memory { Remembers self.old self.new }
+    {
         let shown = self.shown(c);
-        self.id_letter(id, shown)
-    }
-
-    fn id_letter(&mut self, id: Id, c: char) -> Progress {
-        let text = match id {
-            Id::Public => &mut self.doctype.public_id,
-            Id::System => &mut self.doctype.system_id,
-        };
-        match text {
-            Some(text) => push(text, c),
-            None => Ok(None),
+        match id {
+            Id::Public => push_to(self.alloc, &mut self.doctype.public_id, shown),
+            Id::System => push_to(self.alloc, &mut self.doctype.system_id, shown),
         }
     }
 
@@ -233,24 +336,41 @@ impl Tokenizer {
         }
     }
 
-    /// Reads on to the `>` of a malformed doctype. `breaks` sets the force-quirks flag.
-    fn bogus_doctype(&mut self, c: char, breaks: bool) -> Progress {
-        if c == '>' {
-            return self.emit_doctype(breaks);
-        }
-        if breaks {
-            self.doctype.force_quirks = true;
-        }
+    /// Ignores the rest of a malformed doctype. `breaks` sets the force-quirks flag.
+    fn bogus_doctype(&mut self, c: char, breaks: bool) -> Progress
+        ensures told { IfOk result (λ told. told ≡ None) }
+        ensures only { self.new ≡ record self.old {
+          state = State.Doctype DoctypeState.Bogus;
+          doctype = broken breaks self.old.doctype;
+          errors = self.new.errors;
+          refused = self.new.refused;
+        } }
+        ensures memory { Remembers self.old self.new }
+    {
+        self.break_doctype(breaks);
         let _ = self.shown(c);
         self.then(State::Doctype(DoctypeState::Bogus))
     }
 
     /// Ends the doctype. `breaks` sets the force-quirks flag.
-    fn emit_doctype(&mut self, breaks: bool) -> Progress {
+    fn emit_doctype(&mut self, breaks: bool) -> Progress
+        ensures told { IfOk result (λ told. told ≡ Some TokenKind.Doctype) }
+        ensures only { self.new ≡ record self.old {
+          state = State.Data;
+          doctype = broken breaks self.old.doctype;
+        } }
+    {
+        self.break_doctype(breaks);
+        self.state = State::Data;
+        Ok(Some(TokenKind::Doctype))
+    }
+
+    /// Sets the force-quirks flag if `breaks` is `true`.
+    fn break_doctype(&mut self, breaks: bool)
+        ensures { self.new ≡ record self.old { doctype = broken breaks self.old.doctype } }
+    {
         if breaks {
             self.doctype.force_quirks = true;
         }
-        self.state = State::Data;
-        Ok(Some(TokenKind::Doctype))
     }
 }

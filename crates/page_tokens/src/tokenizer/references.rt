@@ -1,8 +1,12 @@
 //! The character reference states (13.2.5.72 to 13.2.5.80).
 
-ghost use Rattle.std.specs.Prelude.{◌≡◌, ◌≤◌, ◌+◌, ◌*◌, [], true, false, min, None};
+ghost use Rattle.std.specs.Prelude.{◌≡◌, ◌≤◌, ◌+◌, ◌*◌, ◌==◌, [], IfOk, OnOk, true, false, min};
+ghost use Rattle.std.specs.Prelude.{None, encode_utf8, string_bytes};
 ghost use Rattle.std.specs.Char.{is_ascii_alphanumeric};
+ghost use Rattle.standard_tokens.specs.Machine.{is_value};
 ghost use Rattle.page_tokens.specs.Numbers.{character_of};
+ghost use Rattle.page_tokens.specs.StandardStates.{state_of};
+ghost use Rattle.page_tokens.specs.References.{base_of, number_of, with_digit_of};
 
 use super::errors::is_noncharacter;
 use super::named::Match;
@@ -62,12 +66,37 @@ fn with_digit(number: u32, base: u32, digit: u32) -> u32
         .min(0x11_0000)
 }
 
-/// Returns the state with one more digit of the number, or with its first.
-fn number_with(number: Option<u32>, base: u32, digit: u32) -> Reference {
-    let number = with_digit(number.unwrap_or(0), base, digit);
-    match base {
-        16 => Reference::Hex(number),
-        _ => Reference::Decimal(number),
+/// Returns the base of the digits that may follow.
+fn base(reference: Reference) -> u32
+    ensures is { result ≡ base_of reference }
+    ensures least { 2 ≤ result }
+    ensures most { result ≤ 36 }
+{
+    match reference {
+        Reference::HexStart | Reference::Hex(_) => 16,
+        _ => 10,
+    }
+}
+
+/// Returns the number that was read, if there is one.
+fn number(reference: Reference) -> Option<u32>
+    ensures { result ≡ number_of reference }
+{
+    match reference {
+        Reference::Hex(number) | Reference::Decimal(number) => Some(number),
+        _ => None,
+    }
+}
+
+/// Returns the reference with one more digit of the number, or with its first.
+fn number_with(reference: Reference, digit: u32) -> Reference
+    ensures { result ≡ with_digit_of reference digit }
+{
+    match reference {
+        Reference::HexStart => Reference::Hex(with_digit(0, 16, digit)),
+        Reference::Hex(number) => Reference::Hex(with_digit(number, 16, digit)),
+        Reference::Decimal(number) => Reference::Decimal(with_digit(number, 10, digit)),
+        _ => Reference::Decimal(with_digit(0, 10, digit)),
     }
 }
 
@@ -84,6 +113,23 @@ fn number_error(number: u32) -> Option<ParseError> {
     }
 }
 
+/// Returns the parse error for the character after a number, if it is one.
+fn unclosed_error(c: char) -> Option<ParseError> {
+    match c {
+        ';' => None,
+        _ => Some(ParseError::MissingSemicolonAfterCharacterReference),
+    }
+}
+
+/// Returns the parse error for the character after letters and digits that are no name, if it is
+/// one.
+fn ambiguous_error(c: char) -> Option<ParseError> {
+    match c {
+        ';' => Some(ParseError::UnknownNamedCharacterReference),
+        _ => None,
+    }
+}
+
 /// Replaces the text by what a name means and the characters after the name.
 fn put_value(text: &mut String, value: Value, behind: &str) -> Result<(), AllocError> {
     text.clear();
@@ -96,7 +142,11 @@ fn put_value(text: &mut String, value: Value, behind: &str) -> Result<(), AllocE
 
 impl Tokenizer {
     ghost use Rattle.page_tokens.specs.NamedReferences.{read_of};
-    ghost use Rattle.page_tokens.specs.Reading.{IsInName, IsNameRead, IsReadBehind};
+    ghost use Rattle.page_tokens.specs.Reading.{IsInName, IsNameRead, IsNoName, IsReadBehind};
+    ghost use Rattle.page_tokens.specs.References.{DigitsFollow, EndsReference};
+    ghost use Rattle.page_tokens.specs.References.{FollowsInReference, Puts};
+    ghost use Rattle.page_tokens.specs.References.{ReadsNoName, WritesOn};
+    ghost use Rattle.page_tokens.specs.TextStates.{BeginsReference};
     ghost use Rattle.page_tokens.specs.declared.tokenizer.named.Match.{Match};
 
     pub(super) fn is_in_reference(&self) -> bool
@@ -105,14 +155,19 @@ impl Tokenizer {
         !matches!(self.reference, Reference::None)
     }
 
-    pub(super) fn begin_reference(&mut self) -> Progress {
+    pub(super) fn begin_reference(&mut self) -> Progress
+        ensures told { IfOk result (λ told. told ≡ None) }
+        ensures begins { OnOk result (BeginsReference self.old self.new) }
+    {
         self.reference = Reference::Begun;
         self.written.clear();
         self.behind.clear();
         push(&mut self.written, '&')
     }
 
-    pub(super) fn is_in_value(&self) -> bool {
+    pub(super) fn is_in_value(&self) -> bool
+        ensures { result ≡ is_value (state_of self.now.state) }
+    {
         matches!(
             self.state,
             State::Attribute(AttrState::Quoted(_) | AttrState::Unquoted)
@@ -122,9 +177,11 @@ impl Tokenizer {
     /// Processes a character in a reference, and returns whether it is part of the reference.
     pub(super) fn reference(&mut self, c: char) -> bool
         ensures begins { self.old.reference ≡ Reference.Begun → is_ascii_alphanumeric c ≡ true →
-            IsNameRead [] None c self.new.reference result }
+            IsNameRead [] None c self.new.reference }
         ensures goes_on { (found : Match) → self.old.reference ≡ Reference.Named found →
-            IsReadBehind found c self.new.reference result }
+            IsReadBehind found c self.new.reference }
+        ensures follows { ReadsNoName self.old.reference c →
+            FollowsInReference self.old self.new c result }
     {
         match self.reference {
             Reference::None => false,
@@ -132,48 +189,55 @@ impl Tokenizer {
             Reference::Named(found) => self.named(found, c),
             Reference::Ambiguous => self.ambiguous(c),
             Reference::Number => self.number_begins(c),
-            Reference::HexStart | Reference::Hex(_) => self.digit(16, c),
-            Reference::Decimal(_) => self.digit(10, c),
+            Reference::HexStart | Reference::Hex(_) | Reference::Decimal(_) => self.digit(c),
         }
     }
 
     fn reference_begins(&mut self, c: char) -> bool
-        ensures { is_ascii_alphanumeric c ≡ true →
-            IsNameRead [] None c self.new.reference result }
+        ensures name { is_ascii_alphanumeric c ≡ true →
+            IsNameRead [] None c self.new.reference }
+        ensures follows { self.old.reference ≡ Reference.Begun → is_ascii_alphanumeric c ≡ false →
+            FollowsInReference self.old self.new c result }
     {
-        if c == '#' {
-            return self.go_on(Reference::Number, c);
-        }
         if c.is_ascii_alphanumeric() {
             return self.named(Match::new(), c);
+        }
+        if c == '#' {
+            return self.go_on(Reference::Number, c);
         }
         self.put_written();
         false
     }
 
-    fn number_begins(&mut self, c: char) -> bool {
-        match c {
-            'x' | 'X' => self.go_on(Reference::HexStart, c),
-            _ => self.digit(10, c),
+    fn number_begins(&mut self, c: char) -> bool
+        ensures { self.old.reference ≡ Reference.Number →
+            FollowsInReference self.old self.new c result }
+    {
+        if c == 'x' || c == 'X' {
+            return self.go_on(Reference::HexStart, c);
         }
+        self.digit(c)
     }
 
     /// Processes a digit of a number, or the character after the number.
-    fn digit(&mut self, base: u32, c: char) -> bool
-        requires least { 2 ≤ base }
-        requires most { base ≤ 36 }
+    fn digit(&mut self, c: char) -> bool
+        ensures { DigitsFollow self.old.reference c →
+            FollowsInReference self.old self.new c result }
     {
-        let number = match self.reference {
-            Reference::Hex(number) | Reference::Decimal(number) => Some(number),
-            _ => None,
-        };
-        match c.to_digit(base) {
-            Some(digit) => self.go_on(number_with(number, base, digit), c),
-            None => self.numbered(number, c),
+        if let Some(digit) = c.to_digit(base(self.reference)) {
+            return self.go_on(number_with(self.reference, digit), c);
+        }
+        match number(self.reference) {
+            Some(number) => self.numbered(number, c),
+            None => self.without_digits(),
         }
     }
 
-    fn go_on(&mut self, reference: Reference, c: char) -> bool {
+    fn go_on(&mut self, reference: Reference, c: char) -> bool
+        ensures is { result ≡ true }
+        ensures on { self.new.refused ≡ false →
+            WritesOn self.old self.new reference (encode_utf8 c) }
+    {
         let put = self.written.push(c);
         self.keep(put);
         self.reference = reference;
@@ -182,7 +246,11 @@ impl Tokenizer {
 
     /// Appends the buffer of the reference to the attribute value or the text, and ends the
     /// reference.
-    fn put_written(&mut self) {
+    fn put_written(&mut self)
+        ensures none { self.new.reference ≡ Reference.None }
+        ensures put { self.new.refused ≡ false →
+            EndsReference self.old self.new (string_bytes self.old.written) }
+    {
         self.reference = Reference::None;
         let put = if self.is_in_value() {
             append(&mut self.tag.attr_value, self.written.as_str())
@@ -192,32 +260,42 @@ impl Tokenizer {
         self.keep(put);
     }
 
-    fn put_number(&mut self, number: u32) {
-        if let Some(error) = number_error(number) {
-            self.error(error);
-        }
+    /// Ends a reference by this number.
+    fn put_number(&mut self, number: u32)
+        ensures { self.new.refused ≡ false →
+            EndsReference self.old self.new (encode_utf8 (character_of number)) }
+    {
+        self.report(number_error(number));
         self.written.clear();
         let put = self.written.push(character(number));
         self.keep(put);
+        self.put_written();
     }
 
-    /// Processes the character after a number, or after `&#` if there is none.
-    fn numbered(&mut self, number: Option<u32>, c: char) -> bool {
-        let Some(number) = number else {
-            self.error(ParseError::AbsenceOfDigitsInNumericCharacterReference);
-            self.put_written();
-            return false;
-        };
-        if c != ';' {
-            self.error(ParseError::MissingSemicolonAfterCharacterReference);
-        }
+    /// Processes the character after a number.
+    fn numbered(&mut self, number: u32, c: char) -> bool
+        ensures is { result ≡ (c == 59) }
+        ensures put { self.new.refused ≡ false →
+            EndsReference self.old self.new (encode_utf8 (character_of number)) }
+    {
+        self.report(unclosed_error(c));
         self.put_number(number);
-        self.put_written();
         c == ';'
     }
 
+    /// Ends a reference without a number.
+    fn without_digits(&mut self) -> bool
+        ensures is { result ≡ false }
+        ensures put { self.new.refused ≡ false →
+            EndsReference self.old self.new (string_bytes self.old.written) }
+    {
+        self.error(ParseError::AbsenceOfDigitsInNumericCharacterReference);
+        self.put_written();
+        false
+    }
+
     fn named(&mut self, found: Match, c: char) -> bool
-        ensures { IsReadBehind found c self.new.reference result }
+        ensures { IsReadBehind found c self.new.reference }
     {
         match found.with(c) {
             Some(more) => self.name_goes_on(more, c),
@@ -242,27 +320,43 @@ impl Tokenizer {
     }
 
     fn name_ends(&mut self, found: Match, c: char) -> bool
-        ensures { result ≡ false }
+        ensures { IsNoName self.new.reference }
     {
         self.put_named(found, Some(c));
-        if found.value.is_none() {
-            self.reference = Reference::Ambiguous;
-            return self.ambiguous(c);
+        if found.value.is_some() {
+            return false;
         }
+        self.reference = Reference::Ambiguous;
+        self.ambiguous(c)
+    }
+
+    /// Processes the characters after an ampersand that begin no name; they are text.
+    fn ambiguous(&mut self, c: char) -> bool
+        ensures name { self.old.reference ≡ Reference.Ambiguous → IsNoName self.new.reference }
+        ensures follows { self.old.reference ≡ Reference.Ambiguous →
+            FollowsInReference self.old self.new c result }
+    {
+        if c.is_ascii_alphanumeric() {
+            return self.put_letter(c);
+        }
+        self.report(ambiguous_error(c));
+        self.reference = Reference::None;
         false
     }
 
-    /// Processes the characters after an ampersand that are no name; they are text.
-    fn ambiguous(&mut self, c: char) -> bool
-        ensures { result ≡ false }
+    /// Appends a character to the attribute value or the text.
+    fn put_letter(&mut self, c: char) -> bool
+        ensures is { result ≡ true }
+        ensures same { self.new.reference ≡ self.old.reference }
+        ensures put { self.new.refused ≡ false → Puts self.old self.new (encode_utf8 c) }
     {
-        if !c.is_ascii_alphanumeric() {
-            self.reference = Reference::None;
-            if c == ';' {
-                self.error(ParseError::UnknownNamedCharacterReference);
-            }
-        }
-        false
+        let put = if self.is_in_value() {
+            self.tag.attr_value.push(c)
+        } else {
+            self.text.push(c)
+        };
+        self.keep(put);
+        true
     }
 
     /// Returns whether, in an attribute value, a letter, a digit or `=` follows the longest name. A
@@ -278,7 +372,9 @@ impl Tokenizer {
     }
 
     /// Appends what the longest name means, and the characters after it.
-    fn put_named(&mut self, found: Match, next: Option<char>) {
+    fn put_named(&mut self, found: Match, next: Option<char>)
+        ensures { self.new.reference ≡ Reference.None }
+    {
         if let Some(value) = found.value
             && (found.closed || !self.is_part_of_word(next))
         {
@@ -300,7 +396,7 @@ impl Tokenizer {
             Reference::Named(found) => self.put_named(found, None),
             Reference::Begun => self.put_written(),
             _ => {
-                self.digit(10, '\0');
+                self.digit('\0');
             }
         }
     }

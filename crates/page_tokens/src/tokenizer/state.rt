@@ -1,5 +1,8 @@
 //! The states of the tokenizer.
 
+ghost use Rattle.std.specs.Prelude.{◌≡◌};
+ghost use Rattle.page_tokens.specs.TagStates.{quote_of};
+
 /// The kinds of text that end at an end tag with the name of the last start tag.
 #[derive(Clone, Copy, Drop)]
 pub enum Raw {
@@ -152,21 +155,11 @@ pub enum State {
     Doctype(DoctypeState),
 }
 
-impl Raw {
-    /// Returns the state in which such text is read.
-    pub fn state(self) -> State {
-        match self {
-            Raw::Rcdata => State::Rcdata,
-            Raw::Rawtext => State::Rawtext,
-            Raw::Script => State::Script,
-            Raw::Escaped => State::ScriptData(ScriptState::Escaped),
-        }
-    }
-}
-
 impl Quote {
     /// Returns the quote character.
-    pub fn letter(self) -> char {
+    pub fn letter(self) -> char
+        ensures { result ≡ quote_of self }
+    {
         match self {
             Quote::Double => '"',
             Quote::Single => '\'',

@@ -1,6 +1,7 @@
 //! The tag states (13.2.5.6 to 13.2.5.8 and 13.2.5.40), outside attributes.
 
-ghost use Rattle.std.specs.Prelude.{◌≡◌, ◌<◌, ◌∷◌, [], IfOk, OnOk, false, length, string_bytes};
+ghost use Rattle.std.specs.Prelude.{◌≡◌, ◌<◌, ◌∷◌, [], IfOk, OnOk, None, Some, false, length};
+ghost use Rattle.std.specs.Prelude.{encode_utf8, string_bytes};
 
 use super::state::{AttrState, CommentState, Place, Seen, TagState};
 use super::{Progress, State, Tokenizer, append, is_space, push};
@@ -12,8 +13,11 @@ impl Tokenizer {
     ghost use Rattle.page_tokens.specs.Changes.{Remembers};
     ghost use Rattle.page_tokens.specs.Drafts.{IsReadyDraft, IsEmitted, NotesStart};
     ghost use Rattle.page_tokens.specs.Standard.{EmitsTag, Follows, Keeps};
+    ghost use Rattle.page_tokens.specs.TagStates.{BeginsBogus, BeginsTag};
 
-    pub(super) fn in_tag(&mut self, state: TagState, c: char) -> Progress {
+    pub(super) fn in_tag(&mut self, state: TagState, c: char) -> Progress
+        ensures { self.old.state ≡ State.Tag state → Follows self.old self.new (c ∷ []) result }
+    {
         match state {
             TagState::Open => self.tag_open(c),
             TagState::EndOpen => self.end_tag_open(c),
@@ -22,50 +26,59 @@ impl Tokenizer {
         }
     }
 
-    fn tag_open(&mut self, c: char) -> Progress {
-        match c {
-            '!' => {
-                self.comment.clear();
-                self.then(State::Declaration(Seen::Nothing))
-            }
-            '/' => self.then(State::Tag(TagState::EndOpen)),
-            'a'..='z' | 'A'..='Z' => self.begin_tag(TagKind::Start, c),
-            '?' => {
-                self.error(ParseError::UnexpectedQuestionMarkInsteadOfTagName);
-                self.bogus_comment(c)
-            }
-            _ => {
-                self.error(ParseError::InvalidFirstCharacterOfTagName);
-                self.put_text("<");
-                self.state = State::Data;
-                self.in_data(c)
-            }
+    fn tag_open(&mut self, c: char) -> Progress
+        ensures { self.old.state ≡ State.Tag TagState.Open →
+            Follows self.old self.new (c ∷ []) result }
+    {
+        if c == '!' {
+            self.comment.clear();
+            return self.then(State::Declaration(Seen::Nothing));
         }
+        if c == '/' {
+            return self.then(State::Tag(TagState::EndOpen));
+        }
+        if c.is_ascii_alphabetic() {
+            return self.begin_tag(TagKind::Start, c);
+        }
+        if c == '?' {
+            self.error(ParseError::UnexpectedQuestionMarkInsteadOfTagName);
+            return self.bogus_comment(c);
+        }
+        self.error(ParseError::InvalidFirstCharacterOfTagName);
+        self.put_text("<");
+        self.state = State::Data;
+        self.in_data(c)
     }
 
-    fn end_tag_open(&mut self, c: char) -> Progress {
-        match c {
-            'a'..='z' | 'A'..='Z' => self.begin_tag(TagKind::End, c),
-            '>' => {
-                self.error(ParseError::MissingEndTagName);
-                self.then(State::Data)
-            }
-            _ => {
-                self.error(ParseError::InvalidFirstCharacterOfTagName);
-                self.bogus_comment(c)
-            }
+    fn end_tag_open(&mut self, c: char) -> Progress
+        ensures { self.old.state ≡ State.Tag TagState.EndOpen →
+            Follows self.old self.new (c ∷ []) result }
+    {
+        if c.is_ascii_alphabetic() {
+            return self.begin_tag(TagKind::End, c);
         }
+        if c == '>' {
+            self.error(ParseError::MissingEndTagName);
+            return self.then(State::Data);
+        }
+        self.error(ParseError::InvalidFirstCharacterOfTagName);
+        self.bogus_comment(c)
     }
 
     /// Starts a bogus comment with this character.
-    fn bogus_comment(&mut self, c: char) -> Progress {
+    fn bogus_comment(&mut self, c: char) -> Progress
+        ensures { BeginsBogus self.old self.new c result }
+    {
         self.comment.clear();
         self.state = State::Comment(CommentState::Bogus);
         self.in_comment(CommentState::Bogus, c)
     }
 
     /// Starts a tag with the first letter of its name.
-    fn begin_tag(&mut self, kind: TagKind, c: char) -> Progress {
+    fn begin_tag(&mut self, kind: TagKind, c: char) -> Progress
+        ensures told { IfOk result (λ told. told ≡ None) }
+        ensures begins { OnOk result (BeginsTag self.old self.new kind (encode_utf8 c)) }
+    {
         self.tag.begin(self.alloc, kind);
         self.state = State::Tag(TagState::Name);
         push(&mut self.tag.name, c)
@@ -87,18 +100,17 @@ impl Tokenizer {
         self.letter(Place::TagName, c)
     }
 
-    fn self_closing(&mut self, c: char) -> Progress {
-        match c {
-            '>' => {
-                self.tag.self_closing = true;
-                self.emit_tag()
-            }
-            _ => {
-                self.error(ParseError::UnexpectedSolidusInTag);
-                self.state = State::Attribute(AttrState::BeforeName);
-                self.in_attribute(AttrState::BeforeName, c)
-            }
+    fn self_closing(&mut self, c: char) -> Progress
+        ensures { self.old.state ≡ State.Tag TagState.SelfClosing →
+            Follows self.old self.new (c ∷ []) result }
+    {
+        if c == '>' {
+            self.tag.self_closing = true;
+            return self.emit_tag();
         }
+        self.error(ParseError::UnexpectedSolidusInTag);
+        self.state = State::Attribute(AttrState::BeforeName);
+        self.before_attr_name(c)
     }
 
     /// Ends the tag. The tokenizer is then in the data state until a caller switches it.

@@ -1,0 +1,604 @@
+-- What a character in a doctype does, in the standard.
+use Rattle.std.specs.Prelude.{◌≡◌, ℕ, zero, suc, ◌<◌, ◌+◌, Bool, true, false, ◌==◌, ◌||◌, ◌&&◌, nat_le, cond, List, [], ◌∷◌, ◌++◌, map, length, take, codes, Option, None, Some, refl}
+use Rattle.std.proofs.Common.{arith}
+use Rattle.std.specs.Char.{to_ascii_lowercase}
+use Rattle.std.specs.List.{starts_with}
+use Rattle.std.proofs.Math.Seq.{drop-append_seam}
+use Rattle.std.proofs.lemmas.Bool.{eqb-true, eqb-false}
+use Rattle.std.proofs.lemmas.List.{append_assoc}
+use mathlib.Core.Path.{◌∙◌, sym, ap, subst}
+use Rattle.standard_tokens.specs.Entries.{Add, Current, DoctypeName, EmitDoctype, ForceQuirks, Lower, NewDoctype, PublicId, Reconsume, SetEmpty, Stay, Switch, SystemId, Then, replacement}
+use Rattle.standard_tokens.specs.Machine.{Machine, at_state, no_doctype, same_case_less, taken, with_more}
+use Rattle.standard_tokens.specs.States as there
+use Rattle.standard_tokens.specs.States.{State as StandardState}
+use Rattle.standard_tokens.specs.Table.{entries}
+use Rattle.standard_tokens.specs.Tokens.{Doctype as StandardDoctype, ADoctype}
+use Rattle.page_tokens.specs.Comments.{shown_of}
+use Rattle.page_tokens.specs.Declarations.{letter_is}
+use Rattle.page_tokens.specs.DoctypeSteps.{after_name_of, before_id_of, doctype_step_of, ends_or_of, keyword_step_of, quoted_step_of, spaced_of}
+use Rattle.page_tokens.specs.Runs.{is_space_of}
+use Rattle.page_tokens.specs.Standard.{DoctypeHeld, Goes, IsDoctype, IsKeyword, keyword_of, stays}
+use Rattle.page_tokens.specs.StandardStates.{doctype_state_of}
+use Rattle.page_tokens.specs.declared.tokenizer.Tokenizer.{Tokenizer}
+use Rattle.page_tokens.specs.declared.tokenizer.doctypes.DoctypeStep.{DoctypeStep}
+use Rattle.page_tokens.specs.declared.tokenizer.doctypes.DoctypeStep.TheVariants as its
+use Rattle.page_tokens.specs.declared.tokenizer.state.DoctypeState.{DoctypeState}
+use Rattle.page_tokens.specs.declared.tokenizer.state.DoctypeState.TheVariants as doctype
+use Rattle.page_tokens.specs.declared.tokenizer.state.Id.{Id}
+use Rattle.page_tokens.specs.declared.tokenizer.state.Id.TheVariants as id
+use Rattle.page_tokens.specs.declared.tokenizer.state.Quote.TheVariants as quote
+use Rattle.page_tokens.proofs.DeclarationSteps.{AllThemselves, High, high_taken, lower_themselves}
+use Rattle.page_tokens.proofs.ScriptSteps.{is_upper, stays_lower}
+use Rattle.page_tokens.proofs.StandardSteps.{by_bool, by_entry, by_test, taking, then_on}
+use Rattle.page_tokens.proofs.TagNames.{differs, space_cases}
+use Rattle.page_tokens.proofs.WordSteps.{begins, extends, fails, map_snoc, taken_word}
+
+-- ---- the machine in a doctype
+
+abbrev pub at : DoctypeState → Machine → Machine
+at inner m = at_state m (doctype_state_of inner)
+
+abbrev pub holding : Machine → StandardState → StandardDoctype → Machine
+holding m state one = record m { state = state; doctype = one }
+
+abbrev pub broken_there : Bool → StandardDoctype → StandardDoctype
+broken_there true one = record one { force_quirks = true }
+broken_there false one = one
+
+abbrev pub id_of : Id → StandardDoctype → Option (List ℕ)
+id_of id.Public one = one.public_id
+id_of id.System one = one.system_id
+
+abbrev pub with_id : Id → Option (List ℕ) → StandardDoctype → StandardDoctype
+with_id id.Public text one = record one { public_id = text }
+with_id id.System text one = record one { system_id = text }
+
+-- before its name, the doctype has not been made
+abbrev pub made_at : DoctypeState → StandardDoctype → StandardDoctype
+made_at doctype.Begin one = no_doctype
+made_at doctype.BeforeName one = no_doctype
+made_at _ one = one
+
+abbrev pub IsAhead : DoctypeState → List ℕ → Type 0
+IsAhead (doctype.Keyword which n) ahead = IsKeyword which n ahead
+IsAhead _ ahead = ahead ≡ []
+
+-- what is held in one state is held in the other
+abbrev pub Passes : DoctypeState → DoctypeState → Type 0
+Passes inner next = (t : Tokenizer) (ahead : List ℕ) (m : Machine) → DoctypeHeld inner t ahead m → DoctypeHeld next t [] m
+
+-- in the state, the doctype has been made
+abbrev pub IsMadeIn : DoctypeState → Type 0
+IsMadeIn inner = (t : Tokenizer) (m : Machine) → IsDoctype t.doctype m.doctype → DoctypeHeld inner t [] m
+
+-- what a character comes to, behind what was read ahead
+abbrev pub Comes : Bool → DoctypeState → Machine → List ℕ → List ℕ → ℕ → DoctypeStep → Type 0
+Comes b inner m ahead rest c (its.Then next) = Goes b (at inner m) (ahead ++ c ∷ rest) [] (at next m) rest × Passes inner next
+Comes b inner m ahead rest c its.NameBegins =
+    Goes b (at inner m) (ahead ++ c ∷ rest) [] (holding m there.DOCTYPEName (record no_doctype { name = Some (shown_of (to_ascii_lowercase c) ∷ []) })) rest
+    × ((one : StandardDoctype) → made_at inner one ≡ no_doctype)
+Comes b inner m ahead rest c its.NameLetter =
+    Goes b (at inner m) (ahead ++ c ∷ rest) [] (holding m (doctype_state_of inner) (record (made_at inner m.doctype) { name = with_more (made_at inner m.doctype).name (shown_of (to_ascii_lowercase c) ∷ []) })) rest
+    × IsMadeIn inner
+Comes b inner m ahead rest c (its.IdBegins which mark) = Goes b (at inner m) (ahead ++ c ∷ rest) [] (holding m (doctype_state_of (doctype.Quoted which mark)) (with_id which (Some []) (made_at inner m.doctype))) rest
+Comes b inner m ahead rest c (its.IdLetter which) =
+    Goes b (at inner m) (ahead ++ c ∷ rest) [] (holding m (doctype_state_of inner) (with_id which (with_more (id_of which (made_at inner m.doctype)) (shown_of c ∷ [])) (made_at inner m.doctype))) rest
+    × IsMadeIn inner
+Comes b inner m ahead rest c (its.Letter which n) = (doctype_state_of inner ≡ there.AfterDOCTYPEName) × ((one : StandardDoctype) → made_at inner one ≡ one) × IsKeyword which n (ahead ++ c ∷ [])
+Comes b inner m ahead rest c (its.Ends breaks) =
+    Goes b (at inner m) (ahead ++ c ∷ rest) (ADoctype (broken_there breaks (made_at inner m.doctype)) ∷ []) (holding m there.Data (broken_there breaks (made_at inner m.doctype))) rest
+Comes b inner m ahead rest c (its.Malformed breaks) = Goes b (at inner m) (ahead ++ c ∷ rest) [] (holding m there.BogusDOCTYPE (broken_there breaks (made_at inner m.doctype))) rest
+
+-- ---- white space
+
+record NoSpace (c : ℕ) : Type 0 where
+  pub tab : (9 == c) ≡ false
+  pub line_feed : (10 == c) ≡ false
+  pub form_feed : (12 == c) ≡ false
+  pub space : (32 == c) ≡ false
+
+no_space : (c : ℕ) → is_space_of c ≡ false → NoSpace c
+no_space c h = record { tab = differs is_space_of 9 c h refl; line_feed = differs is_space_of 10 c h refl; form_feed = differs is_space_of 12 c h refl; space = differs is_space_of 32 c h refl }
+
+spaced : (P : ℕ → DoctypeStep → Type 0) (next : DoctypeState) (c : ℕ) (other : DoctypeStep) → P 9 (its.Then next) → P 10 (its.Then next) → P 12 (its.Then next) → P 32 (its.Then next) → (NoSpace c → P c other) →
+    P c (spaced_of next c other)
+spaced P next c other p9 p10 p12 p32 otherwise = go (is_space_of c) refl
+  where
+    go : (x : Bool) → is_space_of c ≡ x → P c (cond x (its.Then next) other)
+    go true e = space_cases (λ d. P d (its.Then next)) c e p9 p10 p12 p32
+    go false e = otherwise (no_space c e)
+
+-- ---- the rest of a malformed doctype
+
+bogus : (b : Bool) (m : Machine) (rest : List ℕ) (c : ℕ) (one : StandardDoctype) → (62 == c) ≡ false → Goes b (holding m there.BogusDOCTYPE one) (c ∷ rest) [] (holding m there.BogusDOCTYPE one) rest
+unfolding taken entries
+bogus b m rest c one h62 =
+    by_bool (λ e _. Goes b (holding m there.BogusDOCTYPE one) (e ∷ rest) [] (holding m there.BogusDOCTYPE one) rest) c 0
+    (by_entry (holding m there.BogusDOCTYPE one) (0 ∷ rest) (taking [] Stay (0 ∷ [])) refl refl)
+    (λ h0. by_entry (holding m there.BogusDOCTYPE one) (c ∷ rest) (taking [] Stay (c ∷ [])) (rw (h62, h0) refl) refl)
+
+-- ---- letters in lower case
+
+lower_some : (c : ℕ) → (0 == c) ≡ false → (to_ascii_lowercase c == 0) ≡ false
+lower_some c h = grind arith
+
+shown_lower : (c : ℕ) → (0 == c) ≡ false → shown_of (to_ascii_lowercase c) ≡ to_ascii_lowercase c
+shown_lower c h = ap (λ x. cond x 0xfffd (to_ascii_lowercase c)) (lower_some c h)
+
+upper_some : (c : ℕ) → is_upper c ≡ true → (0 == c) ≡ false
+upper_some c h = grind arith
+
+name_begins : (b : Bool) (m : Machine) (rest : List ℕ) (c : ℕ) → NoSpace c → (62 == c) ≡ false → Goes b (at doctype.BeforeName m) (c ∷ rest) [] (holding m there.DOCTYPEName (record no_doctype { name = Some (shown_of (to_ascii_lowercase c) ∷ []) })) rest
+unfolding taken entries
+name_begins b m rest c s h62 =
+    by_bool (λ e _. Goes b (at doctype.BeforeName m) (e ∷ rest) [] (holding m there.DOCTYPEName (record no_doctype { name = Some (shown_of (to_ascii_lowercase e) ∷ []) })) rest) c 0
+    (by_entry (at doctype.BeforeName m) (0 ∷ rest) (taking (NewDoctype ∷ Add DoctypeName replacement ∷ []) (Switch there.DOCTYPEName) (0 ∷ [])) refl refl)
+    (λ h0. subst (λ d. Goes b (at doctype.BeforeName m) (c ∷ rest) [] (holding m there.DOCTYPEName (record no_doctype { name = Some (d ∷ []) })) rest) (sym (shown_lower c h0)) (go h0 (is_upper c) refl))
+  where
+    go : (0 == c) ≡ false → (x : Bool) → is_upper c ≡ x → Goes b (at doctype.BeforeName m) (c ∷ rest) [] (holding m there.DOCTYPEName (record no_doctype { name = Some (to_ascii_lowercase c ∷ []) })) rest
+    go h0 true e = by_entry (at doctype.BeforeName m) (c ∷ rest) (taking (NewDoctype ∷ Add DoctypeName Lower ∷ []) (Switch there.DOCTYPEName) (c ∷ [])) (rw (s.tab, s.line_feed, s.form_feed, s.space, h62, e) refl) refl
+    go h0 false e =
+        subst (λ d. Goes b (at doctype.BeforeName m) (c ∷ rest) [] (holding m there.DOCTYPEName (record no_doctype { name = Some (d ∷ []) })) rest) (sym (stays_lower c e))
+        (by_entry (at doctype.BeforeName m) (c ∷ rest) (taking (NewDoctype ∷ Add DoctypeName Current ∷ []) (Switch there.DOCTYPEName) (c ∷ [])) (rw (s.tab, s.line_feed, s.form_feed, s.space, h62, e, h0) refl) refl)
+
+name_letter : (b : Bool) (m : Machine) (rest : List ℕ) (c : ℕ) → NoSpace c → (62 == c) ≡ false → Goes b (at doctype.Name m) (c ∷ rest) [] (holding m there.DOCTYPEName (record m.doctype { name = with_more m.doctype.name (shown_of (to_ascii_lowercase c) ∷ []) })) rest
+unfolding taken entries
+name_letter b m rest c s h62 =
+    by_bool (λ e _. Goes b (at doctype.Name m) (e ∷ rest) [] (holding m there.DOCTYPEName (record m.doctype { name = with_more m.doctype.name (shown_of (to_ascii_lowercase e) ∷ []) })) rest) c 0
+    (by_entry (at doctype.Name m) (0 ∷ rest) (taking (Add DoctypeName replacement ∷ []) (Stay) (0 ∷ [])) refl refl)
+    (λ h0. subst (λ d. Goes b (at doctype.Name m) (c ∷ rest) [] (holding m there.DOCTYPEName (record m.doctype { name = with_more m.doctype.name (d ∷ []) })) rest) (sym (shown_lower c h0)) (go h0 (is_upper c) refl))
+  where
+    go : (0 == c) ≡ false → (x : Bool) → is_upper c ≡ x → Goes b (at doctype.Name m) (c ∷ rest) [] (holding m there.DOCTYPEName (record m.doctype { name = with_more m.doctype.name (to_ascii_lowercase c ∷ []) })) rest
+    go h0 true e = by_entry (at doctype.Name m) (c ∷ rest) (taking (Add DoctypeName Lower ∷ []) (Stay) (c ∷ [])) (rw (s.tab, s.line_feed, s.form_feed, s.space, h62, e) refl) refl
+    go h0 false e =
+        subst (λ d. Goes b (at doctype.Name m) (c ∷ rest) [] (holding m there.DOCTYPEName (record m.doctype { name = with_more m.doctype.name (d ∷ []) })) rest) (sym (stays_lower c e))
+        (by_entry (at doctype.Name m) (c ∷ rest) (taking (Add DoctypeName Current ∷ []) (Stay) (c ∷ [])) (rw (s.tab, s.line_feed, s.form_feed, s.space, h62, e, h0) refl) refl)
+
+before_name : (b : Bool) (m : Machine) (rest : List ℕ) (c : ℕ) → Comes b doctype.BeforeName m [] rest c (doctype_step_of doctype.BeforeName c)
+unfolding taken entries
+before_name b m rest c =
+    let P : ℕ → DoctypeStep → Type 0 = λ d k. Comes b doctype.BeforeName m [] rest d k in
+    spaced P doctype.BeforeName c (ends_or_of true c its.NameBegins)
+    (by_entry (at doctype.BeforeName m) (9 ∷ rest) (taking ([]) (Stay) (9 ∷ [])) refl refl, (λ t ahead m held. (refl, held.1)))
+    (by_entry (at doctype.BeforeName m) (10 ∷ rest) (taking ([]) (Stay) (10 ∷ [])) refl refl, (λ t ahead m held. (refl, held.1)))
+    (by_entry (at doctype.BeforeName m) (12 ∷ rest) (taking ([]) (Stay) (12 ∷ [])) refl refl, (λ t ahead m held. (refl, held.1)))
+    (by_entry (at doctype.BeforeName m) (32 ∷ rest) (taking ([]) (Stay) (32 ∷ [])) refl refl, (λ t ahead m held. (refl, held.1)))
+    (λ s. by_test P c 62 (its.Ends true) its.NameBegins
+    (by_entry (at doctype.BeforeName m) (62 ∷ rest) (taking (NewDoctype ∷ ForceQuirks ∷ EmitDoctype ∷ []) (Switch there.Data) (62 ∷ [])) refl refl)
+    (λ h62. (name_begins b m rest c s h62, (λ one. refl))))
+
+at_begin : (b : Bool) (m : Machine) (rest : List ℕ) (c : ℕ) → Comes b doctype.Begin m [] rest c (doctype_step_of doctype.Begin c)
+unfolding taken entries
+at_begin b m rest c =
+    let P : ℕ → DoctypeStep → Type 0 = λ d k. Comes b doctype.Begin m [] rest d k in
+    spaced P doctype.BeforeName c (ends_or_of true c its.NameBegins)
+    (by_entry (at doctype.Begin m) (9 ∷ rest) (taking ([]) (Switch there.BeforeDOCTYPEName) (9 ∷ [])) refl refl, (λ t ahead m held. (refl, held.1)))
+    (by_entry (at doctype.Begin m) (10 ∷ rest) (taking ([]) (Switch there.BeforeDOCTYPEName) (10 ∷ [])) refl refl, (λ t ahead m held. (refl, held.1)))
+    (by_entry (at doctype.Begin m) (12 ∷ rest) (taking ([]) (Switch there.BeforeDOCTYPEName) (12 ∷ [])) refl refl, (λ t ahead m held. (refl, held.1)))
+    (by_entry (at doctype.Begin m) (32 ∷ rest) (taking ([]) (Switch there.BeforeDOCTYPEName) (32 ∷ [])) refl refl, (λ t ahead m held. (refl, held.1)))
+    (λ s. by_test P c 62 (its.Ends true) its.NameBegins
+    (then_on (by_entry (at doctype.Begin m) (62 ∷ rest) (taking ([]) (Reconsume there.BeforeDOCTYPEName) (62 ∷ [])) refl refl) (by_entry (at doctype.BeforeName m) (62 ∷ rest) (taking (NewDoctype ∷ ForceQuirks ∷ EmitDoctype ∷ []) (Switch there.Data) (62 ∷ [])) refl refl))
+    (λ h62. (then_on (by_entry (at doctype.Begin m) (c ∷ rest) (taking ([]) (Reconsume there.BeforeDOCTYPEName) (c ∷ [])) (rw (s.tab, s.line_feed, s.form_feed, s.space, h62) refl) refl) (name_begins b m rest c s h62), (λ one. refl))))
+
+in_name : (b : Bool) (m : Machine) (rest : List ℕ) (c : ℕ) → Comes b doctype.Name m [] rest c (doctype_step_of doctype.Name c)
+unfolding taken entries
+in_name b m rest c =
+    let P : ℕ → DoctypeStep → Type 0 = λ d k. Comes b doctype.Name m [] rest d k in
+    spaced P doctype.AfterName c (ends_or_of false c its.NameLetter)
+    (by_entry (at doctype.Name m) (9 ∷ rest) (taking ([]) (Switch there.AfterDOCTYPEName) (9 ∷ [])) refl refl, (λ t ahead m held. (refl, held.1)))
+    (by_entry (at doctype.Name m) (10 ∷ rest) (taking ([]) (Switch there.AfterDOCTYPEName) (10 ∷ [])) refl refl, (λ t ahead m held. (refl, held.1)))
+    (by_entry (at doctype.Name m) (12 ∷ rest) (taking ([]) (Switch there.AfterDOCTYPEName) (12 ∷ [])) refl refl, (λ t ahead m held. (refl, held.1)))
+    (by_entry (at doctype.Name m) (32 ∷ rest) (taking ([]) (Switch there.AfterDOCTYPEName) (32 ∷ [])) refl refl, (λ t ahead m held. (refl, held.1)))
+    (λ s. by_test P c 62 (its.Ends false) its.NameLetter
+    (by_entry (at doctype.Name m) (62 ∷ rest) (taking (EmitDoctype ∷ []) (Switch there.Data) (62 ∷ [])) refl refl)
+    (λ h62. (name_letter b m rest c s h62, (λ t m is. (refl, is)))))
+
+after_public_keyword : (b : Bool) (m : Machine) (rest : List ℕ) (c : ℕ) → Comes b (doctype.AfterKeyword id.Public) m [] rest c (spaced_of (doctype.BeforeId id.Public) c (before_id_of id.Public true c))
+unfolding taken entries
+after_public_keyword b m rest c =
+    let P : ℕ → DoctypeStep → Type 0 = λ d k. Comes b (doctype.AfterKeyword id.Public) m [] rest d k in
+    spaced P (doctype.BeforeId id.Public) c (before_id_of id.Public true c)
+    (by_entry (at (doctype.AfterKeyword id.Public) m) (9 ∷ rest) (taking ([]) (Switch there.BeforeDOCTYPEPublicIdentifier) (9 ∷ [])) refl refl, (λ t ahead m held. (refl, held.1)))
+    (by_entry (at (doctype.AfterKeyword id.Public) m) (10 ∷ rest) (taking ([]) (Switch there.BeforeDOCTYPEPublicIdentifier) (10 ∷ [])) refl refl, (λ t ahead m held. (refl, held.1)))
+    (by_entry (at (doctype.AfterKeyword id.Public) m) (12 ∷ rest) (taking ([]) (Switch there.BeforeDOCTYPEPublicIdentifier) (12 ∷ [])) refl refl, (λ t ahead m held. (refl, held.1)))
+    (by_entry (at (doctype.AfterKeyword id.Public) m) (32 ∷ rest) (taking ([]) (Switch there.BeforeDOCTYPEPublicIdentifier) (32 ∷ [])) refl refl, (λ t ahead m held. (refl, held.1)))
+    (λ s. by_test P c 34 (its.IdBegins id.Public quote.Double) (cond (c == 39) (its.IdBegins id.Public quote.Single) (ends_or_of true c (its.Malformed true)))
+    (by_entry (at (doctype.AfterKeyword id.Public) m) (34 ∷ rest) (taking (SetEmpty PublicId ∷ []) (Switch (doctype_state_of (doctype.Quoted id.Public quote.Double))) (34 ∷ [])) refl refl)
+    (λ h34. by_test P c 39 (its.IdBegins id.Public quote.Single) (ends_or_of true c (its.Malformed true))
+    (by_entry (at (doctype.AfterKeyword id.Public) m) (39 ∷ rest) (taking (SetEmpty PublicId ∷ []) (Switch (doctype_state_of (doctype.Quoted id.Public quote.Single))) (39 ∷ [])) refl refl)
+    (λ h39. by_test P c 62 (its.Ends true) (its.Malformed true)
+    (by_entry (at (doctype.AfterKeyword id.Public) m) (62 ∷ rest) (taking (ForceQuirks ∷ EmitDoctype ∷ []) (Switch there.Data) (62 ∷ [])) refl refl)
+    (λ h62. then_on (by_entry (at (doctype.AfterKeyword id.Public) m) (c ∷ rest) (taking (ForceQuirks ∷ []) (Reconsume there.BogusDOCTYPE) (c ∷ [])) (rw (s.tab, s.line_feed, s.form_feed, s.space, h34, h39, h62) refl) refl) (bogus b m rest c (record m.doctype { force_quirks = true }) h62)))))
+
+before_public_id : (b : Bool) (m : Machine) (rest : List ℕ) (c : ℕ) → Comes b (doctype.BeforeId id.Public) m [] rest c (spaced_of (doctype.BeforeId id.Public) c (before_id_of id.Public true c))
+unfolding taken entries
+before_public_id b m rest c =
+    let P : ℕ → DoctypeStep → Type 0 = λ d k. Comes b (doctype.BeforeId id.Public) m [] rest d k in
+    spaced P (doctype.BeforeId id.Public) c (before_id_of id.Public true c)
+    (by_entry (at (doctype.BeforeId id.Public) m) (9 ∷ rest) (taking ([]) (Stay) (9 ∷ [])) refl refl, (λ t ahead m held. (refl, held.1)))
+    (by_entry (at (doctype.BeforeId id.Public) m) (10 ∷ rest) (taking ([]) (Stay) (10 ∷ [])) refl refl, (λ t ahead m held. (refl, held.1)))
+    (by_entry (at (doctype.BeforeId id.Public) m) (12 ∷ rest) (taking ([]) (Stay) (12 ∷ [])) refl refl, (λ t ahead m held. (refl, held.1)))
+    (by_entry (at (doctype.BeforeId id.Public) m) (32 ∷ rest) (taking ([]) (Stay) (32 ∷ [])) refl refl, (λ t ahead m held. (refl, held.1)))
+    (λ s. by_test P c 34 (its.IdBegins id.Public quote.Double) (cond (c == 39) (its.IdBegins id.Public quote.Single) (ends_or_of true c (its.Malformed true)))
+    (by_entry (at (doctype.BeforeId id.Public) m) (34 ∷ rest) (taking (SetEmpty PublicId ∷ []) (Switch (doctype_state_of (doctype.Quoted id.Public quote.Double))) (34 ∷ [])) refl refl)
+    (λ h34. by_test P c 39 (its.IdBegins id.Public quote.Single) (ends_or_of true c (its.Malformed true))
+    (by_entry (at (doctype.BeforeId id.Public) m) (39 ∷ rest) (taking (SetEmpty PublicId ∷ []) (Switch (doctype_state_of (doctype.Quoted id.Public quote.Single))) (39 ∷ [])) refl refl)
+    (λ h39. by_test P c 62 (its.Ends true) (its.Malformed true)
+    (by_entry (at (doctype.BeforeId id.Public) m) (62 ∷ rest) (taking (ForceQuirks ∷ EmitDoctype ∷ []) (Switch there.Data) (62 ∷ [])) refl refl)
+    (λ h62. then_on (by_entry (at (doctype.BeforeId id.Public) m) (c ∷ rest) (taking (ForceQuirks ∷ []) (Reconsume there.BogusDOCTYPE) (c ∷ [])) (rw (s.tab, s.line_feed, s.form_feed, s.space, h34, h39, h62) refl) refl) (bogus b m rest c (record m.doctype { force_quirks = true }) h62)))))
+
+after_system_keyword : (b : Bool) (m : Machine) (rest : List ℕ) (c : ℕ) → Comes b (doctype.AfterKeyword id.System) m [] rest c (spaced_of (doctype.BeforeId id.System) c (before_id_of id.System true c))
+unfolding taken entries
+after_system_keyword b m rest c =
+    let P : ℕ → DoctypeStep → Type 0 = λ d k. Comes b (doctype.AfterKeyword id.System) m [] rest d k in
+    spaced P (doctype.BeforeId id.System) c (before_id_of id.System true c)
+    (by_entry (at (doctype.AfterKeyword id.System) m) (9 ∷ rest) (taking ([]) (Switch there.BeforeDOCTYPESystemIdentifier) (9 ∷ [])) refl refl, (λ t ahead m held. (refl, held.1)))
+    (by_entry (at (doctype.AfterKeyword id.System) m) (10 ∷ rest) (taking ([]) (Switch there.BeforeDOCTYPESystemIdentifier) (10 ∷ [])) refl refl, (λ t ahead m held. (refl, held.1)))
+    (by_entry (at (doctype.AfterKeyword id.System) m) (12 ∷ rest) (taking ([]) (Switch there.BeforeDOCTYPESystemIdentifier) (12 ∷ [])) refl refl, (λ t ahead m held. (refl, held.1)))
+    (by_entry (at (doctype.AfterKeyword id.System) m) (32 ∷ rest) (taking ([]) (Switch there.BeforeDOCTYPESystemIdentifier) (32 ∷ [])) refl refl, (λ t ahead m held. (refl, held.1)))
+    (λ s. by_test P c 34 (its.IdBegins id.System quote.Double) (cond (c == 39) (its.IdBegins id.System quote.Single) (ends_or_of true c (its.Malformed true)))
+    (by_entry (at (doctype.AfterKeyword id.System) m) (34 ∷ rest) (taking (SetEmpty SystemId ∷ []) (Switch (doctype_state_of (doctype.Quoted id.System quote.Double))) (34 ∷ [])) refl refl)
+    (λ h34. by_test P c 39 (its.IdBegins id.System quote.Single) (ends_or_of true c (its.Malformed true))
+    (by_entry (at (doctype.AfterKeyword id.System) m) (39 ∷ rest) (taking (SetEmpty SystemId ∷ []) (Switch (doctype_state_of (doctype.Quoted id.System quote.Single))) (39 ∷ [])) refl refl)
+    (λ h39. by_test P c 62 (its.Ends true) (its.Malformed true)
+    (by_entry (at (doctype.AfterKeyword id.System) m) (62 ∷ rest) (taking (ForceQuirks ∷ EmitDoctype ∷ []) (Switch there.Data) (62 ∷ [])) refl refl)
+    (λ h62. then_on (by_entry (at (doctype.AfterKeyword id.System) m) (c ∷ rest) (taking (ForceQuirks ∷ []) (Reconsume there.BogusDOCTYPE) (c ∷ [])) (rw (s.tab, s.line_feed, s.form_feed, s.space, h34, h39, h62) refl) refl) (bogus b m rest c (record m.doctype { force_quirks = true }) h62)))))
+
+before_system_id : (b : Bool) (m : Machine) (rest : List ℕ) (c : ℕ) → Comes b (doctype.BeforeId id.System) m [] rest c (spaced_of (doctype.BeforeId id.System) c (before_id_of id.System true c))
+unfolding taken entries
+before_system_id b m rest c =
+    let P : ℕ → DoctypeStep → Type 0 = λ d k. Comes b (doctype.BeforeId id.System) m [] rest d k in
+    spaced P (doctype.BeforeId id.System) c (before_id_of id.System true c)
+    (by_entry (at (doctype.BeforeId id.System) m) (9 ∷ rest) (taking ([]) (Stay) (9 ∷ [])) refl refl, (λ t ahead m held. (refl, held.1)))
+    (by_entry (at (doctype.BeforeId id.System) m) (10 ∷ rest) (taking ([]) (Stay) (10 ∷ [])) refl refl, (λ t ahead m held. (refl, held.1)))
+    (by_entry (at (doctype.BeforeId id.System) m) (12 ∷ rest) (taking ([]) (Stay) (12 ∷ [])) refl refl, (λ t ahead m held. (refl, held.1)))
+    (by_entry (at (doctype.BeforeId id.System) m) (32 ∷ rest) (taking ([]) (Stay) (32 ∷ [])) refl refl, (λ t ahead m held. (refl, held.1)))
+    (λ s. by_test P c 34 (its.IdBegins id.System quote.Double) (cond (c == 39) (its.IdBegins id.System quote.Single) (ends_or_of true c (its.Malformed true)))
+    (by_entry (at (doctype.BeforeId id.System) m) (34 ∷ rest) (taking (SetEmpty SystemId ∷ []) (Switch (doctype_state_of (doctype.Quoted id.System quote.Double))) (34 ∷ [])) refl refl)
+    (λ h34. by_test P c 39 (its.IdBegins id.System quote.Single) (ends_or_of true c (its.Malformed true))
+    (by_entry (at (doctype.BeforeId id.System) m) (39 ∷ rest) (taking (SetEmpty SystemId ∷ []) (Switch (doctype_state_of (doctype.Quoted id.System quote.Single))) (39 ∷ [])) refl refl)
+    (λ h39. by_test P c 62 (its.Ends true) (its.Malformed true)
+    (by_entry (at (doctype.BeforeId id.System) m) (62 ∷ rest) (taking (ForceQuirks ∷ EmitDoctype ∷ []) (Switch there.Data) (62 ∷ [])) refl refl)
+    (λ h62. then_on (by_entry (at (doctype.BeforeId id.System) m) (c ∷ rest) (taking (ForceQuirks ∷ []) (Reconsume there.BogusDOCTYPE) (c ∷ [])) (rw (s.tab, s.line_feed, s.form_feed, s.space, h34, h39, h62) refl) refl) (bogus b m rest c (record m.doctype { force_quirks = true }) h62)))))
+
+after_public_id : (b : Bool) (m : Machine) (rest : List ℕ) (c : ℕ) → Comes b (doctype.AfterId id.Public) m [] rest c (spaced_of doctype.BetweenIds c (before_id_of id.System false c))
+unfolding taken entries
+after_public_id b m rest c =
+    let P : ℕ → DoctypeStep → Type 0 = λ d k. Comes b (doctype.AfterId id.Public) m [] rest d k in
+    spaced P doctype.BetweenIds c (before_id_of id.System false c)
+    (by_entry (at (doctype.AfterId id.Public) m) (9 ∷ rest) (taking ([]) (Switch there.BetweenDOCTYPEPublicAndSystemIdentifiers) (9 ∷ [])) refl refl, (λ t ahead m held. (refl, held.1)))
+    (by_entry (at (doctype.AfterId id.Public) m) (10 ∷ rest) (taking ([]) (Switch there.BetweenDOCTYPEPublicAndSystemIdentifiers) (10 ∷ [])) refl refl, (λ t ahead m held. (refl, held.1)))
+    (by_entry (at (doctype.AfterId id.Public) m) (12 ∷ rest) (taking ([]) (Switch there.BetweenDOCTYPEPublicAndSystemIdentifiers) (12 ∷ [])) refl refl, (λ t ahead m held. (refl, held.1)))
+    (by_entry (at (doctype.AfterId id.Public) m) (32 ∷ rest) (taking ([]) (Switch there.BetweenDOCTYPEPublicAndSystemIdentifiers) (32 ∷ [])) refl refl, (λ t ahead m held. (refl, held.1)))
+    (λ s. by_test P c 34 (its.IdBegins id.System quote.Double) (cond (c == 39) (its.IdBegins id.System quote.Single) (ends_or_of false c (its.Malformed true)))
+    (by_entry (at (doctype.AfterId id.Public) m) (34 ∷ rest) (taking (SetEmpty SystemId ∷ []) (Switch (doctype_state_of (doctype.Quoted id.System quote.Double))) (34 ∷ [])) refl refl)
+    (λ h34. by_test P c 39 (its.IdBegins id.System quote.Single) (ends_or_of false c (its.Malformed true))
+    (by_entry (at (doctype.AfterId id.Public) m) (39 ∷ rest) (taking (SetEmpty SystemId ∷ []) (Switch (doctype_state_of (doctype.Quoted id.System quote.Single))) (39 ∷ [])) refl refl)
+    (λ h39. by_test P c 62 (its.Ends false) (its.Malformed true)
+    (by_entry (at (doctype.AfterId id.Public) m) (62 ∷ rest) (taking (EmitDoctype ∷ []) (Switch there.Data) (62 ∷ [])) refl refl)
+    (λ h62. then_on (by_entry (at (doctype.AfterId id.Public) m) (c ∷ rest) (taking (ForceQuirks ∷ []) (Reconsume there.BogusDOCTYPE) (c ∷ [])) (rw (s.tab, s.line_feed, s.form_feed, s.space, h34, h39, h62) refl) refl) (bogus b m rest c (record m.doctype { force_quirks = true }) h62)))))
+
+between_ids : (b : Bool) (m : Machine) (rest : List ℕ) (c : ℕ) → Comes b doctype.BetweenIds m [] rest c (spaced_of doctype.BetweenIds c (before_id_of id.System false c))
+unfolding taken entries
+between_ids b m rest c =
+    let P : ℕ → DoctypeStep → Type 0 = λ d k. Comes b doctype.BetweenIds m [] rest d k in
+    spaced P doctype.BetweenIds c (before_id_of id.System false c)
+    (by_entry (at doctype.BetweenIds m) (9 ∷ rest) (taking ([]) (Stay) (9 ∷ [])) refl refl, (λ t ahead m held. (refl, held.1)))
+    (by_entry (at doctype.BetweenIds m) (10 ∷ rest) (taking ([]) (Stay) (10 ∷ [])) refl refl, (λ t ahead m held. (refl, held.1)))
+    (by_entry (at doctype.BetweenIds m) (12 ∷ rest) (taking ([]) (Stay) (12 ∷ [])) refl refl, (λ t ahead m held. (refl, held.1)))
+    (by_entry (at doctype.BetweenIds m) (32 ∷ rest) (taking ([]) (Stay) (32 ∷ [])) refl refl, (λ t ahead m held. (refl, held.1)))
+    (λ s. by_test P c 34 (its.IdBegins id.System quote.Double) (cond (c == 39) (its.IdBegins id.System quote.Single) (ends_or_of false c (its.Malformed true)))
+    (by_entry (at doctype.BetweenIds m) (34 ∷ rest) (taking (SetEmpty SystemId ∷ []) (Switch (doctype_state_of (doctype.Quoted id.System quote.Double))) (34 ∷ [])) refl refl)
+    (λ h34. by_test P c 39 (its.IdBegins id.System quote.Single) (ends_or_of false c (its.Malformed true))
+    (by_entry (at doctype.BetweenIds m) (39 ∷ rest) (taking (SetEmpty SystemId ∷ []) (Switch (doctype_state_of (doctype.Quoted id.System quote.Single))) (39 ∷ [])) refl refl)
+    (λ h39. by_test P c 62 (its.Ends false) (its.Malformed true)
+    (by_entry (at doctype.BetweenIds m) (62 ∷ rest) (taking (EmitDoctype ∷ []) (Switch there.Data) (62 ∷ [])) refl refl)
+    (λ h62. then_on (by_entry (at doctype.BetweenIds m) (c ∷ rest) (taking (ForceQuirks ∷ []) (Reconsume there.BogusDOCTYPE) (c ∷ [])) (rw (s.tab, s.line_feed, s.form_feed, s.space, h34, h39, h62) refl) refl) (bogus b m rest c (record m.doctype { force_quirks = true }) h62)))))
+
+in_public_double : (b : Bool) (m : Machine) (rest : List ℕ) (c : ℕ) → Comes b (doctype.Quoted id.Public quote.Double) m [] rest c (quoted_step_of id.Public quote.Double c)
+unfolding taken entries
+in_public_double b m rest c =
+    let P : ℕ → DoctypeStep → Type 0 = λ d k. Comes b (doctype.Quoted id.Public quote.Double) m [] rest d k in
+    by_test P c 34 (its.Then (doctype.AfterId id.Public)) (ends_or_of true c (its.IdLetter id.Public))
+    (by_entry (at (doctype.Quoted id.Public quote.Double) m) (34 ∷ rest) (taking ([]) (Switch there.AfterDOCTYPEPublicIdentifier) (34 ∷ [])) refl refl, (λ t ahead m held. (refl, held.1)))
+    (λ h34. by_test P c 62 (its.Ends true) (its.IdLetter id.Public)
+    (by_entry (at (doctype.Quoted id.Public quote.Double) m) (62 ∷ rest) (taking (ForceQuirks ∷ EmitDoctype ∷ []) (Switch there.Data) (62 ∷ [])) refl refl)
+    (λ h62. (
+      by_bool (λ e x. Goes b (at (doctype.Quoted id.Public quote.Double) m) (e ∷ rest) [] (holding m (doctype_state_of (doctype.Quoted id.Public quote.Double)) (with_id id.Public (with_more (id_of id.Public m.doctype) (cond x 0xfffd e ∷ [])) m.doctype)) rest) c 0
+          (by_entry (at (doctype.Quoted id.Public quote.Double) m) (0 ∷ rest) (taking (Add PublicId replacement ∷ []) (Stay) (0 ∷ [])) refl refl)
+          (λ h0. by_entry (at (doctype.Quoted id.Public quote.Double) m) (c ∷ rest) (taking (Add PublicId Current ∷ []) (Stay) (c ∷ [])) (rw (h34, h0, h62) refl) refl),
+      (λ t m is. (refl, is)),
+    )))
+
+in_public_single : (b : Bool) (m : Machine) (rest : List ℕ) (c : ℕ) → Comes b (doctype.Quoted id.Public quote.Single) m [] rest c (quoted_step_of id.Public quote.Single c)
+unfolding taken entries
+in_public_single b m rest c =
+    let P : ℕ → DoctypeStep → Type 0 = λ d k. Comes b (doctype.Quoted id.Public quote.Single) m [] rest d k in
+    by_test P c 39 (its.Then (doctype.AfterId id.Public)) (ends_or_of true c (its.IdLetter id.Public))
+    (by_entry (at (doctype.Quoted id.Public quote.Single) m) (39 ∷ rest) (taking ([]) (Switch there.AfterDOCTYPEPublicIdentifier) (39 ∷ [])) refl refl, (λ t ahead m held. (refl, held.1)))
+    (λ h39. by_test P c 62 (its.Ends true) (its.IdLetter id.Public)
+    (by_entry (at (doctype.Quoted id.Public quote.Single) m) (62 ∷ rest) (taking (ForceQuirks ∷ EmitDoctype ∷ []) (Switch there.Data) (62 ∷ [])) refl refl)
+    (λ h62. (
+      by_bool (λ e x. Goes b (at (doctype.Quoted id.Public quote.Single) m) (e ∷ rest) [] (holding m (doctype_state_of (doctype.Quoted id.Public quote.Single)) (with_id id.Public (with_more (id_of id.Public m.doctype) (cond x 0xfffd e ∷ [])) m.doctype)) rest) c 0
+          (by_entry (at (doctype.Quoted id.Public quote.Single) m) (0 ∷ rest) (taking (Add PublicId replacement ∷ []) (Stay) (0 ∷ [])) refl refl)
+          (λ h0. by_entry (at (doctype.Quoted id.Public quote.Single) m) (c ∷ rest) (taking (Add PublicId Current ∷ []) (Stay) (c ∷ [])) (rw (h39, h0, h62) refl) refl),
+      (λ t m is. (refl, is)),
+    )))
+
+in_system_double : (b : Bool) (m : Machine) (rest : List ℕ) (c : ℕ) → Comes b (doctype.Quoted id.System quote.Double) m [] rest c (quoted_step_of id.System quote.Double c)
+unfolding taken entries
+in_system_double b m rest c =
+    let P : ℕ → DoctypeStep → Type 0 = λ d k. Comes b (doctype.Quoted id.System quote.Double) m [] rest d k in
+    by_test P c 34 (its.Then (doctype.AfterId id.System)) (ends_or_of true c (its.IdLetter id.System))
+    (by_entry (at (doctype.Quoted id.System quote.Double) m) (34 ∷ rest) (taking ([]) (Switch there.AfterDOCTYPESystemIdentifier) (34 ∷ [])) refl refl, (λ t ahead m held. (refl, held.1)))
+    (λ h34. by_test P c 62 (its.Ends true) (its.IdLetter id.System)
+    (by_entry (at (doctype.Quoted id.System quote.Double) m) (62 ∷ rest) (taking (ForceQuirks ∷ EmitDoctype ∷ []) (Switch there.Data) (62 ∷ [])) refl refl)
+    (λ h62. (
+      by_bool (λ e x. Goes b (at (doctype.Quoted id.System quote.Double) m) (e ∷ rest) [] (holding m (doctype_state_of (doctype.Quoted id.System quote.Double)) (with_id id.System (with_more (id_of id.System m.doctype) (cond x 0xfffd e ∷ [])) m.doctype)) rest) c 0
+          (by_entry (at (doctype.Quoted id.System quote.Double) m) (0 ∷ rest) (taking (Add SystemId replacement ∷ []) (Stay) (0 ∷ [])) refl refl)
+          (λ h0. by_entry (at (doctype.Quoted id.System quote.Double) m) (c ∷ rest) (taking (Add SystemId Current ∷ []) (Stay) (c ∷ [])) (rw (h34, h0, h62) refl) refl),
+      (λ t m is. (refl, is)),
+    )))
+
+in_system_single : (b : Bool) (m : Machine) (rest : List ℕ) (c : ℕ) → Comes b (doctype.Quoted id.System quote.Single) m [] rest c (quoted_step_of id.System quote.Single c)
+unfolding taken entries
+in_system_single b m rest c =
+    let P : ℕ → DoctypeStep → Type 0 = λ d k. Comes b (doctype.Quoted id.System quote.Single) m [] rest d k in
+    by_test P c 39 (its.Then (doctype.AfterId id.System)) (ends_or_of true c (its.IdLetter id.System))
+    (by_entry (at (doctype.Quoted id.System quote.Single) m) (39 ∷ rest) (taking ([]) (Switch there.AfterDOCTYPESystemIdentifier) (39 ∷ [])) refl refl, (λ t ahead m held. (refl, held.1)))
+    (λ h39. by_test P c 62 (its.Ends true) (its.IdLetter id.System)
+    (by_entry (at (doctype.Quoted id.System quote.Single) m) (62 ∷ rest) (taking (ForceQuirks ∷ EmitDoctype ∷ []) (Switch there.Data) (62 ∷ [])) refl refl)
+    (λ h62. (
+      by_bool (λ e x. Goes b (at (doctype.Quoted id.System quote.Single) m) (e ∷ rest) [] (holding m (doctype_state_of (doctype.Quoted id.System quote.Single)) (with_id id.System (with_more (id_of id.System m.doctype) (cond x 0xfffd e ∷ [])) m.doctype)) rest) c 0
+          (by_entry (at (doctype.Quoted id.System quote.Single) m) (0 ∷ rest) (taking (Add SystemId replacement ∷ []) (Stay) (0 ∷ [])) refl refl)
+          (λ h0. by_entry (at (doctype.Quoted id.System quote.Single) m) (c ∷ rest) (taking (Add SystemId Current ∷ []) (Stay) (c ∷ [])) (rw (h39, h0, h62) refl) refl),
+      (λ t m is. (refl, is)),
+    )))
+
+after_system_id : (b : Bool) (m : Machine) (rest : List ℕ) (c : ℕ) → Comes b (doctype.AfterId id.System) m [] rest c (doctype_step_of (doctype.AfterId id.System) c)
+unfolding taken entries
+after_system_id b m rest c =
+    let P : ℕ → DoctypeStep → Type 0 = λ d k. Comes b (doctype.AfterId id.System) m [] rest d k in
+    spaced P (doctype.AfterId id.System) c (ends_or_of false c (its.Malformed false))
+    (by_entry (at (doctype.AfterId id.System) m) (9 ∷ rest) (taking ([]) (Stay) (9 ∷ [])) refl refl, (λ t ahead m held. (refl, held.1)))
+    (by_entry (at (doctype.AfterId id.System) m) (10 ∷ rest) (taking ([]) (Stay) (10 ∷ [])) refl refl, (λ t ahead m held. (refl, held.1)))
+    (by_entry (at (doctype.AfterId id.System) m) (12 ∷ rest) (taking ([]) (Stay) (12 ∷ [])) refl refl, (λ t ahead m held. (refl, held.1)))
+    (by_entry (at (doctype.AfterId id.System) m) (32 ∷ rest) (taking ([]) (Stay) (32 ∷ [])) refl refl, (λ t ahead m held. (refl, held.1)))
+    (λ s. by_test P c 62 (its.Ends false) (its.Malformed false)
+    (by_entry (at (doctype.AfterId id.System) m) (62 ∷ rest) (taking (EmitDoctype ∷ []) (Switch there.Data) (62 ∷ [])) refl refl)
+    (λ h62. then_on (by_entry (at (doctype.AfterId id.System) m) (c ∷ rest) (taking ([]) (Reconsume there.BogusDOCTYPE) (c ∷ [])) (rw (s.tab, s.line_feed, s.form_feed, s.space, h62) refl) refl) (bogus b m rest c m.doctype h62)))
+
+in_bogus : (b : Bool) (m : Machine) (rest : List ℕ) (c : ℕ) → Comes b doctype.Bogus m [] rest c (doctype_step_of doctype.Bogus c)
+unfolding taken entries
+in_bogus b m rest c =
+    let P : ℕ → DoctypeStep → Type 0 = λ d k. Comes b doctype.Bogus m [] rest d k in
+    by_test P c 62 (its.Ends false) (its.Malformed false)
+    (by_entry (at doctype.Bogus m) (62 ∷ rest) (taking (EmitDoctype ∷ []) (Switch there.Data) (62 ∷ [])) refl refl)
+    (λ h62. bogus b m rest c m.doctype h62)
+
+-- ---- the keywords
+
+-- the machine behind the name
+abbrev behind_name : Machine → Machine
+behind_name m = at_state m there.AfterDOCTYPEName
+
+abbrev publics : List ℕ → Bool
+publics text = starts_with same_case_less text (codes "PUBLIC")
+
+abbrev systems : List ℕ → Bool
+systems text = starts_with same_case_less text (codes "SYSTEM")
+
+-- the first character is no white space and no `>`
+record IsFirst (a : ℕ) : Type 0 where
+  pub tab : (9 == a) ≡ false
+  pub line_feed : (10 == a) ≡ false
+  pub form_feed : (12 == a) ≡ false
+  pub space : (32 == a) ≡ false
+  pub greater : (62 == a) ≡ false
+
+public_taken : (b : Bool) (m : Machine) (a : ℕ) (text : List ℕ) → IsFirst a → publics (a ∷ text) ≡ true → taken b m (a ∷ text) (entries there.AfterDOCTYPEName) ≡ taking [] (Switch there.AfterDOCTYPEPublicKeyword) (take 6 (a ∷ text))
+unfolding taken entries
+public_taken b m a text s is = rw (s.tab, s.line_feed, s.form_feed, s.space, s.greater, is) refl
+
+system_taken : (b : Bool) (m : Machine) (a : ℕ) (text : List ℕ) → IsFirst a → publics (a ∷ text) ≡ false → systems (a ∷ text) ≡ true →
+    taken b m (a ∷ text) (entries there.AfterDOCTYPEName) ≡ taking [] (Switch there.AfterDOCTYPESystemKeyword) (take 6 (a ∷ text))
+unfolding taken entries
+system_taken b m a text s public is = rw (s.tab, s.line_feed, s.form_feed, s.space, s.greater, public, is) refl
+
+no_keyword_taken : (b : Bool) (m : Machine) (a : ℕ) (text : List ℕ) → IsFirst a → publics (a ∷ text) ≡ false → systems (a ∷ text) ≡ false →
+    taken b m (a ∷ text) (entries there.AfterDOCTYPEName) ≡ taking (ForceQuirks ∷ []) (Reconsume there.BogusDOCTYPE) (a ∷ [])
+unfolding taken entries
+no_keyword_taken b m a text s one other = rw (s.tab, s.line_feed, s.form_feed, s.space, s.greater, one, other) refl
+
+first_of : (c : ℕ) → NoSpace c → (62 == c) ≡ false → IsFirst c
+first_of c s h62 = record { tab = s.tab; line_feed = s.line_feed; form_feed = s.form_feed; space = s.space; greater = h62 }
+
+no_p : (c : ℕ) → (112 == c) ≡ false → (80 == c) ≡ false → (112 == to_ascii_lowercase c) ≡ false
+no_p c one two = grind arith
+
+no_s : (c : ℕ) → (115 == c) ≡ false → (83 == c) ≡ false → (115 == to_ascii_lowercase c) ≡ false
+no_s c one two = grind arith
+
+after_name : (b : Bool) (m : Machine) (rest : List ℕ) (c : ℕ) → Comes b doctype.AfterName m [] rest c (doctype_step_of doctype.AfterName c)
+unfolding taken entries
+after_name b m rest c =
+    let P : ℕ → DoctypeStep → Type 0 = λ d k. Comes b doctype.AfterName m [] rest d k in
+    spaced P doctype.AfterName c (after_name_of c)
+    (by_entry (at doctype.AfterName m) (9 ∷ rest) (taking ([]) (Stay) (9 ∷ [])) refl refl, (λ t ahead m held. (refl, held.1)))
+    (by_entry (at doctype.AfterName m) (10 ∷ rest) (taking ([]) (Stay) (10 ∷ [])) refl refl, (λ t ahead m held. (refl, held.1)))
+    (by_entry (at doctype.AfterName m) (12 ∷ rest) (taking ([]) (Stay) (12 ∷ [])) refl refl, (λ t ahead m held. (refl, held.1)))
+    (by_entry (at doctype.AfterName m) (32 ∷ rest) (taking ([]) (Stay) (32 ∷ [])) refl refl, (λ t ahead m held. (refl, held.1)))
+    (λ s. by_bool (λ e x. P e (cond (x || e == 80) (its.Letter id.Public 1) (cond (e == 115 || e == 83) (its.Letter id.System 1) (ends_or_of false e (its.Malformed true))))) c 112
+    (refl, (λ one. refl), (omega arith, omega arith, refl))
+    (λ h112. by_bool (λ e x. P e (cond x (its.Letter id.Public 1) (cond (e == 115 || e == 83) (its.Letter id.System 1) (ends_or_of false e (its.Malformed true))))) c 80
+    (refl, (λ one. refl), (omega arith, omega arith, refl))
+    (λ h80. by_bool (λ e x. P e (cond (x || e == 83) (its.Letter id.System 1) (ends_or_of false e (its.Malformed true)))) c 115
+    (refl, (λ one. refl), (omega arith, omega arith, refl))
+    (λ h115. by_bool (λ e x. P e (cond x (its.Letter id.System 1) (ends_or_of false e (its.Malformed true)))) c 83
+    (refl, (λ one. refl), (omega arith, omega arith, refl))
+    (λ h83. by_test P c 62 (its.Ends false) (its.Malformed true)
+    (by_entry (at doctype.AfterName m) (62 ∷ rest) (taking (EmitDoctype ∷ []) (Switch there.Data) (62 ∷ [])) refl refl)
+    (λ h62. then_on (by_entry (at doctype.AfterName m) (c ∷ rest) (taking (ForceQuirks ∷ []) (Reconsume there.BogusDOCTYPE) (c ∷ []))
+    (no_keyword_taken b (at doctype.AfterName m) c rest (first_of c s h62) (rw (no_p c h112 h80) refl) (rw (no_s c h115 h83) refl)) refl) (bogus b m rest c (record m.doctype { force_quirks = true }) h62)))))))
+
+-- letters of a malformed doctype
+bogus_run : (b : Bool) (m : Machine) (front rest : List ℕ) (one : StandardDoctype) → AllThemselves front → Goes b (holding m there.BogusDOCTYPE one) (front ++ rest) [] (holding m there.BogusDOCTYPE one) rest
+bogus_run b m [] rest one all = stays
+bogus_run b m (c ∷ front) rest one all = then_on (bogus b m (front ++ rest) c one all.0.no_end) (bogus_run b m front rest one all.1)
+
+-- the letter that is first
+abbrev first_letter : Id → ℕ
+first_letter id.Public = 112
+first_letter id.System = 115
+
+first_is : (which : Id) (a : ℕ) → to_ascii_lowercase a ≡ first_letter which → IsFirst a
+first_is id.Public a is = record { tab = no9 a is; line_feed = no10 a is; form_feed = no12 a is; space = no32 a is; greater = no62 a is }
+  where
+    no9 : (a : ℕ) → to_ascii_lowercase a ≡ 112 → (9 == a) ≡ false
+    no9 a is = grind arith
+
+    no10 : (a : ℕ) → to_ascii_lowercase a ≡ 112 → (10 == a) ≡ false
+    no10 a is = grind arith
+
+    no12 : (a : ℕ) → to_ascii_lowercase a ≡ 112 → (12 == a) ≡ false
+    no12 a is = grind arith
+
+    no32 : (a : ℕ) → to_ascii_lowercase a ≡ 112 → (32 == a) ≡ false
+    no32 a is = grind arith
+
+    no62 : (a : ℕ) → to_ascii_lowercase a ≡ 112 → (62 == a) ≡ false
+    no62 a is = grind arith
+first_is id.System a is = record { tab = no9 a is; line_feed = no10 a is; form_feed = no12 a is; space = no32 a is; greater = no62 a is }
+  where
+    no9 : (a : ℕ) → to_ascii_lowercase a ≡ 115 → (9 == a) ≡ false
+    no9 a is = grind arith
+
+    no10 : (a : ℕ) → to_ascii_lowercase a ≡ 115 → (10 == a) ≡ false
+    no10 a is = grind arith
+
+    no12 : (a : ℕ) → to_ascii_lowercase a ≡ 115 → (12 == a) ≡ false
+    no12 a is = grind arith
+
+    no32 : (a : ℕ) → to_ascii_lowercase a ≡ 115 → (32 == a) ≡ false
+    no32 a is = grind arith
+
+    no62 : (a : ℕ) → to_ascii_lowercase a ≡ 115 → (62 == a) ≡ false
+    no62 a is = grind arith
+
+-- the other keyword does not begin with it
+no_system : (a : ℕ) (text : List ℕ) → to_ascii_lowercase a ≡ 112 → systems (a ∷ text) ≡ false
+no_system a text is = rw (other a is) refl
+  where
+    other : (a : ℕ) → to_ascii_lowercase a ≡ 112 → (115 == to_ascii_lowercase a) ≡ false
+    other a is = grind arith
+
+no_public : (a : ℕ) (text : List ℕ) → to_ascii_lowercase a ≡ 115 → publics (a ∷ text) ≡ false
+no_public a text is = rw (other a is) refl
+  where
+    other : (a : ℕ) → to_ascii_lowercase a ≡ 115 → (112 == to_ascii_lowercase a) ≡ false
+    other a is = grind arith
+
+-- the whole keyword was read
+whole : (which : Id) (b : Bool) (m : Machine) (front rest : List ℕ) → map to_ascii_lowercase front ≡ keyword_of which → Goes b (behind_name m) (front ++ rest) [] (at (doctype.AfterKeyword which) m) rest
+whole which b m [] rest same = absurd (none which same)
+  where
+    none : (which : Id) → [] ≡ keyword_of which → ⊥
+    none id.Public e = cc
+    none id.System e = cc
+whole id.Public b m (a ∷ front) rest same =
+    let cut : take 6 (a ∷ front ++ rest) ≡ a ∷ front = taken_word to_ascii_lowercase (codes "PUBLIC") (a ∷ front) rest same in
+    let low : to_ascii_lowercase a ≡ 112 = cc in
+    subst (λ t. Goes b (behind_name m) (a ∷ front ++ rest) [] (at_state m there.AfterDOCTYPEPublicKeyword) t) (drop-append_seam (a ∷ front) rest)
+    (by_entry (behind_name m) (a ∷ (front ++ rest)) (taking [] (Switch there.AfterDOCTYPEPublicKeyword) (a ∷ front))
+    (public_taken b (behind_name m) a (front ++ rest) (first_is id.Public a low) (begins to_ascii_lowercase (codes "PUBLIC") (a ∷ front) rest same) ∙ ap (taking [] (Switch there.AfterDOCTYPEPublicKeyword)) cut) refl)
+whole id.System b m (a ∷ front) rest same =
+    let cut : take 6 (a ∷ front ++ rest) ≡ a ∷ front = taken_word to_ascii_lowercase (codes "SYSTEM") (a ∷ front) rest same in
+    let low : to_ascii_lowercase a ≡ 115 = cc in
+    subst (λ t. Goes b (behind_name m) (a ∷ front ++ rest) [] (at_state m there.AfterDOCTYPESystemKeyword) t) (drop-append_seam (a ∷ front) rest)
+    (by_entry (behind_name m) (a ∷ (front ++ rest)) (taking [] (Switch there.AfterDOCTYPESystemKeyword) (a ∷ front))
+    (system_taken b (behind_name m) a (front ++ rest) (first_is id.System a low) (no_public a (front ++ rest) low) (begins to_ascii_lowercase (codes "SYSTEM") (a ∷ front) rest same) ∙ ap (taking [] (Switch there.AfterDOCTYPESystemKeyword)) cut) refl)
+
+letters_high : (which : Id) → High (keyword_of which)
+letters_high id.Public = (omega arith, (omega arith, (omega arith, (omega arith, (omega arith, (omega arith, tt))))))
+letters_high id.System = (omega arith, (omega arith, (omega arith, (omega arith, (omega arith, (omega arith, tt))))))
+
+-- another character than the keyword's next one
+no_keyword : (which : Id) (b : Bool) (m : Machine) (ahead rest : List ℕ) (n c : ℕ) → IsKeyword which n ahead → letter_is (keyword_of which) n (to_ascii_lowercase c) ≡ false →
+    Goes b (behind_name m) (ahead ++ c ∷ rest) [] (holding m there.BogusDOCTYPE (record m.doctype { force_quirks = true })) (c ∷ rest)
+no_keyword which b m ahead rest zero c is other = absurd (omega (arith, is.0))
+no_keyword which b m [] rest (suc n) c is other = absurd (none which is.2)
+  where
+    none : (which : Id) → [] ≡ take (suc n) (keyword_of which) → ⊥
+    none id.Public e = cc
+    none id.System e = cc
+no_keyword id.Public b m (a ∷ ahead) rest (suc n) c is other =
+    let text : List ℕ = ahead ++ c ∷ rest in
+    let low : to_ascii_lowercase a ≡ 112 = cc in
+    then_on (by_entry (behind_name m) (a ∷ text) (taking (ForceQuirks ∷ []) (Reconsume there.BogusDOCTYPE) (a ∷ []))
+    (no_keyword_taken b (behind_name m) a text (first_is id.Public a low) (fails to_ascii_lowercase (codes "PUBLIC") (a ∷ ahead) (suc n) c rest is.2 is.1 other) (no_system a text low)) refl)
+    (bogus_run b m (a ∷ ahead) (c ∷ rest) (record m.doctype { force_quirks = true }) (lower_themselves (a ∷ ahead) (take (suc n) (codes "public")) is.2 (high_taken (suc n) (codes "public") (letters_high id.Public))))
+no_keyword id.System b m (a ∷ ahead) rest (suc n) c is other =
+    let text : List ℕ = ahead ++ c ∷ rest in
+    let low : to_ascii_lowercase a ≡ 115 = cc in
+    then_on (by_entry (behind_name m) (a ∷ text) (taking (ForceQuirks ∷ []) (Reconsume there.BogusDOCTYPE) (a ∷ []))
+    (no_keyword_taken b (behind_name m) a text (first_is id.System a low) (no_public a text low) (fails to_ascii_lowercase (codes "SYSTEM") (a ∷ ahead) (suc n) c rest is.2 is.1 other)) refl)
+    (bogus_run b m (a ∷ ahead) (c ∷ rest) (record m.doctype { force_quirks = true }) (lower_themselves (a ∷ ahead) (take (suc n) (codes "system")) is.2 (high_taken (suc n) (codes "system") (letters_high id.System))))
+
+ends_bogus : (b : Bool) (m : Machine) (rest : List ℕ) (one : StandardDoctype) → Goes b (holding m there.BogusDOCTYPE one) (62 ∷ rest) (ADoctype one ∷ []) (holding m there.Data one) rest
+unfolding taken entries
+ends_bogus b m rest one = by_entry (holding m there.BogusDOCTYPE one) (62 ∷ rest) (taking (EmitDoctype ∷ []) (Switch there.Data) (62 ∷ [])) refl refl
+
+not_five : (n : ℕ) → ((n ≡ 5) → ⊥) → n < 6 → n + 1 < 6
+not_five n other low = omega (arith, other, low)
+
+in_keyword : (which : Id) (b : Bool) (m : Machine) (ahead rest : List ℕ) (n c : ℕ) → IsKeyword which n ahead → Comes b (doctype.Keyword which n) m ahead rest c (keyword_step_of which n c)
+in_keyword which b m ahead rest n c is = go (letter_is (keyword_of which) n (to_ascii_lowercase c)) refl
+  where
+    longer : letter_is (keyword_of which) n (to_ascii_lowercase c) ≡ true → map to_ascii_lowercase (ahead ++ c ∷ []) ≡ take (suc n) (keyword_of which)
+    longer h = map_snoc to_ascii_lowercase ahead c ∙ ap (λ t. t ++ to_ascii_lowercase c ∷ []) is.2 ∙ sym (extends (keyword_of which) n (to_ascii_lowercase c) h)
+
+    all_of : (which : Id) → take 6 (keyword_of which) ≡ keyword_of which
+    all_of id.Public = refl
+    all_of id.System = refl
+
+    goes_on : letter_is (keyword_of which) n (to_ascii_lowercase c) ≡ true → (x : Bool) → (n == 5) ≡ x → Comes b (doctype.Keyword which n) m ahead rest c (cond x (its.Then (doctype.AfterKeyword which)) (its.Letter which (n + 1)))
+    goes_on h true five =
+        let same : map to_ascii_lowercase (ahead ++ c ∷ []) ≡ keyword_of which = longer h ∙ ap (λ k. take (suc k) (keyword_of which)) (eqb-true n 5 five) ∙ all_of which in (
+          subst (λ t. Goes b (behind_name m) t [] (at (doctype.AfterKeyword which) m) rest) (append_assoc ahead (c ∷ []) rest) (whole which b m (ahead ++ c ∷ []) rest same),
+          (λ t ahead m held. (refl, held.1)),
+        )
+    goes_on h false no_five =
+        let e : suc n ≡ n + 1 = omega arith in
+        (refl, (λ one. refl), (omega arith, not_five n (eqb-false n 5 no_five) is.1, longer h ∙ ap (λ k. take k (keyword_of which)) e))
+
+    stops : letter_is (keyword_of which) n (to_ascii_lowercase c) ≡ false → Comes b (doctype.Keyword which n) m ahead rest c (ends_or_of true c (its.Malformed true))
+    stops h =
+        by_test (λ d k. Goes b (behind_name m) (ahead ++ d ∷ rest) [] (holding m there.BogusDOCTYPE (record m.doctype { force_quirks = true })) (d ∷ rest) → Comes b (doctype.Keyword which n) m ahead rest d k) c 62
+        (its.Ends true) (its.Malformed true) (λ goes. then_on goes (ends_bogus b m rest (record m.doctype { force_quirks = true })))
+        (λ h62 goes. then_on goes (bogus b m rest c (record m.doctype { force_quirks = true }) h62)) (no_keyword which b m ahead rest n c is h)
+
+    go : (x : Bool) → letter_is (keyword_of which) n (to_ascii_lowercase c) ≡ x →
+        Comes b (doctype.Keyword which n) m ahead rest c (cond x (cond (n == 5) (its.Then (doctype.AfterKeyword which)) (its.Letter which (n + 1))) (ends_or_of true c (its.Malformed true)))
+    go true h = goes_on h (n == 5) refl
+    go false h = stops h
+
+-- ---- every state
+
+pub comes : (inner : DoctypeState) (b : Bool) (m : Machine) (ahead rest : List ℕ) (c : ℕ) → IsAhead inner ahead → Comes b inner m ahead rest c (doctype_step_of inner c)
+comes (doctype.Keyword which n) b m ahead rest c is = in_keyword which b m ahead rest n c is
+comes doctype.Begin b m ahead rest c is = subst (λ t. Comes b doctype.Begin m t rest c (doctype_step_of doctype.Begin c)) (sym is) (at_begin b m rest c)
+comes doctype.BeforeName b m ahead rest c is = subst (λ t. Comes b doctype.BeforeName m t rest c (doctype_step_of doctype.BeforeName c)) (sym is) (before_name b m rest c)
+comes doctype.Name b m ahead rest c is = subst (λ t. Comes b doctype.Name m t rest c (doctype_step_of doctype.Name c)) (sym is) (in_name b m rest c)
+comes doctype.AfterName b m ahead rest c is = subst (λ t. Comes b doctype.AfterName m t rest c (doctype_step_of doctype.AfterName c)) (sym is) (after_name b m rest c)
+comes (doctype.AfterKeyword id.Public) b m ahead rest c is = subst (λ t. Comes b (doctype.AfterKeyword id.Public) m t rest c (doctype_step_of (doctype.AfterKeyword id.Public) c)) (sym is) (after_public_keyword b m rest c)
+comes (doctype.AfterKeyword id.System) b m ahead rest c is = subst (λ t. Comes b (doctype.AfterKeyword id.System) m t rest c (doctype_step_of (doctype.AfterKeyword id.System) c)) (sym is) (after_system_keyword b m rest c)
+comes (doctype.BeforeId id.Public) b m ahead rest c is = subst (λ t. Comes b (doctype.BeforeId id.Public) m t rest c (doctype_step_of (doctype.BeforeId id.Public) c)) (sym is) (before_public_id b m rest c)
+comes (doctype.BeforeId id.System) b m ahead rest c is = subst (λ t. Comes b (doctype.BeforeId id.System) m t rest c (doctype_step_of (doctype.BeforeId id.System) c)) (sym is) (before_system_id b m rest c)
+comes (doctype.Quoted id.Public quote.Double) b m ahead rest c is = subst (λ t. Comes b (doctype.Quoted id.Public quote.Double) m t rest c (doctype_step_of (doctype.Quoted id.Public quote.Double) c)) (sym is) (in_public_double b m rest c)
+comes (doctype.Quoted id.Public quote.Single) b m ahead rest c is = subst (λ t. Comes b (doctype.Quoted id.Public quote.Single) m t rest c (doctype_step_of (doctype.Quoted id.Public quote.Single) c)) (sym is) (in_public_single b m rest c)
+comes (doctype.Quoted id.System quote.Double) b m ahead rest c is = subst (λ t. Comes b (doctype.Quoted id.System quote.Double) m t rest c (doctype_step_of (doctype.Quoted id.System quote.Double) c)) (sym is) (in_system_double b m rest c)
+comes (doctype.Quoted id.System quote.Single) b m ahead rest c is = subst (λ t. Comes b (doctype.Quoted id.System quote.Single) m t rest c (doctype_step_of (doctype.Quoted id.System quote.Single) c)) (sym is) (in_system_single b m rest c)
+comes (doctype.AfterId id.Public) b m ahead rest c is = subst (λ t. Comes b (doctype.AfterId id.Public) m t rest c (doctype_step_of (doctype.AfterId id.Public) c)) (sym is) (after_public_id b m rest c)
+comes (doctype.AfterId id.System) b m ahead rest c is = subst (λ t. Comes b (doctype.AfterId id.System) m t rest c (doctype_step_of (doctype.AfterId id.System) c)) (sym is) (after_system_id b m rest c)
+comes doctype.BetweenIds b m ahead rest c is = subst (λ t. Comes b doctype.BetweenIds m t rest c (doctype_step_of doctype.BetweenIds c)) (sym is) (between_ids b m rest c)
+comes doctype.Bogus b m ahead rest c is = subst (λ t. Comes b doctype.Bogus m t rest c (doctype_step_of doctype.Bogus c)) (sym is) (in_bogus b m rest c)
