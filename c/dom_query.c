@@ -62,6 +62,7 @@ size_t dq_proved_fault_byte(const dq_document *);
 size_t dq_proved_fault_text(int64_t, uint8_t *, size_t);
 int64_t dq_proved_policy_empty(POLICY);
 int64_t dq_proved_policy_common(POLICY);
+int64_t dq_proved_policy_preset(POLICY, uint32_t);
 int64_t dq_proved_policy_rule(POLICY, uint32_t, bytes_at, size_t);
 int64_t dq_proved_policy_attribute_of(POLICY, bytes_at, size_t, bytes_at, size_t);
 int64_t dq_proved_policy_disallow_attribute_of(POLICY, bytes_at, size_t, bytes_at, size_t);
@@ -528,6 +529,10 @@ int64_t dq_policy_empty(dq_policy *policy) {
 
 int64_t dq_policy_common(dq_policy *policy) {
     GIVE(policy, dq_proved_policy_common(policy));
+}
+
+int64_t dq_policy_preset(dq_policy *policy, dq_preset preset) {
+    GIVE(policy, dq_proved_policy_preset(policy, (uint32_t)preset));
 }
 
 int64_t dq_policy_rule(dq_policy *policy, dq_rule rule, const char *text, size_t text_length) {

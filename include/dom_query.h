@@ -88,7 +88,7 @@ typedef struct dq_reader {
 
 /* ---- Answers. Read the fields that are named first; the others are the library's. */
 
-/* A text: `length` bytes of UTF-8, and a 0 behind them. */
+/* A text: `length` bytes of UTF-8, and a 0 after them. */
 typedef struct dq_string {
     char *bytes;
     size_t length;
@@ -114,7 +114,7 @@ typedef struct dq_view {
 typedef struct dq_strings {
     dq_view *items;
     size_t count;
-    dq_string joined;  /* all texts, one behind the other */
+    dq_string joined;  /* all texts, one after the other */
     dq_nodes lengths;  /* the length of each in bytes, or DQ_NO_TEXT */
     size_t room;
 } dq_strings;
@@ -183,7 +183,7 @@ typedef enum dq_kind_number {
 /* Where markup or a node goes, as seen from a node. */
 typedef enum dq_place {
     DQ_AS_CONTENTS = 0, /* in the place of its children; not for dq_move */
-    DQ_AT_END = 1,      /* behind its children */
+    DQ_AT_END = 1,      /* after its children */
     DQ_AT_FRONT = 2,    /* in front of its children */
     DQ_BEFORE = 3,      /* right before it */
     DQ_AFTER = 4,       /* right after it */
@@ -224,8 +224,18 @@ typedef enum dq_rule {
     DQ_UNDROP_ELEMENT = 8,     /* takes back DQ_DROP_ELEMENT */
     DQ_DISALLOW_ATTRIBUTE = 9, /* takes back DQ_ALLOW_ATTRIBUTE; what single elements may have stays */
     DQ_DISALLOW_SCHEME = 10,   /* takes back DQ_ALLOW_SCHEME */
-    DQ_DISALLOW_CLASS = 11     /* takes back DQ_ALLOW_CLASS; behind the last one no class stays */
+    DQ_DISALLOW_CLASS = 11     /* takes back DQ_ALLOW_CLASS; after the last one no class stays */
 } dq_rule;
+
+/* Purposes that have rules of their own: dq_policy_preset. */
+typedef enum dq_preset {
+    DQ_FOR_TEXT = 0,    /* only texts stay, as by dq_policy_empty */
+    DQ_FOR_INLINE = 1,  /* a place that holds phrases alone: emphasised, marked, quoted and linked words */
+    DQ_FOR_COMMENT = 2, /* comments of strangers: paragraphs, lists, quotes, code, links to other sites with rel="nofollow noopener noreferrer" */
+    DQ_FOR_ARTICLE = 3, /* articles: texts, tables, images, links and sections, without attributes that only say how they look */
+    DQ_FOR_EMAIL = 4,   /* mails: also tables and fonts with the old attributes of layout; images show their text, and aren't loaded */
+    DQ_FOR_COMMON = 5   /* all of these, as by dq_policy_common */
+} dq_preset;
 
 /* Rules of a policy that have a number: dq_policy_set. */
 typedef enum dq_setting {
@@ -419,6 +429,10 @@ DQ_API int64_t dq_policy_empty(dq_policy *policy);
  * holds what it held before. */
 DQ_API int64_t dq_policy_common(dq_policy *policy);
 
+/* Begins a policy with the rules for a purpose. What the handle held is freed. After a fault the handle
+ * holds what it held before. Faults: DQ_ARGUMENT for a number that is none of dq_preset, DQ_MEMORY. */
+DQ_API int64_t dq_policy_preset(dq_policy *policy, dq_preset preset);
+
 /* The next functions change the rules and finish them. After a fault of one of them the policy is refused
  * for good: each later call, dq_policy_finish and those that clean too, answers the first fault. So of all
  * these answers only the one of dq_policy_finish has to be looked at. Faults of each: DQ_CLOSED,
@@ -466,7 +480,7 @@ DQ_API int64_t dq_clean_document(dq_policy *policy, dq_document *document, dq_st
 
 /* ---- Faults, and the version. */
 
-/* Writes what a fault means, in English, and a 0 behind it, as far as there is room, and returns the whole length without
+/* Writes what a fault means, in English, and a 0 after it, as far as there is room, and returns the whole length without
  * the 0; 0 for a number that is no fault. Nothing is written where the text is null or there is no room. */
 DQ_API size_t dq_fault_text(int64_t fault, char *text, size_t room);
 

@@ -142,6 +142,7 @@ PARAMETERS: dict[str, tuple[Any, ...]] = {
     "dq_sanitize": (HANDLE, TEXT, SIZE, TEXT, SIZE, TEXT, SIZE),
     "dq_policy_empty": (POLICY,),
     "dq_policy_common": (POLICY,),
+    "dq_policy_preset": (POLICY, NUMBER),
     "dq_policy_rule": (POLICY, NUMBER, TEXT, SIZE),
     "dq_policy_attribute_of": (POLICY, TEXT, SIZE, TEXT, SIZE),
     "dq_policy_disallow_attribute_of": (POLICY, TEXT, SIZE, TEXT, SIZE),

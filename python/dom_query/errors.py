@@ -37,7 +37,7 @@ class SelectorError(DomError, ValueError):
     themselves: 7 for `ul > li[`."""
 
     def __init__(self, message: str, code: int, selectors: str, position: int) -> None:
-        super().__init__(f"{message}: {selectors!r}, behind character {position}", code)
+        super().__init__(f"{message}: {selectors!r}, after character {position}", code)
         self.selectors = selectors
         self.position = position
 

@@ -456,7 +456,7 @@ class Node:
 
     @property
     def next_siblings(self) -> Iterator[Node]:
-        """The siblings behind it of any kind, in order. Each is looked up when it is asked for."""
+        """The siblings after it of any kind, in order. Each is looked up when it is asked for."""
         return self._along(NEXT)
 
     @property
@@ -558,7 +558,7 @@ class Node:
         return text if place == INSTEAD else text + child.text if place == BEFORE else child.text + text
 
     def append(self, content: str | Node) -> None:
-        """Puts a text, or a node of the same document, behind the children. A text is put as it is, and is not markup."""
+        """Puts a text, or a node of the same document, after the children. A text is put as it is, and is not markup."""
         self._put(AT_END, content)
 
     def prepend(self, content: str | Node) -> None:
@@ -578,7 +578,7 @@ class Node:
         self._put(INSTEAD, content)
 
     def wrap(self, element: Node) -> Node:
-        """Puts the element in the place of the node, and the node behind its children. Returns the element."""
+        """Puts the element in the place of the node, and the node after its children. Returns the element."""
         if not isinstance(element, Node):
             raise TypeError(f"a Node is wanted, not {type(element).__name__}; write wrap(document.new_element(name))")
         if element.kind not in ("element",):
@@ -590,7 +590,7 @@ class Node:
         return element
 
     def append_html(self, html: str) -> None:
-        """Puts explicit markup behind the children. Raises `MarkupError` where the text is not explicit markup."""
+        """Puts explicit markup after the children. Raises `MarkupError` where the text is not explicit markup."""
         self._put_html(AT_END, html)
 
     def prepend_html(self, html: str) -> None:

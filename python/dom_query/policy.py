@@ -48,6 +48,70 @@ COMMON_URL_SCHEMES = frozenset(
 )
 CLEAN_CONTENT_TAGS = frozenset({"script", "style"})
 
+# The rules of the presets, which are those of dq_policy_preset.
+INLINE_TAGS = frozenset("a abbr b bdi bdo br cite code data del dfn em i ins kbd mark q s samp small span strong sub sup time u var wbr".split())
+INLINE_ATTRIBUTES: Mapping[str, frozenset[str]] = {
+    "*": frozenset({"lang", "title"}),
+    "a": frozenset({"href"}),
+    "bdo": frozenset({"dir"}),
+    "time": frozenset({"datetime"}),
+}
+COMMENT_TAGS = frozenset("a abbr b blockquote br code del em i li ol p pre q s strong sub sup ul".split())
+COMMENT_ATTRIBUTES: Mapping[str, frozenset[str]] = {
+    "a": frozenset({"href"}),
+    "ol": frozenset({"start"}),
+}
+ARTICLE_TAGS = frozenset((
+    "a abbr address article aside b bdi bdo blockquote br caption cite code col colgroup data dd del details dfn "
+    "div dl dt em figcaption figure footer h1 h2 h3 h4 h5 h6 header hgroup hr i img ins kbd li main mark ol p pre q "
+    "rp rt ruby s samp section small span strong sub summary sup table tbody td tfoot th thead time tr u ul var wbr"
+).split())
+ARTICLE_ATTRIBUTES: Mapping[str, frozenset[str]] = {
+    "*": frozenset({"dir", "lang", "title"}),
+    "a": frozenset({"href", "hreflang"}),
+    "blockquote": frozenset({"cite"}),
+    "col": frozenset({"span"}),
+    "colgroup": frozenset({"span"}),
+    "data": frozenset({"value"}),
+    "del": frozenset({"datetime"}),
+    "details": frozenset({"open"}),
+    "img": frozenset({"alt", "height", "src", "width"}),
+    "ins": frozenset({"datetime"}),
+    "ol": frozenset({"reversed", "start", "type"}),
+    "q": frozenset({"cite"}),
+    "td": frozenset({"colspan", "headers", "rowspan"}),
+    "th": frozenset({"abbr", "colspan", "headers", "rowspan", "scope"}),
+    "time": frozenset({"datetime"}),
+}
+EMAIL_TAGS = frozenset((
+    "a abbr address b big blockquote br caption center cite code col colgroup dd del div dl dt em font h1 h2 h3 h4 "
+    "h5 h6 hr i img ins li ol p pre q s small span strike strong sub sup table tbody td tfoot th thead tr tt u ul"
+).split())
+EMAIL_ATTRIBUTES: Mapping[str, frozenset[str]] = {
+    "*": frozenset({"dir", "lang", "title"}),
+    "a": frozenset({"href"}),
+    "blockquote": frozenset({"cite"}),
+    "col": frozenset({"span", "width"}),
+    "colgroup": frozenset({"span", "width"}),
+    "div": frozenset({"align"}),
+    "font": frozenset({"color", "face", "size"}),
+    "h1": frozenset({"align"}),
+    "h2": frozenset({"align"}),
+    "h3": frozenset({"align"}),
+    "h4": frozenset({"align"}),
+    "h5": frozenset({"align"}),
+    "h6": frozenset({"align"}),
+    "hr": frozenset({"align", "size", "width"}),
+    "img": frozenset({"alt", "height", "width"}),
+    "ol": frozenset({"start", "type"}),
+    "p": frozenset({"align"}),
+    "table": frozenset({"align", "bgcolor", "border", "cellpadding", "cellspacing", "width"}),
+    "td": frozenset({"align", "bgcolor", "colspan", "height", "rowspan", "valign", "width"}),
+    "th": frozenset({"align", "bgcolor", "colspan", "height", "rowspan", "valign", "width"}),
+    "tr": frozenset({"align", "bgcolor", "valign"}),
+}
+SAFE_SCHEMES = frozenset({"http", "https", "mailto"})
+
 
 class Policy:
     """What stays of HTML from strangers. `Policy()` is for comments, mails and articles; each argument changes one of its rules:
@@ -111,6 +175,38 @@ class Policy:
         return cls(
             tags=(), clean_content_tags=(), attributes={}, url_schemes=(), relative="drop", link_rel=None, max_depth=128
         )
+
+    @classmethod
+    def inline(cls) -> Policy:
+        """The policy for a place that holds phrases alone, as a heading or a `span`: emphasised, marked, quoted and linked words stay."""
+        return cls(
+            tags=INLINE_TAGS, clean_content_tags=(), attributes=INLINE_ATTRIBUTES, url_schemes=SAFE_SCHEMES, max_depth=128
+        )
+
+    @classmethod
+    def comment(cls) -> Policy:
+        """The policy for comments of strangers: paragraphs, lists, quotes, code, and links to other sites, which get
+        `rel="nofollow noopener noreferrer"`; no image, and no address without a scheme."""
+        return cls(
+            tags=COMMENT_TAGS, clean_content_tags=(), attributes=COMMENT_ATTRIBUTES, url_schemes=SAFE_SCHEMES,
+            relative="drop", link_rel="nofollow noopener noreferrer", max_depth=64,
+        )  # fmt: skip
+
+    @classmethod
+    def article(cls) -> Policy:
+        """The policy for articles: texts, tables, images, links and sections stay, without attributes that only say how they look."""
+        return cls(
+            tags=ARTICLE_TAGS, clean_content_tags=(), attributes=ARTICLE_ATTRIBUTES, url_schemes=SAFE_SCHEMES | {"tel"}
+        )
+
+    @classmethod
+    def email(cls) -> Policy:
+        """The policy for mails: also tables and fonts with the old attributes of layout. An image isn't loaded, since that tells its
+        sender that the mail was read; its text stays."""
+        return cls(
+            tags=EMAIL_TAGS, clean_content_tags=(), attributes=EMAIL_ATTRIBUTES, url_schemes=SAFE_SCHEMES | {"tel"},
+            relative="drop",
+        )  # fmt: skip
 
     def changed(self, **rules: Any) -> Policy:
         """The policy with other rules: `policy.changed(tags=policy.tags | {"u"})`."""

@@ -197,6 +197,28 @@ class Cleaning(unittest.TestCase):
             self.assertEqual(library.text_of(lib.dq_clean, handle, html, len(html)), policy.clean(html.decode()))
         lib.dq_policy_free(handle)
 
+    def test_the_presets(self):
+        """The rules of each preset are those of the library: the same lists, and the same texts for the rows of the library's own."""
+        source = (ROOT / "crates" / "dom_clean" / "src" / "presets.rt").read_text(encoding="utf-8")
+        listed = {name: items for name, items in re.findall(r"static (\w+): .*? = \[(.*?)\];", source, re.DOTALL)}
+        names = {name: re.findall(r'"([^"]*)"', items) for name, items in listed.items()}
+        presets = {"inline": Policy.inline(), "comment": Policy.comment(), "article": Policy.article(), "email": Policy.email()}
+        for name, policy in presets.items():
+            with self.subTest(preset=name):
+                self.assertEqual(policy.tags, frozenset(names[name.upper()]))
+                own = names[f"{name.upper()}_OWN"]
+                found = {(tag, one) for tag, ones in policy.attributes.items() if tag != "*" for one in ones}
+                self.assertEqual(found, set(zip(own[::2], own[1::2], strict=True)))
+        lib, handle = library.lib, library.PolicyHandle()
+        for number, name in enumerate(("text", *presets, "common")):
+            policy = presets.get(name) or {"text": Policy.empty(), "common": Policy()}[name]
+            self.assertEqual((lib.dq_policy_preset(handle, number), lib.dq_policy_finish(handle, None)), (0, 0))
+            for case in [*rows("common"), *rows("presets")]:
+                html = given(case, "markup")
+                self.assertEqual(library.text_of(lib.dq_clean, handle, html, len(html)), policy.clean(html.decode()), name)
+        self.assertEqual(lib.dq_policy_preset(handle, 6), library.ARGUMENT)
+        lib.dq_policy_free(handle)
+
     def test_threads_with_one_policy(self):
         policy = Policy(tags={"b"})
         wrong: list[str] = []
@@ -238,7 +260,7 @@ def rows(name):
 
 def rules_of(lines):
     """The arguments of a policy with these rules."""
-    start = Policy() if "common" in lines else Policy.empty()
+    start = next((PRESETS[line]() for line in lines if line in PRESETS), Policy.empty())
     rules = {name: getattr(start, name) for name in start._rules}
     for line in lines:
         word, _, rest = line.partition(" ")
@@ -260,9 +282,18 @@ def rules_of(lines):
         elif word in TAKEN_BACK:
             take_back(rules, word, rest)
         else:
-            assert word == "common", word
+            assert word in PRESETS, word
     return rules
 
+
+PRESETS = {
+    "text": Policy.empty,
+    "inline": Policy.inline,
+    "comment": Policy.comment,
+    "article": Policy.article,
+    "email": Policy.email,
+    "common": Policy,
+}
 
 TAKEN_BACK = {
     "disallow-element": "tags",

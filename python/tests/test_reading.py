@@ -132,7 +132,7 @@ class Reading(unittest.TestCase):
             with self.assertRaises(SelectorError) as caught:
                 self.document.select_texts(wrong)
             self.assertEqual((caught.exception.selectors, caught.exception.position), (wrong, at))
-        self.assertEqual(str(caught.exception), "unknown pseudo-class, or a pseudo-class in the wrong form: 'é, é:nope', behind character 4")
+        self.assertEqual(str(caught.exception), "unknown pseudo-class, or a pseudo-class in the wrong form: 'é, é:nope', after character 4")
 
     def test_select_many(self):
         self.assertEqual(self.document.select_texts("p"), ["One twothree", "Four"])

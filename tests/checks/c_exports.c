@@ -192,6 +192,24 @@ static void cleaning(dq_policy *p, dq_document *d) {
         IS(dq_policy_finish(p, &text), 0);
         SAYS(dq_clean(p, T("<h1>1</h1><script>2</script><img src=/x>"), &text), "<h1>1</h1><img>");
     }
+    {
+        static const char page[] = "<h1>1</h1><p>2 <a href=https://h/>3</a> <i>4</i><img src=/x><font size=1>5</font>";
+        static const struct { dq_preset preset; const char *left; } wanted[] = {
+            {DQ_FOR_TEXT, "12 3 45"},
+            {DQ_FOR_INLINE, "12 <a href=\"https://h/\" rel=\"noopener noreferrer\">3</a> <i>4</i>5"},
+            {DQ_FOR_COMMENT, "1<p>2 <a href=\"https://h/\" rel=\"nofollow noopener noreferrer\">3</a> <i>4</i>5</p>"},
+            {DQ_FOR_ARTICLE, "<h1>1</h1><p>2 <a href=\"https://h/\" rel=\"noopener noreferrer\">3</a> <i>4</i><img src=\"/x\">5</p>"},
+            {DQ_FOR_EMAIL, "<h1>1</h1><p>2 <a href=\"https://h/\" rel=\"noopener noreferrer\">3</a> <i>4</i><img><font size=\"1\">5</font></p>"},
+            {DQ_FOR_COMMON, "<h1>1</h1><p>2 <a href=\"https://h/\" rel=\"noopener noreferrer\">3</a> <i>4</i><img src=\"/x\">5</p>"},
+        };
+        for (size_t i = 0; i < sizeof wanted / sizeof *wanted; i++) {
+            if (IS(dq_policy_preset(p, wanted[i].preset), 0)) {
+                IS(dq_policy_finish(p, &text), 0);
+                SAYS(dq_clean(p, T(page), &text), wanted[i].left);
+            }
+        }
+        IS(dq_policy_preset(p, (dq_preset)6), DQ_ARGUMENT);
+    }
     if (IS(dq_policy_common(p), 0)) {
         IS(dq_policy_rule(p, DQ_DISALLOW_ELEMENT, T("img")), 0);
         IS(dq_policy_rule(p, DQ_DROP_ELEMENT, T("i")), 0);

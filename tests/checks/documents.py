@@ -1,6 +1,6 @@
 """Runs the commands that README.md and the pages of docs/ show, and compares the programs and outputs that they quote.
 
-A fenced block is checked by the words behind its fence:
+A fenced block is checked by the words after its fence:
 
 - `sh`: each line is a command. The block is run as it stands, by `bash -e`, in a folder that holds a copy of examples/, with the
   built programs `hq` and `dq` on the PATH. It must end with status 0 (a line may end in `|| true` where it is meant to fail).
@@ -37,7 +37,7 @@ def pages():
 
 
 def blocks(page):
-    """The fenced blocks of a page: the words behind the fence, the number of the first line, and the lines."""
+    """The fenced blocks of a page: the words after the fence, the number of the first line, and the lines."""
     words, start, held = None, 0, []
     for number, line in enumerate(page.read_text(encoding="utf-8").splitlines(), 1):
         if not line.lstrip().startswith("```"):
@@ -90,7 +90,7 @@ def faults_of(page, sources, printed_by_examples, counted):
         for words, start, block in blocks(page):
             where, fault = f"{page.relative_to(ROOT)}:{start}", None
             if not words:
-                fault = "this block has no word behind its fence"
+                fault = "this block has no word after its fence"
             elif words[0] == "c" or (words[0] == "python" and not has_python()):
                 continue
             elif words[-1] == "output":
@@ -110,7 +110,7 @@ def faults_of(page, sources, printed_by_examples, counted):
             elif words == ["text"]:
                 fault = None if is_part_of(block, printed_by_examples) else "the program `examples` doesn't print this"
             elif words[0] not in {"sh", "python", *SHOWN}:
-                fault = f"unknown word {words[0]!r} behind the fence"
+                fault = f"unknown word {words[0]!r} after the fence"
             else:
                 continue
             counted[0] += 1

@@ -213,7 +213,7 @@ def text_entries():
         if name in OTHER_ARRAYS or name in NAME_ARRAYS:
             continue
         label = "--base ADDRESSES" if name == "ADDRESSES" else name
-        if name == "OWN_ATTRIBUTES":
+        if name.endswith("_OWN") or name == "OWN_ATTRIBUTES":
             texts = [f"{element} {attribute}" for element, attribute in pairs(inside)]
         elif "(" in inside and name not in ("FORMATS",):
             texts = [STRING.search(line)[1] for line in re.findall(r"\(\s*\"[^)]*", inside)]

@@ -416,6 +416,44 @@ def linked(markup):
     return re.sub(r"<(a|area)((?: [^>]*)?)>", r'<\1\2 rel="noopener noreferrer">', markup)
 
 
+# For the lists of a preset its name, and the `rel` of its links.
+PRESETS = {
+    "INLINE": ("inline", "noopener noreferrer"),
+    "COMMENT": ("comment", "nofollow noopener noreferrer"),
+    "ARTICLE": ("article", "noopener noreferrer"),
+    "EMAIL": ("email", "noopener noreferrer"),
+}
+
+
+def preset_rows(entries):
+    """Each element and attribute that a preset of the crate dom_clean keeps, each scheme that they all allow, and what they don't keep."""
+    lists = {array: {text for other, text in entries if other == array} for array in PRESETS}
+    for array, text in entries:
+        rows, owner = [], PRESETS.get(array.removesuffix("_OWN"))
+        if owner:
+            name, rel = owner
+            element, _, attribute = text.partition(" ")
+            address = "https://h/" if attribute in ("href", "cite") else "1"
+            page = placed(element, f' {attribute}="{address}"' if attribute else "")
+            kept = re.sub(r"<(a)((?: [^>]*)?)>", rf'<\1\2 rel="{rel}">', page)
+            rows.append(cleaned(["--preset", name], page, kept))
+            if attribute:
+                rows.append(cleaned(["--preset", name], f'<em {attribute}="{address}">x', "<em>x</em>"))
+            for other, names in lists.items():
+                if not attribute and text not in names and text not in CALM:
+                    rows.append(cleaned(["--preset", PRESETS[other][0]], f"1{placed(text)}2", "1x2"))
+        if array == "EVERYWHERE":
+            for name in ("inline", "article", "email"):
+                rows.append(cleaned(["--preset", name], f'<em {text}="1" {text}x="2">3', f'<em {text}="1">3</em>'))
+            for name in ("comment", "text"):
+                rows.append(cleaned(["--preset", name], f'<b {text}="1">3', "<b>3</b>" if name == "comment" else "3"))
+        if array == "SAFE_SCHEMES":
+            for name, rel in PRESETS.values():
+                row = f'<a href="{text}:x">1</a><a href="x-{text}:x">2</a>'
+                rows.append(cleaned(["--preset", name], row, f'<a href="{text}:x" rel="{rel}">1</a><a rel="{rel}">2</a>'))
+        yield from ({"entry": f"{array}: {text}", **row} for row in rows)
+
+
 def cleaning_rows(entries):
     """Each element and attribute that the common rules of the crate dom_clean keep, each that may be allowed besides, each attribute
     that holds an address, and each scheme that an address may have."""
@@ -472,6 +510,7 @@ OPTION_ROWS = {
     "script": (["--script", "select p\ntext"], "<p>1<p>2", "12\n"),
     "json": (["--json", "--text", "p"], "<p>1<p>2", '"1"\n"2"\n'),
     "jsonl": (["--jsonl", "--count", "p"], LINE, '{"count":2,"x":1}\n'),
+    "preset": (["--sanitize", "--preset", "inline", "--inner", "body"], "<p>1<b>2</b>", "1<b>2</b>\n"),
     "first": (["--first", "p"], "<p>1<p>2", "<p>1</p>\n"),
     "trim": (["--trim", "--text", "p"], "<p> 1\n 2 ", "1 2\n"),
     "null": (["--null", "p"], "<p>1<p>2", "<p>1</p>\0<p>2</p>\0"),
@@ -593,7 +632,7 @@ def main():
     write("states", peers_rows(state_pages.states))
     write("rules", peers_rows(rule_pages.rules))
     write("quirks", quirks_rows(entries), "test_calls/calls")
-    made = [make(entries) for make in (calm_rows, address_rows, cleaning_rows, conflict_rows, hint_rows)]
+    made = [make(entries) for make in (calm_rows, address_rows, cleaning_rows, preset_rows, conflict_rows, hint_rows)]
     write("hq", [row for rows in [*made, option_rows(), not_calm_rows()] for row in rows])
 
 

@@ -24,7 +24,7 @@ class Entry(NamedTuple):
 
 
 def folders_of(paths):
-    """The folders above these paths, each behind those that it is in."""
+    """The folders above these paths, each after those that it is in."""
     found = set()
     for path in paths:
         parts = path.split("/")[:-1]

@@ -37,6 +37,19 @@ pub struct PolicyState {
     pub text: String,
 }
 
+/// The rules for a purpose, by the number that C gives it.
+fn preset_rules(alloc: Global, preset: u32) -> Result<Rules, Fault> {
+    match preset {
+        0 => Ok(Rules::text(alloc)),
+        1 => Ok(Rules::inline(alloc)?),
+        2 => Ok(Rules::comment(alloc)?),
+        3 => Ok(Rules::article(alloc)?),
+        4 => Ok(Rules::email(alloc)?),
+        5 => Ok(Rules::common(alloc)?),
+        _ => Err(Fault::Argument),
+    }
+}
+
 impl PolicyState {
     fn of(alloc: Global, rules: Rules) -> PolicyState
         ensures { result.stage ≡ Draft rules }
@@ -59,6 +72,15 @@ impl PolicyState {
         ensures { IfOk result (λ state. IsDraft state.stage) }
     {
         let rules = Rules::common(alloc)?;
+        Ok(PolicyState::of(alloc, rules))
+    }
+
+    /// The rules of the preset of that number. Fails with `Argument` if there is no such preset, and
+    /// with `Memory` if memory is refused.
+    pub fn preset(alloc: Global, preset: u32) -> Result<PolicyState, Fault>
+        ensures { IfOk result (λ state. IsDraft state.stage) }
+    {
+        let rules = preset_rules(alloc, preset)?;
         Ok(PolicyState::of(alloc, rules))
     }
 

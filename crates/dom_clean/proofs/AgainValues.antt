@@ -1,7 +1,7 @@
 -- The value of an attribute that was cleaned stays as it is when it is cleaned again.
 use Rattle.std.proofs.Common.{◌≡◌, ℕ, Bool, true, false, ◌==◌, ◌||◌, not, cond, List, [], ◌∷◌, ◌++◌, filter, Some, None, refl, sym, ap, ◌∙◌, subst, inl, inr, ◌⊎◌}
 use Rattle.std.specs.Prelude.{Option, codes, encode_utf8, nat_eq}
-use Rattle.std.specs.List.{flat_map, starts_with}
+use Rattle.std.specs.List.{flat_map, list_all, starts_with}
 use Rattle.std.specs.Option.{option_and_then, option_map}
 use Rattle.std.specs.Str.{bytes_eq, chars, encode_utf8_all}
 use Rattle.std.proofs.Math.Utf8.{scalar, scalars}
@@ -13,6 +13,7 @@ use Rattle.url.specs.Parser.{parse_url}
 use Rattle.dom_clean.specs.Addresses.{scheme_of}
 use Rattle.dom_clean.specs.Fates.{allowed_address, cleaned_address, cleaned_classes, cleaned_value, is_spelled, joined_address, judged, prefixed, relative_address, spellable, spelled_char, unless_empty, with_words}
 use Rattle.dom_clean.specs.Joined.{IsWritable}
+use Rattle.dom_clean.specs.Laws.{HasAllowedClasses}
 use Rattle.dom_clean.specs.Policy.{Policy, Relative, address_names}
 use Rattle.dom_clean.specs.Policy.Relative.{kept, dropped, resolved}
 use Rattle.dom_clean.specs.Spelled.{AreSpelled}
@@ -39,7 +40,7 @@ chosen : (b : Bool) (value left : List ℕ) → cond b (Some value) None ≡ Som
 chosen true value left is = same_Some value left is
 chosen false value left is = absurd (none-some left is)
 
-judged-cases : (schemes : List (List ℕ)) (address left : List ℕ) (found other : Option (List ℕ)) → judged schemes address found other ≡ Some left → (address ≡ left) ⊎ (other ≡ Some left)
+pub judged-cases : (schemes : List (List ℕ)) (address left : List ℕ) (found other : Option (List ℕ)) → judged schemes address found other ≡ Some left → (address ≡ left) ⊎ (other ≡ Some left)
 judged-cases schemes address left None other is = inr is
 judged-cases schemes address left (Some scheme) other is = inl (chosen (is_among scheme schemes) address left is)
 
@@ -91,6 +92,25 @@ classes-again (Some classes) value left is =
     ap (λ (t : List ℕ). filter allowed (words_of t)) (sym same) ∙ ap (filter allowed) (words-again words (words-filter allowed (words_of value) (words-words value))) ∙ filter-twice allowed (words_of value) in
     ap (λ ws. unless_empty (with_words [] ws)) again ∙ is
 
+-- those that pass a test all pass it
+all-pass : (p : List ℕ → Bool) (words : List (List ℕ)) → list_all p (filter p words) ≡ true
+all-pass p [] = refl
+all-pass p (word ∷ words) = elim (cases_Bool (p word)) [
+  | inl t ↦ ap (λ b. list_all p (cond b (word ∷ filter p words) (filter p words))) t ∙ and_from (p word) (list_all p (filter p words)) t (all-pass p words)
+  | inr f ↦ ap (λ b. list_all p (cond b (word ∷ filter p words) (filter p words))) f ∙ all-pass p words
+]
+
+-- the classes of a value that stays as it is are all among those that stay
+pub classes-allowed : (classes : Option (List (List ℕ))) (left : List ℕ) → cleaned_classes classes left ≡ Some left → HasAllowedClasses classes left
+classes-allowed None left is = tt
+classes-allowed (Some classes) left is =
+    let allowed : List ℕ → Bool = λ word. is_among word classes in
+    let words = filter allowed (words_of left) in
+    let same : with_words [] words ≡ left = unless_some (with_words [] words) left is in
+    let are : words_of left ≡ words =
+    ap words_of (sym same) ∙ words-again words (words-filter allowed (words_of left) (words-words left)) in
+    ap (list_all allowed) are ∙ all-pass allowed (words_of left)
+
 front_begins : (front value : List ℕ) → starts_with nat_eq (front ++ value) front ≡ true
 front_begins [] value = refl
 front_begins (b ∷ front) value = and_from (b == b) (starts_with nat_eq (front ++ value) front) (eq-eqb b b refl) (front_begins front value)
@@ -100,6 +120,11 @@ prefix_begins front value = elim (cases_Bool (starts_with nat_eq value front)) [
   | inl t ↦ ap (λ b. starts_with nat_eq (cond b value (front ++ value)) front) t ∙ t
   | inr f ↦ ap (λ b. starts_with nat_eq (cond b value (front ++ value)) front) f ∙ front_begins front value
 ]
+
+-- an id that stays as it is begins with the prefix
+pub id-begins : (policy : Policy) (left : List ℕ) → Some (prefixed policy.id_prefix left) ≡ Some left → starts_with nat_eq left policy.id_prefix ≡ true
+id-begins policy left is =
+    sym (ap (λ (t : List ℕ). starts_with nat_eq t policy.id_prefix) (same_Some (prefixed policy.id_prefix left) left is)) ∙ prefix_begins policy.id_prefix left
 
 prefixed-again : (front value left : List ℕ) → Some (prefixed front value) ≡ Some left → Some (prefixed front left) ≡ Some left
 prefixed-again front value left is =

@@ -1,6 +1,7 @@
 -- What is true of all that a policy leaves.
-use Rattle.std.specs.Prelude.{ℕ, ◌≡◌, ◌⊎◌, ◌++◌, true, List, [], ◌∷◌, Option, Some, MatchOption, IfOk, codes}
-use Rattle.dom_nodes.specs.Words.{is_among}
+use Rattle.std.specs.Prelude.{ℕ, ◌≡◌, ◌⊎◌, ◌++◌, true, nat_eq, List, [], ◌∷◌, Option, None, Some, MatchOption, IfOk, codes}
+use Rattle.std.specs.List.{list_all, starts_with}
+use Rattle.dom_nodes.specs.Words.{is_among, words_of}
 use Rattle.dom_links.specs.Forest.{Forest}
 use Rattle.dom_links.specs.Trees.{Trees}
 use Rattle.dom_markup.specs.ValueTrees.{Attribute, ValueTrees}
@@ -14,6 +15,7 @@ use Rattle.dom_clean.specs.Fates.{has_attribute}
 use Rattle.dom_clean.specs.Joined.{joined}
 use Rattle.dom_clean.specs.declared.fates.Place.{Place}
 use Rattle.dom_clean.specs.Policy.{Policy, address_names, link_names}
+use Rattle.dom_clean.specs.Policy.Relative.{kept}
 use Rattle.dom_clean.specs.Written.{text_of}
 
 -- ---- what is allowed
@@ -28,10 +30,23 @@ abbrev pub IsLinkRel : Policy → List ℕ → Attribute → Type 0
 IsLinkRel policy element attribute =
     (is_among element link_names ≡ true) × (attribute.name ≡ codes "rel") × (policy.rel ≡ Some attribute.value)
 
--- the policy has the attribute with that value, or it is the `rel` of a link; and an address leads well
+-- the classes in the value are among those that stay
+abbrev pub HasAllowedClasses : Option (List (List ℕ)) → List ℕ → Type 0
+HasAllowedClasses None value = Unit {0}
+HasAllowedClasses (Some classes) value = list_all (λ class. is_among class classes) (words_of value) ≡ true
+
+-- what the policy says of the value of an attribute of that name
+pub record IsAllowedValue (policy : Policy) (name value : List ℕ) : Type 0 where
+  -- an address leads well, and has a scheme unless the policy keeps those that have none
+  pub leads : is_among name address_names ≡ true → LeadsWell policy value
+  pub relative : is_among name address_names ≡ true → scheme_of value ≡ None → policy.relative ≡ kept
+  pub classes : name ≡ codes "class" → HasAllowedClasses policy.classes value
+  pub prefix : name ≡ codes "id" → starts_with nat_eq value policy.id_prefix ≡ true
+
+-- the policy has the attribute with that value, or it is the `rel` of a link
 pub record IsAllowedAttribute (policy : Policy) (element : List ℕ) (attribute : Attribute) : Type 0 where
   pub named : (has_attribute policy element attribute.name attribute.value ≡ true) ⊎ IsLinkRel policy element attribute
-  pub leads : is_among attribute.name address_names ≡ true → LeadsWell policy attribute.value
+  pub value : IsAllowedValue policy attribute.name attribute.value
 
 abbrev pub AreAllowedAttributes : Policy → List ℕ → List Attribute → Type 0
 AreAllowedAttributes policy element [] = Unit {0}

@@ -104,9 +104,9 @@ keepable_names = codes "a" ∷ codes "abbr" ∷ codes "acronym" ∷ codes "addre
 unfoldable pub refused_schemes : List (List ℕ)
 refused_schemes = codes "data" ∷ codes "javascript" ∷ codes "vbscript" ∷ []
 
--- the parts that a table needs
+-- the parts of a table that hold texts, or elements that hold them
 unfoldable pub table_parts : List (List ℕ)
-table_parts = codes "tbody" ∷ codes "tr" ∷ codes "td" ∷ []
+table_parts = codes "tbody" ∷ codes "tr" ∷ codes "td" ∷ codes "th" ∷ codes "thead" ∷ codes "tfoot" ∷ codes "caption" ∷ []
 
 -- the elements that lead elsewhere, and get the `rel` of links
 unfoldable pub link_names : List (List ℕ)

@@ -16,6 +16,7 @@ mod fates;
 pub mod laws;
 mod lists;
 mod policy;
+mod presets;
 mod rules;
 mod streaming;
 mod values;

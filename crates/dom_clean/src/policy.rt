@@ -49,7 +49,7 @@ pub enum PolicyFault {
     /// An element that can't be allowed, such as `svg` or `script`: its content is not read as
     /// markup, it runs scripts or brings in another document, or it can't be in a calm page.
     Element(String),
-    /// `table` is allowed without this part of tables: the texts of cells would be lost.
+    /// `table` is allowed without this part of tables: texts of the table would be lost.
     Table(&'static str),
     /// An attribute that can't be allowed, such as `onclick` or `srcdoc`: it holds a script, a
     /// style, markup or several addresses, or its name has other characters than `a` to `z`,
@@ -396,6 +396,18 @@ fn missing_of_parts(elements: &[String]) -> Option<&'static str>
     }
     if !is_among("td", elements) {
         return Some("td");
+    }
+    if !is_among("th", elements) {
+        return Some("th");
+    }
+    if !is_among("thead", elements) {
+        return Some("thead");
+    }
+    if !is_among("tfoot", elements) {
+        return Some("tfoot");
+    }
+    if !is_among("caption", elements) {
+        return Some("caption");
     }
     None
 }

@@ -33,6 +33,19 @@ pub extern "C" fn dq_proved_policy_common(alloc: Global, handle: &mut PolicyHand
     handle.fill(alloc, PolicyState::common(alloc))
 }
 
+/// Begins a policy with the rules of the preset of that number, in place of what the handle held.
+#[unsafe(no_mangle)]
+pub extern "C" fn dq_proved_policy_preset(
+    alloc: Global,
+    handle: &mut PolicyHandle,
+    preset: u32,
+) -> i64
+    ensures { Reads handle.old.slot.policy handle.new.slot.policy result
+        (λ state. IsDraft state.stage) }
+{
+    handle.fill(alloc, PolicyState::preset(alloc, preset))
+}
+
 /// Adds the rule of that number, which has a text.
 #[unsafe(no_mangle)]
 pub extern "C" fn dq_proved_policy_rule(

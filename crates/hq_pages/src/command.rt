@@ -31,7 +31,7 @@ const NONE: char = ' ';
 
 /// All options, in the order in which `--help` lists them.
 #[rattlefmt::skip]
-static OPTIONS: [Choice; 36] = [
+static OPTIONS: [Choice; 37] = [
     ("html", NONE, "", "", "Print each match as HTML (the default)"),
     ("inner", NONE, "", "", "Print what is inside each match: HTML, or with --md Markdown"),
     ("text", 't', "", "", "Print the text of each match"),
@@ -55,6 +55,7 @@ static OPTIONS: [Choice; 36] = [
     ("base", 'b', "URL", "", "Make addresses absolute: resolve them against this URL and the page's base"),
     ("remove", 'r', "SELECTOR", "", "First remove what this matches; may be repeated"),
     ("sanitize", NONE, "", "", "Then keep only what the rules for HTML from strangers allow"),
+    ("preset", NONE, "NAME", "policy", "With --sanitize: common (the default), article, comment, email, inline or text"),
     ("policy", NONE, "FILE", "", "With --sanitize: take the rules of this file, in TOML"),
     ("allow", NONE, "NAMES", "", "With --sanitize: also allow p, a[href], [lang] ..; may be repeated"),
     ("deny", NONE, "NAMES", "", "With --sanitize: remove these elements and their contents; may be repeated"),

@@ -1,31 +1,37 @@
-//! The policy of `--sanitize`: that of the file of `--policy`, or the common rules, with what
-//! `--allow` and `--deny` add.
+//! The policy of `--sanitize`: that of the file of `--policy`, or the rules of `--preset` or else the
+//! common ones, with what `--allow` and `--deny` add.
 
 use crate::allowing::{allow, deny};
 use crate::faults::Fault;
-use crate::policy_files::{key_allowing, rules_of};
+use crate::policy_files::{key_allowing, preset, rules_of};
 use crate::rule_faults::{RuleFault, key_of};
 use clap::ArgMatches;
 use dom_query::{Policy, PolicyFault, Rules};
 use std::alloc::Global;
 use std::fs;
 
+const ONLY: &str = "--preset, --policy, --allow and --deny: only with --sanitize";
+const PRESETS: &str = "--preset: common, article, comment, email, inline or text";
+
 /// Returns the policy that the command line asks for, or `None` without `--sanitize`.
 ///
-/// Fails if an option for policies is used without `--sanitize`, if the file of `--policy` can't be
-/// read or isn't a policy, if a value of `--allow` or `--deny` can't be read, if what is allowed
-/// can't be kept safely, and if memory runs out.
+/// Fails if an option for policies is used without `--sanitize`, if there is no such preset, if the
+/// file of `--policy` can't be read or isn't a policy, if a value of `--allow` or `--deny` can't be
+/// read, if what is allowed can't be kept safely, and if memory runs out.
 pub fn policy_of(rt: &HostRuntime, matches: &ArgMatches<'_>) -> Result<Option<Policy>, Fault> {
     let file = matches.get_str("policy");
+    let name = matches.get_str("preset").unwrap_or("common");
     let changes = matches.get_strs("allow").is_some() || matches.get_strs("deny").is_some();
     if !matches.get_flag("sanitize") {
-        if file.is_some() || changes {
-            return Err(Fault::Usage("--policy, --allow and --deny: only with --sanitize"));
+        if file.is_some() || changes || matches.get_str("preset").is_some() {
+            return Err(Fault::Usage(ONLY));
         }
         return Ok(None);
     }
+    let Some(rules) = preset(rt.alloc(), name)? else {
+        return Err(Fault::Usage(PRESETS));
+    };
     let Some(name) = file else {
-        let rules = Rules::common(rt.alloc())?;
         return Ok(Some(changed(rt.alloc(), rules, matches)?));
     };
     let text = text_of(rt, name)?;

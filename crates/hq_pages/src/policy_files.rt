@@ -2,13 +2,14 @@
 
 use crate::pages::line_and_column;
 use crate::rule_faults::RuleFault;
-use dom_query::Rules;
+use dom_query::{OutOfMemory, Rules};
 use std::alloc::Global;
 use toml::de::Error;
 use toml::{Table, Value, table_from_str};
 use url::{ParseError, Url};
 
 const NAMES: &str = "a list of names in quotes";
+const EXTENDED: &str = "\"common\", \"article\", \"comment\", \"email\", \"inline\", \"text\" or \"none\"";
 
 /// Returns the rules in the text of a file. Without the key `extends` they allow only what the file
 /// names. Fails if the text isn't TOML, if it has a key that no rule has, or a value that the rule
@@ -40,11 +41,30 @@ fn extended_rules(alloc: Global, table: &Table) -> Result<Rules, RuleFault> {
     let Some(value) = table.get("extends") else {
         return Ok(Rules::new(alloc));
     };
-    match value.as_str() {
-        Some("common") => Ok(Rules::common(alloc)?),
-        Some("none") => Ok(Rules::new(alloc)),
-        _ => Err(value_fault(alloc, "extends", "\"common\" or \"none\"")),
+    let found = match value.as_str() {
+        Some("none") => Some(Rules::new(alloc)),
+        Some(name) => preset(alloc, name)?,
+        None => None,
+    };
+    match found {
+        Some(rules) => Ok(rules),
+        None => Err(value_fault(alloc, "extends", EXTENDED)),
     }
+}
+
+/// Returns the rules for the purpose of that name, or `None` if there are none. Fails only if memory
+/// runs out.
+pub fn preset(alloc: Global, name: &str) -> Result<Option<Rules>, OutOfMemory> {
+    let rules = match name {
+        "common" => Rules::common(alloc)?,
+        "article" => Rules::article(alloc)?,
+        "comment" => Rules::comment(alloc)?,
+        "email" => Rules::email(alloc)?,
+        "inline" => Rules::inline(alloc)?,
+        "text" => Rules::text(alloc),
+        _ => return Ok(None),
+    };
+    Ok(Some(rules))
 }
 
 /// Adds the rule of a key.

@@ -29,13 +29,16 @@ write("attacks", attacks.flatMap(([name, markup]) => [row(["common"], markup, { 
 const KEEPABLE = "a abbr acronym address area article aside audio b bdi bdo big blockquote br button canvas caption center cite code col colgroup data datalist dd del details dfn dialog dir div dl dt em fieldset figcaption figure font footer form h1 h2 h3 h4 h5 h6 header hgroup hr i img input ins kbd label legend li main map mark menu meter nav ol output p picture pre progress q rp rt ruby s samp search section slot small source span strike strong sub summary sup table tbody td tfoot th thead time tr track tt u ul var video wbr".split(" ");
 const AROUND = { li: "<ul>|</ul>", dd: "<dl>|</dl>", dt: "<dl>|</dl>", rp: "<ruby>|</ruby>", rt: "<ruby>|</ruby>", caption: "<table>|</table>", colgroup: "<table>|</table>", col: "<table><colgroup>|</colgroup></table>", tbody: "<table>|</table>", thead: "<table>|</table>", tfoot: "<table>|</table>", tr: "<table><tbody>|</tbody></table>", td: "<table><tbody><tr>|</tr></tbody></table>", th: "<table><tbody><tr>|</tr></tbody></table>" };
 const NEEDS = { rp: ["element ruby"], rt: ["element ruby"] };
-const TABLE = ["element table", "element tbody", "element tr", "element td", "element colgroup"];
+// A table, and the parts that its texts need.
+const PARTS = "table tbody tr td th thead tfoot caption".split(" ");
+const TABLE = ["table", "tbody", "tr", "td", "colgroup", "th", "thead", "tfoot", "caption"].map((name) => "element " + name);
 write("elements", KEEPABLE.flatMap((name) => {
   const [before, after] = (AROUND[name] || "|").split("|");
   const markup = `${before}<${name}>x</${name}>${after}`;
   const around = NEEDS[name] || (AROUND[name] ? [...TABLE, "element ul", "element dl"] : []);
   const args = [...new Set([...around, "element " + name, ...(name === "table" ? TABLE : [])])];
-  return [row(args, markup), row(around.filter((line) => line !== "element " + name && (name !== "td" && name !== "tr" && name !== "tbody")), markup)];
+  const without = around.filter((line) => line !== "element " + name && (name !== "td" && name !== "tr" && name !== "tbody"));
+  return [row(args, markup), PARTS.indexOf(name) > 3 ? refused(without, `\`table\` is allowed without \`${name}\``) : row(without, markup)];
 }));
 const common = policyOf(["common"]);
 write("common", [
@@ -112,7 +115,7 @@ write("refusals", [
   refused(["element b", "attribute-of b onclick"], "attribute `onclick` can't be kept safely"),
   refused(["element b", "value b style x"], "attribute `style` can't be kept safely"),
   ...["javascript", "vbscript", "data"].map((name) => refused(["scheme " + name], `scheme \`${name}\` can't be kept safely`)),
-  ...["tbody", "tr", "td"].map((part) => refused(["table", "tbody", "tr", "td"].filter((name) => name !== part).map((name) => "element " + name), `\`table\` is allowed without \`${part}\``)),
+  ...PARTS.slice(1).map((part) => refused(PARTS.filter((name) => name !== part).map((name) => "element " + name), `\`table\` is allowed without \`${part}\``)),
   refused(["resolve-relative http://h/"], "the scheme of the base isn't allowed"),
   refused(["scheme https", "resolve-relative http://h/"], "the scheme of the base isn't allowed"),
   refused(["rel no<follow"], "the `rel` of links can't be written"),

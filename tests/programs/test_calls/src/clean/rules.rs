@@ -12,6 +12,11 @@ pub fn none(rt: &HostRuntime) -> Rules {
 pub fn change(rt: &HostRuntime, rules: &mut Rules, line: &str) -> Option<()> {
     let (call, rest) = line.split_once(' ').unwrap_or((line, ""));
     match call {
+        "text" => *rules = Rules::text(rt.alloc()),
+        "inline" => *rules = Rules::inline(rt.alloc()).ok()?,
+        "comment" => *rules = Rules::comment(rt.alloc()).ok()?,
+        "article" => *rules = Rules::article(rt.alloc()).ok()?,
+        "email" => *rules = Rules::email(rt.alloc()).ok()?,
         "common" => *rules = Rules::common(rt.alloc()).ok()?,
         "data-attributes" => rules.set_data_attributes(true),
         "keep-relative" => rules.keep_relative(),
