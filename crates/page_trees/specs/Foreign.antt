@@ -11,6 +11,7 @@ use Rattle.dom_nodes.specs.declared.name.NameParts.{NameParts}
 use Rattle.dom_nodes.specs.declared.name.Namespace.{Namespace}
 use Rattle.page_tokens.specs.declared.attribute.TagAttr.{TagAttr}
 use Rattle.page_tokens.specs.declared.token.TagKind.{TagKind}
+use Rattle.dom_nodes.specs.Words.{is_among as is_word_among}
 use Rattle.standard_trees.specs.GrowingTree.{is_among, lower}
 use Rattle.standard_trees.specs.NameLists.{breakouts, foreign_attributes, html_encodings, svg_attributes, svg_names}
 use Rattle.page_trees.specs.Names.{text_of}
@@ -61,7 +62,7 @@ qualified_name name = record { prefix = prefix_or_none (prefix_in name); ns = na
 -- the name of an attribute, as the element has it
 abbrev pub attr_name_in : ElementNamespace → List ℕ → NameParts
 attr_name_in ns name =
-    if not (is_in_html ns) && is_among name foreign_attributes then qualified_name name else plain_name (adjusted_attr_name ns name)
+    if not (is_in_html ns) && is_word_among name foreign_attributes then qualified_name name else plain_name (adjusted_attr_name ns name)
 
 -- the attribute of the element for an attribute of its tag
 abbrev pub attr_in : ElementNamespace → TagAttr → Attr

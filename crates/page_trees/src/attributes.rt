@@ -7,7 +7,7 @@ ghost use Rattle.page_trees.specs.Foreign.{element_name_in, is_hidden_by, is_htm
 ghost use Rattle.page_trees.specs.Foreign.{local_in, local_name_in, namespace_in};
 ghost use Rattle.page_trees.specs.Foreign.{namespace_of_prefix};
 ghost use Rattle.page_trees.specs.Foreign.{prefix_in, prefix_or_none, qualified_name, value_named};
-ghost use Rattle.standard_trees.specs.GrowingTree.{is_among};
+ghost use Rattle.dom_nodes.specs.Words.{is_among};
 ghost use Rattle.standard_trees.specs.NameLists.{foreign_attributes};
 
 use crate::adjusting::{mathml_attr, svg_attr, svg_tag};

@@ -218,7 +218,6 @@ impl OpenElements {
     }
 
     /// Returns how many elements stay when the stack is cleared back to a table context.
-    #[tactic(auto, using(crate::proofs::StandingStacks::cleared))]
     pub fn depth_of_context(&self, context: TableContext) -> usize
         ensures { let all = self.now.elements.items in (tree : StandardTree) →
             IsStackOf tree all →
