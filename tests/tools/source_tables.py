@@ -1,6 +1,6 @@
 """Reads the tables of the crates that read and clean pages: arrays of names and identifiers, and functions that match names.
 
-An entry is a text such as `QUIRKY: -//sq//dtd html 2.0 hotmetal + extensions//` or `in table: td`. Each has a row in
+An entry is a text such as `QUIRKY: -//SQ//DTD HTML 2.0 HoTMetaL + extensions//` or `in table: td`. Each has a row in
 tests/rows/hq/tables_*.jsonl, whose field `entry` is that text (`in table: <td>` and `in table: </td>` for a start and an end tag).
 table_rows.py makes the rows, and tests/checks/tables.py looks for an entry that has none."""
 import re

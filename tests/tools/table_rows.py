@@ -254,7 +254,7 @@ def quirks_pages(pages, entries, whole=False):
     system = "http://www.ibm.com/data/dtd/v11/ibmxhtml1-transitional.dtd"
     for written in (system, system.upper(), system + "x", system[:-1]):
         for public in ("SYSTEM", 'PUBLIC ""', 'PUBLIC "x"'):
-            pages.add("QUIRKY_SYSTEM", f'<!DOCTYPE html {public} "{written}"><p>1<table>2')
+            pages.add(f"QUIRKY_SYSTEMS: {system}", f'<!DOCTYPE html {public} "{written}"><p>1<table>2')
 
 
 def adjusting_pages(pages, entries):

@@ -1,5 +1,5 @@
 -- What elements with the same name have in common.
-use Rattle.std.proofs.Common.{ℕ, ◌≡◌, ◌+◌, ◌*◌, ◌<◌, ◌≤◌, ◌⊎◌, inl, inr, Bool, true, false, ◌&&◌, not, List, [], ◌∷◌, ◌++◌, length, take, map, get_or, set, refl, sym, ap, ◌∙◌, subst, arith, rules, if◌then◌else◌, eqb, lit<}
+use Rattle.std.proofs.Common.{ℕ, ◌≡◌, ◌+◌, ◌*◌, ◌<◌, ◌≤◌, ◌⊎◌, inl, inr, Bool, true, false, ◌&&◌, not, List, [], ◌∷◌, ◌++◌, length, take, map, get_or, set, ltb, ltb-true, refl, sym, ap, ◌∙◌, subst, arith, rules, if◌then◌else◌, eqb, lit<}
 use Rattle.std.specs.Prelude.{Some, slice_get}
 use denote.Enum.Bare.{tag_one}
 use denote.Enum.Declared.{tag_of}
@@ -8,6 +8,7 @@ use Rattle.std.proofs.lemmas.Bool.{cases_Bool, cases_eq, eqb-false, eqb-true, ne
 use Rattle.std.proofs.lemmas.List.{length-map, map-append, take-map}
 use Rattle.std.proofs.lemmas.Option.{get_or_from_slice_get}
 use Rattle.page_trees.specs.Links.{AreLinks}
+use Rattle.page_trees.specs.Names.{html_rows, rare_rows}
 use Rattle.page_trees.specs.Scopes.{ends_items, is_name, is_named, is_named_like, last_place}
 use Rattle.page_trees.specs.SearchIndex.{IsIndex, key_for, key_of, mark_of}
 use Rattle.page_trees.specs.Sets.{ends_scope, is_in_html, is_special_element}
@@ -18,138 +19,15 @@ use Rattle.page_trees.specs.declared.stack.ElementNamespace.{ElementNamespace}
 use Rattle.page_trees.specs.declared.stack.Open.{Open}
 use Rattle.page_trees.specs.declared.stack.marks.Marks.{Marks}
 use Rattle.page_trees.proofs.IndexLemmas.{same_mark}
+use Rattle.page_trees.proofs.NamesAgree.{for_all}
 use Rattle.page_trees.proofs.ScopeLemmas.{by_ends, last_place_push}
 
 -- ---- keys
 
+-- computed
 pub tag_below : (name : Name) → tag_of the_type name < 127
-tag_below Name.A = lit< tt
-tag_below Name.Abbr = lit< tt
-tag_below Name.Address = lit< tt
-tag_below Name.AnnotationXml = lit< tt
-tag_below Name.Applet = lit< tt
-tag_below Name.Area = lit< tt
-tag_below Name.Article = lit< tt
-tag_below Name.Aside = lit< tt
-tag_below Name.B = lit< tt
-tag_below Name.Base = lit< tt
-tag_below Name.Basefont = lit< tt
-tag_below Name.Bgsound = lit< tt
-tag_below Name.Big = lit< tt
-tag_below Name.Blockquote = lit< tt
-tag_below Name.Body = lit< tt
-tag_below Name.Br = lit< tt
-tag_below Name.Button = lit< tt
-tag_below Name.Caption = lit< tt
-tag_below Name.Center = lit< tt
-tag_below Name.Code = lit< tt
-tag_below Name.Col = lit< tt
-tag_below Name.Colgroup = lit< tt
-tag_below Name.Dd = lit< tt
-tag_below Name.Desc = lit< tt
-tag_below Name.Details = lit< tt
-tag_below Name.Dialog = lit< tt
-tag_below Name.Dir = lit< tt
-tag_below Name.Div = lit< tt
-tag_below Name.Dl = lit< tt
-tag_below Name.Dt = lit< tt
-tag_below Name.Em = lit< tt
-tag_below Name.Embed = lit< tt
-tag_below Name.Fieldset = lit< tt
-tag_below Name.Figcaption = lit< tt
-tag_below Name.Figure = lit< tt
-tag_below Name.Font = lit< tt
-tag_below Name.Footer = lit< tt
-tag_below Name.Foreignobject = lit< tt
-tag_below Name.Form = lit< tt
-tag_below Name.Frame = lit< tt
-tag_below Name.Frameset = lit< tt
-tag_below Name.H1 = lit< tt
-tag_below Name.H2 = lit< tt
-tag_below Name.H3 = lit< tt
-tag_below Name.H4 = lit< tt
-tag_below Name.H5 = lit< tt
-tag_below Name.H6 = lit< tt
-tag_below Name.Head = lit< tt
-tag_below Name.Header = lit< tt
-tag_below Name.Hgroup = lit< tt
-tag_below Name.Hr = lit< tt
-tag_below Name.Html = lit< tt
-tag_below Name.I = lit< tt
-tag_below Name.Iframe = lit< tt
-tag_below Name.Image = lit< tt
-tag_below Name.Img = lit< tt
-tag_below Name.Input = lit< tt
-tag_below Name.Keygen = lit< tt
-tag_below Name.Label = lit< tt
-tag_below Name.Li = lit< tt
-tag_below Name.Link = lit< tt
-tag_below Name.Listing = lit< tt
-tag_below Name.Main = lit< tt
-tag_below Name.Malignmark = lit< tt
-tag_below Name.Marquee = lit< tt
-tag_below Name.Math = lit< tt
-tag_below Name.Menu = lit< tt
-tag_below Name.Menuitem = lit< tt
-tag_below Name.Meta = lit< tt
-tag_below Name.Mglyph = lit< tt
-tag_below Name.Mi = lit< tt
-tag_below Name.Mn = lit< tt
-tag_below Name.Mo = lit< tt
-tag_below Name.Ms = lit< tt
-tag_below Name.Mtext = lit< tt
-tag_below Name.Nav = lit< tt
-tag_below Name.Nobr = lit< tt
-tag_below Name.Noembed = lit< tt
-tag_below Name.Noframes = lit< tt
-tag_below Name.Noscript = lit< tt
-tag_below Name.Object = lit< tt
-tag_below Name.Ol = lit< tt
-tag_below Name.Optgroup = lit< tt
-tag_below Name.Option = lit< tt
-tag_below Name.Output = lit< tt
-tag_below Name.P = lit< tt
-tag_below Name.Param = lit< tt
-tag_below Name.Plaintext = lit< tt
-tag_below Name.Pre = lit< tt
-tag_below Name.Rb = lit< tt
-tag_below Name.Rp = lit< tt
-tag_below Name.Rt = lit< tt
-tag_below Name.Rtc = lit< tt
-tag_below Name.Ruby = lit< tt
-tag_below Name.S = lit< tt
-tag_below Name.Script = lit< tt
-tag_below Name.Search = lit< tt
-tag_below Name.Section = lit< tt
-tag_below Name.Select = lit< tt
-tag_below Name.Small = lit< tt
-tag_below Name.Source = lit< tt
-tag_below Name.Span = lit< tt
-tag_below Name.Strike = lit< tt
-tag_below Name.Strong = lit< tt
-tag_below Name.Style = lit< tt
-tag_below Name.Sub = lit< tt
-tag_below Name.Summary = lit< tt
-tag_below Name.Sup = lit< tt
-tag_below Name.Svg = lit< tt
-tag_below Name.Table = lit< tt
-tag_below Name.Tbody = lit< tt
-tag_below Name.Td = lit< tt
-tag_below Name.Template = lit< tt
-tag_below Name.Textarea = lit< tt
-tag_below Name.Tfoot = lit< tt
-tag_below Name.Th = lit< tt
-tag_below Name.Thead = lit< tt
-tag_below Name.Title = lit< tt
-tag_below Name.Tr = lit< tt
-tag_below Name.Track = lit< tt
-tag_below Name.Tt = lit< tt
-tag_below Name.U = lit< tt
-tag_below Name.Ul = lit< tt
-tag_below Name.Var = lit< tt
-tag_below Name.Wbr = lit< tt
-tag_below Name.Xmp = lit< tt
-tag_below Name.Other = lit< tt
+unfolding html_rows rare_rows
+tag_below name = ltb-true (tag_of the_type name) 127 (for_all (λ n. ltb (tag_of the_type n) 127) refl name)
 
 same_bool : (b c : Bool) → (b ≡ true → c ≡ true) → (c ≡ true → b ≡ true) → b ≡ c
 same_bool true true f g = refl

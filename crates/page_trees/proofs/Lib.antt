@@ -17,3 +17,8 @@ mod IndexLemmas
 mod AlikeLemmas
 mod RefreshLemmas
 mod StackSearches
+pub mod NamesAgree
+pub mod ScopeEnds
+pub mod StandingNames
+pub mod StandingStacks
+pub mod StandingPlaces

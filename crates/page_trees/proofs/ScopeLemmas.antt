@@ -3,7 +3,8 @@ use Rattle.std.proofs.Common.{ℕ, zero, suc, ◌≡◌, ◌+◌, ◌<◌, ◌�
 use Rattle.std.specs.Prelude.{Some, slice_get}
 use Rattle.std.proofs.lemmas.List.{append-nil, append_assoc, length_push, reverse-append, take_all}
 use Rattle.page_trees.specs.Popping.{up_to_last}
-use Rattle.page_trees.specs.Scopes.{has_in_scope, last_place}
+use Rattle.standard_trees.specs.GrowingTree.{in_scope}
+use Rattle.page_trees.specs.Scopes.{last_place}
 use Rattle.page_trees.proofs.PoppingLemmas.{up_to_last_push}
 
 -- ---- induction from the first element to the last
@@ -85,8 +86,8 @@ slice_get_end (y ∷ ys) x = slice_get_end ys x
 -- ---- what is in scope
 
 pub record IsScopeSearch {X : Type 0} (wanted ends : X → Bool) (xs : List X) : Type 0 where
-  pub found : 0 < last_place wanted xs → last_place ends xs ≤ last_place wanted xs → has_in_scope wanted ends (reverse xs) ≡ true
-  pub missed : (0 < last_place wanted xs → last_place ends xs ≤ last_place wanted xs → ⊥) → has_in_scope wanted ends (reverse xs) ≡ false
+  pub found : 0 < last_place wanted xs → last_place ends xs ≤ last_place wanted xs → in_scope wanted ends (reverse xs) ≡ true
+  pub missed : (0 < last_place wanted xs → last_place ends xs ≤ last_place wanted xs → ⊥) → in_scope wanted ends (reverse xs) ≡ false
 
 scope_found : (w e h : Bool) (n W E : ℕ) → W ≤ n → E ≤ n → (0 < W → E ≤ W → h ≡ true) → 0 < (if w then n + 1 else W) → (if e then n + 1 else E) ≤ (if w then n + 1 else W) → (w || (not e && h)) ≡ true
 scope_found true e h n W E lw le is lt l = refl
@@ -102,11 +103,11 @@ pub scope_search : {X : Type 0} (wanted ends : X → Bool) (xs : List X) → IsS
 scope_search wanted ends = by_ends (IsScopeSearch wanted ends)
     (record { found = λ lt _. absurd (omega (arith, lt)); missed = λ _. refl })
     (λ ys y is.
-    let outer : has_in_scope wanted ends (reverse (ys ++ y ∷ [])) ≡ (wanted y || (not (ends y) && has_in_scope wanted ends (reverse ys))) = ap (has_in_scope wanted ends) (reverse-append ys (y ∷ [])) in
+    let outer : in_scope wanted ends (reverse (ys ++ y ∷ [])) ≡ (wanted y || (not (ends y) && in_scope wanted ends (reverse ys))) = ap (in_scope wanted ends) (reverse-append ys (y ∷ [])) in
     record {
-      found = λ lt le. outer ∙ scope_found (wanted y) (ends y) (has_in_scope wanted ends (reverse ys)) (length ys) (last_place wanted ys) (last_place ends ys) (last_place_le wanted ys) (last_place_le ends ys) is.found
+      found = λ lt le. outer ∙ scope_found (wanted y) (ends y) (in_scope wanted ends (reverse ys)) (length ys) (last_place wanted ys) (last_place ends ys) (last_place_le wanted ys) (last_place_le ends ys) is.found
           (subst (λ n. 0 < n) (last_place_push wanted ys y) lt) (subst (λ n. n ≤ (if wanted y then length ys + 1 else last_place wanted ys)) (last_place_push ends ys y) (subst (λ n. last_place ends (ys ++ y ∷ []) ≤ n) (last_place_push wanted ys y) le));
-      missed = λ not_so. outer ∙ scope_missed (wanted y) (ends y) (has_in_scope wanted ends (reverse ys)) (length ys) (last_place wanted ys) (last_place ends ys) (last_place_le wanted ys) (last_place_le ends ys) is.missed
+      missed = λ not_so. outer ∙ scope_missed (wanted y) (ends y) (in_scope wanted ends (reverse ys)) (length ys) (last_place wanted ys) (last_place ends ys) (last_place_le wanted ys) (last_place_le ends ys) is.missed
           (λ lt le. not_so (subst (λ n. 0 < n) (sym (last_place_push wanted ys y)) lt)
           (subst (λ n. n ≤ last_place wanted (ys ++ y ∷ [])) (sym (last_place_push ends ys y)) (subst (λ n. (if ends y then length ys + 1 else last_place ends ys) ≤ n) (sym (last_place_push wanted ys y)) le)));
     })

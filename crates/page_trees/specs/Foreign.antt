@@ -6,26 +6,21 @@ use Rattle.std.specs.List.{after_first, before_first}
 use Rattle.std.specs.Option.{is_some, option_map, option_map_or, unwrap_or}
 use Rattle.std.specs.Str.{bytes_eq, str_eq_ignore_ascii_case}
 use Rattle.dom_nodes.specs.Changes.{plain_name}
-use Rattle.dom_nodes.specs.Words.{is_among}
 use Rattle.dom_nodes.specs.declared.name.Attr.{Attr}
 use Rattle.dom_nodes.specs.declared.name.NameParts.{NameParts}
 use Rattle.dom_nodes.specs.declared.name.Namespace.{Namespace}
 use Rattle.page_tokens.specs.declared.attribute.TagAttr.{TagAttr}
 use Rattle.page_tokens.specs.declared.token.TagKind.{TagKind}
-use Rattle.page_trees.specs.Sets.{is_a_text_point, is_an_html_point, is_in_html}
+use Rattle.dom_nodes.specs.Words.{is_among as is_word_among}
+use Rattle.standard_trees.specs.GrowingTree.{is_among, lower}
+use Rattle.standard_trees.specs.NameLists.{breakouts, foreign_attributes, html_encodings, svg_attributes, svg_names}
+use Rattle.page_trees.specs.Names.{text_of}
+use Rattle.page_trees.specs.Sets.{is_a_text_point, is_an_html_point, is_in_html, is_in_mathml}
 use Rattle.page_trees.specs.declared.name.Name.{Name}
 use Rattle.page_trees.specs.declared.stack.ElementNamespace.{ElementNamespace}
 use Rattle.page_trees.specs.declared.stack.Open.{Open}
 
 -- ---- names
-
--- the tag names of SVG elements that have upper-case letters
-unfoldable pub svg_tag_names : List (List ℕ)
-svg_tag_names = codes "altGlyph" ∷ codes "altGlyphDef" ∷ codes "altGlyphItem" ∷ codes "animateColor" ∷ codes "animateMotion" ∷ codes "animateTransform" ∷ codes "clipPath" ∷ codes "feBlend" ∷ codes "feColorMatrix" ∷ codes "feComponentTransfer" ∷ codes "feComposite" ∷ codes "feConvolveMatrix" ∷ codes "feDiffuseLighting" ∷ codes "feDisplacementMap" ∷ codes "feDistantLight" ∷ codes "feDropShadow" ∷ codes "feFlood" ∷ codes "feFuncA" ∷ codes "feFuncB" ∷ codes "feFuncG" ∷ codes "feFuncR" ∷ codes "feGaussianBlur" ∷ codes "feImage" ∷ codes "feMerge" ∷ codes "feMergeNode" ∷ codes "feMorphology" ∷ codes "feOffset" ∷ codes "fePointLight" ∷ codes "feSpecularLighting" ∷ codes "feSpotLight" ∷ codes "feTile" ∷ codes "feTurbulence" ∷ codes "foreignObject" ∷ codes "glyphRef" ∷ codes "linearGradient" ∷ codes "radialGradient" ∷ codes "textPath" ∷ []
-
--- "adjust SVG attributes": the attribute names that have upper-case letters
-unfoldable pub svg_attr_names : List (List ℕ)
-svg_attr_names = codes "attributeName" ∷ codes "attributeType" ∷ codes "baseFrequency" ∷ codes "baseProfile" ∷ codes "calcMode" ∷ codes "clipPathUnits" ∷ codes "diffuseConstant" ∷ codes "edgeMode" ∷ codes "filterUnits" ∷ codes "glyphRef" ∷ codes "gradientTransform" ∷ codes "gradientUnits" ∷ codes "kernelMatrix" ∷ codes "kernelUnitLength" ∷ codes "keyPoints" ∷ codes "keySplines" ∷ codes "keyTimes" ∷ codes "lengthAdjust" ∷ codes "limitingConeAngle" ∷ codes "markerHeight" ∷ codes "markerUnits" ∷ codes "markerWidth" ∷ codes "maskContentUnits" ∷ codes "maskUnits" ∷ codes "numOctaves" ∷ codes "pathLength" ∷ codes "patternContentUnits" ∷ codes "patternTransform" ∷ codes "patternUnits" ∷ codes "pointsAtX" ∷ codes "pointsAtY" ∷ codes "pointsAtZ" ∷ codes "preserveAlpha" ∷ codes "preserveAspectRatio" ∷ codes "primitiveUnits" ∷ codes "refX" ∷ codes "refY" ∷ codes "repeatCount" ∷ codes "repeatDur" ∷ codes "requiredExtensions" ∷ codes "requiredFeatures" ∷ codes "specularConstant" ∷ codes "specularExponent" ∷ codes "spreadMethod" ∷ codes "startOffset" ∷ codes "stdDeviation" ∷ codes "stitchTiles" ∷ codes "surfaceScale" ∷ codes "systemLanguage" ∷ codes "tableValues" ∷ codes "targetX" ∷ codes "targetY" ∷ codes "textLength" ∷ codes "viewBox" ∷ codes "viewTarget" ∷ codes "xChannelSelector" ∷ codes "yChannelSelector" ∷ codes "zoomAndPan" ∷ []
 
 -- the name of the list that is the same but for the case of ASCII letters; the name itself, where there is none
 abbrev pub adjusted : List (List ℕ) → List ℕ → List ℕ
@@ -38,12 +33,8 @@ mathml_attr_name name = if bytes_eq name (codes "definitionurl") then codes "def
 -- the name of an attribute without a namespace
 abbrev pub adjusted_attr_name : ElementNamespace → List ℕ → List ℕ
 adjusted_attr_name ElementNamespace.Html name = name
-adjusted_attr_name ElementNamespace.Svg name = adjusted svg_attr_names name
+adjusted_attr_name ElementNamespace.Svg name = adjusted svg_attributes name
 adjusted_attr_name ElementNamespace.MathMl name = mathml_attr_name name
-
--- "adjust foreign attributes": the attributes that have a namespace
-unfoldable pub namespaced_names : List (List ℕ)
-namespaced_names = codes "xlink:actuate" ∷ codes "xlink:arcrole" ∷ codes "xlink:href" ∷ codes "xlink:role" ∷ codes "xlink:show" ∷ codes "xlink:title" ∷ codes "xlink:type" ∷ codes "xml:lang" ∷ codes "xml:space" ∷ codes "xmlns" ∷ codes "xmlns:xlink" ∷ []
 
 abbrev pub is_colon : ℕ → Bool
 is_colon c = c == 58
@@ -71,7 +62,7 @@ qualified_name name = record { prefix = prefix_or_none (prefix_in name); ns = na
 -- the name of an attribute, as the element has it
 abbrev pub attr_name_in : ElementNamespace → List ℕ → NameParts
 attr_name_in ns name =
-    if not (is_in_html ns) && is_among name namespaced_names then qualified_name name else plain_name (adjusted_attr_name ns name)
+    if not (is_in_html ns) && is_word_among name foreign_attributes then qualified_name name else plain_name (adjusted_attr_name ns name)
 
 -- the attribute of the element for an attribute of its tag
 abbrev pub attr_in : ElementNamespace → TagAttr → Attr
@@ -89,7 +80,7 @@ html_local _ written = written
 
 abbrev pub local_name_in : ElementNamespace → Name → List ℕ → List ℕ
 local_name_in ElementNamespace.Html name written = html_local name written
-local_name_in ElementNamespace.Svg name written = adjusted svg_tag_names written
+local_name_in ElementNamespace.Svg name written = adjusted svg_names written
 local_name_in ElementNamespace.MathMl name written = written
 
 abbrev pub element_name_in : ElementNamespace → Name → List ℕ → NameParts
@@ -107,14 +98,10 @@ is_hidden_by attrs = option_map_or (λ kind. str_eq_ignore_ascii_case kind (code
 
 -- an attribute `encoding` whose value is one of those that make an `annotation-xml` an HTML integration point
 abbrev pub is_html_encoding : List ℕ → Bool
-is_html_encoding value = str_eq_ignore_ascii_case value (codes "text/html") || str_eq_ignore_ascii_case value (codes "application/xhtml+xml")
+is_html_encoding value = is_among (lower value) html_encodings
 
 abbrev pub has_html_encoding : List TagAttr → Bool
 has_html_encoding attrs = option_map_or is_html_encoding (value_named (codes "encoding") attrs) false
-
-abbrev pub is_in_mathml : ElementNamespace → Bool
-is_in_mathml ElementNamespace.MathMl = true
-is_in_mathml _ = false
 
 abbrev pub names_annotation : Name → Bool
 names_annotation Name.AnnotationXml = true
@@ -128,51 +115,7 @@ is_html_annotation ns name attrs = (is_in_mathml ns && names_annotation name) &&
 -- "A start tag whose tag name is one of" (13.2.6.5): the names that end foreign content. A start tag `font` does so too, if it has
 -- an attribute `color`, `face` or `size`.
 abbrev pub ends_foreign_name : Name → Bool
-ends_foreign_name Name.B = true
-ends_foreign_name Name.Big = true
-ends_foreign_name Name.Blockquote = true
-ends_foreign_name Name.Body = true
-ends_foreign_name Name.Br = true
-ends_foreign_name Name.Center = true
-ends_foreign_name Name.Code = true
-ends_foreign_name Name.Dd = true
-ends_foreign_name Name.Div = true
-ends_foreign_name Name.Dl = true
-ends_foreign_name Name.Dt = true
-ends_foreign_name Name.Em = true
-ends_foreign_name Name.Embed = true
-ends_foreign_name Name.H1 = true
-ends_foreign_name Name.H2 = true
-ends_foreign_name Name.H3 = true
-ends_foreign_name Name.H4 = true
-ends_foreign_name Name.H5 = true
-ends_foreign_name Name.H6 = true
-ends_foreign_name Name.Head = true
-ends_foreign_name Name.Hr = true
-ends_foreign_name Name.I = true
-ends_foreign_name Name.Img = true
-ends_foreign_name Name.Li = true
-ends_foreign_name Name.Listing = true
-ends_foreign_name Name.Menu = true
-ends_foreign_name Name.Meta = true
-ends_foreign_name Name.Nobr = true
-ends_foreign_name Name.Ol = true
-ends_foreign_name Name.P = true
-ends_foreign_name Name.Pre = true
-ends_foreign_name Name.Ruby = true
-ends_foreign_name Name.S = true
-ends_foreign_name Name.Small = true
-ends_foreign_name Name.Span = true
-ends_foreign_name Name.Strong = true
-ends_foreign_name Name.Strike = true
-ends_foreign_name Name.Sub = true
-ends_foreign_name Name.Sup = true
-ends_foreign_name Name.Table = true
-ends_foreign_name Name.Tt = true
-ends_foreign_name Name.U = true
-ends_foreign_name Name.Ul = true
-ends_foreign_name Name.Var = true
-ends_foreign_name _ = false
+ends_foreign_name name = is_among (text_of name) breakouts
 
 abbrev pub names_font : Name → Bool
 names_font Name.Font = true

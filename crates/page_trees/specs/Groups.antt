@@ -172,6 +172,13 @@ is_cell_name Name.Td = true
 is_cell_name Name.Th = true
 is_cell_name _ = false
 
+-- sections of tables
+abbrev pub is_section_name : Name → Bool
+is_section_name Name.Tbody = true
+is_section_name Name.Tfoot = true
+is_section_name Name.Thead = true
+is_section_name _ = false
+
 -- "in table": the start tags of what is between a table and its cells, and of cells
 abbrev pub is_part_name : Name → Bool
 is_part_name Name.Caption = true

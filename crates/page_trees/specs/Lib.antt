@@ -14,3 +14,4 @@ pub mod Names
 pub mod Scopes
 pub mod Links
 pub mod SearchIndex
+pub mod Stands

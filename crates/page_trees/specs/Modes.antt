@@ -1,9 +1,15 @@
 -- The insertion modes (13.2.4.1), and what depends on them alone.
-use Rattle.std.specs.Prelude.{Bool, true, false, ◌||◌, Option, None, Some, if◌then◌else◌}
+use Rattle.std.specs.Prelude.{ℕ, Bool, true, false, ◌||◌, List, [], ◌∷◌, Option, None, Some, if◌then◌else◌}
+use Rattle.std.specs.Option.{unwrap_or}
+use Rattle.standard_trees.specs.Building.{reset_by}
+use Rattle.standard_trees.specs.RuleWords.{AfterAfterBody, AfterAfterFrameset, AfterBody, AfterFrameset, AfterHead, BeforeHead, BeforeHtml}
+use Rattle.standard_trees.specs.RuleWords.{InBody, InCaption, InCell, InColumnGroup, InFrameset, InHead, InHeadNoscript, InRow, InTable}
+use Rattle.standard_trees.specs.RuleWords.{InTableBody, InTableText, InTemplate, Initial, Mode as StandardMode, Text}
+use Rattle.standard_trees.specs.TreeRules.{resets}
 use Rattle.page_tokens.specs.declared.token.TagKind.{TagKind}
 use Rattle.page_tokens.specs.declared.tokenizer.state.State.{State}
 use Rattle.page_trees.specs.Placing.{fosters, is_a_template}
-use Rattle.page_trees.specs.Sets.{is_in_html}
+use Rattle.page_trees.specs.Sets.{rule_name}
 use Rattle.page_trees.specs.declared.builder.Mode.{Mode}
 use Rattle.page_trees.specs.declared.builder.Next.{Next}
 use Rattle.page_trees.specs.declared.modes.resetting.Setting.{Setting}
@@ -48,39 +54,43 @@ holds_table_text o = is_a_template o || fosters o
 
 -- ---- "reset the insertion mode appropriately"
 
--- for the element `html`
-abbrev pub mode_in_html : Bool → Mode
-mode_in_html has_head = if has_head then Mode.AfterHead else Mode.BeforeHead
+-- the mode as standard_trees has it
+abbrev pub mode_of : Mode → StandardMode
+mode_of Mode.Initial = Initial
+mode_of Mode.BeforeHtml = BeforeHtml
+mode_of Mode.BeforeHead = BeforeHead
+mode_of Mode.InHead = InHead
+mode_of Mode.InHeadNoscript = InHeadNoscript
+mode_of Mode.AfterHead = AfterHead
+mode_of Mode.InBody = InBody
+mode_of Mode.Text = Text
+mode_of Mode.InTable = InTable
+mode_of Mode.InTableText = InTableText
+mode_of Mode.InCaption = InCaption
+mode_of Mode.InColumnGroup = InColumnGroup
+mode_of Mode.InTableBody = InTableBody
+mode_of Mode.InRow = InRow
+mode_of Mode.InCell = InCell
+mode_of Mode.InTemplate = InTemplate
+mode_of Mode.AfterBody = AfterBody
+mode_of Mode.InFrameset = InFrameset
+mode_of Mode.AfterFrameset = AfterFrameset
+mode_of Mode.AfterAfterBody = AfterAfterBody
+mode_of Mode.AfterAfterFrameset = AfterAfterFrameset
 
--- "and last is false"
-abbrev pub mode_unless : Bool → Mode → Mode
-mode_unless last mode = if last then Mode.InBody else mode
+-- what the Standard's table says of an element: the mode depends on whether the element is the last one, whether the head element
+-- pointer is set, and on the current template insertion mode
+abbrev pub reset_named : Setting → List ℕ → Option StandardMode
+reset_named s key =
+    reset_by resets key (mode_of s.template_mode ∷ []) (if s.has_head then Some 0 else None) (if s.is_last then [] else 0 ∷ [])
 
 -- "if last is true, then switch the insertion mode to 'in body'"
-abbrev pub mode_of_others : Bool → Option Mode
-mode_of_others last = if last then Some Mode.InBody else None
+abbrev pub or_in_body : Bool → Option StandardMode → Option StandardMode
+or_in_body last mode = if last then Some (unwrap_or mode InBody) else mode
 
--- the mode that an HTML element determines, by its name
-abbrev pub mode_named : Setting → Name → Option Mode
-mode_named s Name.Td = Some (mode_unless s.is_last Mode.InCell)
-mode_named s Name.Th = Some (mode_unless s.is_last Mode.InCell)
-mode_named s Name.Tr = Some Mode.InRow
-mode_named s Name.Tbody = Some Mode.InTableBody
-mode_named s Name.Thead = Some Mode.InTableBody
-mode_named s Name.Tfoot = Some Mode.InTableBody
-mode_named s Name.Caption = Some Mode.InCaption
-mode_named s Name.Colgroup = Some Mode.InColumnGroup
-mode_named s Name.Table = Some Mode.InTable
-mode_named s Name.Template = Some s.template_mode
-mode_named s Name.Head = Some (mode_unless s.is_last Mode.InHead)
-mode_named s Name.Body = Some Mode.InBody
-mode_named s Name.Frameset = Some Mode.InFrameset
-mode_named s Name.Html = Some (mode_in_html s.has_head)
-mode_named s _ = mode_of_others s.is_last
-
--- the mode that an element determines; one of SVG or MathML determines none, unless it is the last
-abbrev pub mode_for : Setting → Open → Option Mode
-mode_for s o = if is_in_html o.ns then mode_named s o.name else mode_of_others s.is_last
+-- the mode that an element determines
+abbrev pub reset_for : Setting → Open → Option StandardMode
+reset_for s o = or_in_body s.is_last (reset_named s (rule_name o))
 
 -- ---- fragments
 

@@ -1,48 +1,31 @@
 -- The appropriate place for inserting a node (13.2.6.1). The lists of open elements go from the current node outwards.
-use Rattle.std.specs.Prelude.{ℕ, Bool, true, false, ◌==◌, ◌&&◌, List, [], ◌∷◌, Some, None, length, nat_le, reverse, if◌then◌else◌}
+use Rattle.std.specs.Prelude.{ℕ, Bool, true, false, ◌==◌, ◌&&◌, List, [], ◌∷◌, Some, None, codes, length, nat_le, reverse, if◌then◌else◌}
 use Rattle.std.specs.Option.{unwrap_or}
 use Rattle.dom_links.specs.Forest.{Forest, parent}
 use Rattle.dom_links.specs.Sound.{contents_at}
 use Rattle.dom_links.specs.declared.gap.InsertionPoint.{InsertionPoint}
 use Rattle.dom_links.specs.declared.gap.InsertionPoint.TheVariants.{Before, EndOf as TheEndOf}
-use Rattle.page_trees.specs.Sets.{is_in_html}
+use Rattle.standard_trees.specs.NameLists.{fostering_names}
+use Rattle.page_trees.specs.Sets.{is_one, is_one_in}
 use Rattle.page_trees.specs.declared.growing.placing.Place.{Place}
 use Rattle.page_trees.specs.declared.growing.placing.Place.TheVariants.{EndOf, Table}
 use Rattle.page_trees.specs.declared.growing.placing.Placing.{Placing}
 use Rattle.page_trees.specs.declared.name.Name.{Name}
-use Rattle.page_trees.specs.declared.name.Name.TheVariants.{Table as ATable, Tbody, Template, Tfoot, Thead, Tr}
 use Rattle.page_trees.specs.declared.stack.ElementNamespace.{ElementNamespace}
 use Rattle.page_trees.specs.declared.stack.Open.{Open}
 
-abbrev pub names_template : Name → Bool
-names_template Template = true
-names_template _ = false
-
-abbrev pub names_table : Name → Bool
-names_table ATable = true
-names_table _ = false
-
--- the names of a table, of its sections and of its rows
-abbrev pub names_table_part : Name → Bool
-names_table_part ATable = true
-names_table_part Tbody = true
-names_table_part Tfoot = true
-names_table_part Thead = true
-names_table_part Tr = true
-names_table_part _ = false
-
 abbrev pub is_a_template : Open → Bool
-is_a_template o = is_in_html o.ns && names_template o.name
+is_a_template o = is_one (codes "template" ∷ []) o
 
 abbrev pub is_a_table : Open → Bool
-is_a_table o = is_in_html o.ns && names_table o.name
+is_a_table o = is_one (codes "table" ∷ []) o
 
 abbrev pub is_template_named : ElementNamespace → Name → Bool
-is_template_named ns name = is_in_html ns && names_template name
+is_template_named ns name = is_one_in (codes "template" ∷ []) ns name
 
 -- whether foster parenting applies to what is inserted into the element
 abbrev pub fosters : Open → Bool
-fosters o = is_in_html o.ns && names_table_part o.name
+fosters o = is_one fostering_names o
 
 -- the template contents of an element that has some, and otherwise the element itself
 abbrev pub inner : Forest → ℕ → ℕ

@@ -1,19 +1,15 @@
 -- Searches of the stack of open elements (13.2.4.2).
-use Rattle.std.specs.Prelude.{ℕ, Bool, true, false, ◌&&◌, ◌||◌, not, eqb, List, [], ◌∷◌, length}
+use Rattle.std.specs.Prelude.{Bool, List, None, Option, Some, eqb, false, length, not, ℕ, [], ◌&&◌, ◌||◌, ◌∷◌}
 use denote.Enum.Declared.{tag_of}
+use Rattle.standard_trees.specs.NameLists.{button_scope, list_item_scope, scope, table_scope}
 use Rattle.page_trees.specs.Popping.{up_to_last}
-use Rattle.page_trees.specs.Sets.{ends_scope, is_crossed, is_in_html, is_special_element}
+use Rattle.page_trees.specs.Sets.{is_crossed, is_implied, is_in_html, is_one, is_special_element}
 use Rattle.page_trees.specs.contracts.name.Name.{the_type}
 use Rattle.page_trees.specs.contracts.stack.ElementNamespace.{the_type as the_space}
 use Rattle.page_trees.specs.declared.name.Name.{Name}
 use Rattle.page_trees.specs.declared.sets.Scope.{Scope}
 use Rattle.page_trees.specs.declared.sets.Scope.TheVariants.{Default, ListItem, Button, Table}
 use Rattle.page_trees.specs.declared.stack.Open.{Open}
-
--- "has an element in the specific scope": the elements from the current node outwards
-abbrev pub has_in_scope : {X : Type 0} → (X → Bool) → (X → Bool) → List X → Bool
-has_in_scope wanted ends [] = false
-has_in_scope wanted ends (node ∷ outer) = wanted node || (not (ends node) && has_in_scope wanted ends outer)
 
 -- one more than the index of the last element that passes a test; 0 if there is none
 abbrev pub last_place : {X : Type 0} → (X → Bool) → List X → ℕ
@@ -39,12 +35,24 @@ abbrev pub is_among : List Name → Open → Bool
 is_among [] o = false
 is_among (name ∷ names) o = is_named name o || is_among names o
 
+-- an HTML element with that name, if there is one
+abbrev pub is_excepted : Option Name → Open → Bool
+is_excepted None o = false
+is_excepted (Some name) o = has_name name o
+
+-- "generate implied end tags, except for": the elements that are popped
+abbrev pub is_implied_but : Option Name → Open → Bool
+is_implied_but except o = is_implied o && not (is_excepted except o)
+
 -- the elements that end each scope
+abbrev pub scope_names : Scope → List (List ℕ)
+scope_names Default = scope
+scope_names ListItem = list_item_scope
+scope_names Button = button_scope
+scope_names Table = table_scope
+
 abbrev pub ends_in : Scope → Open → Bool
-ends_in Default o = ends_scope o
-ends_in ListItem o = ends_scope o || is_named Name.Ol o || is_named Name.Ul o
-ends_in Button o = ends_scope o || is_named Name.Button o
-ends_in Table o = is_named Name.Html o || is_named Name.Table o || is_named Name.Template o
+ends_in s o = is_one (scope_names s) o
 
 -- the special elements that end the search for an open list item
 abbrev pub ends_items : Open → Bool

@@ -4,7 +4,7 @@
 ghost use Rattle.std.specs.Prelude.{◌≡◌, map};
 ghost use Rattle.std.specs.Str.{str_eq_ignore_ascii_case};
 ghost use Rattle.page_trees.specs.Foreign.{adjusted, mathml_attr_name};
-ghost use Rattle.page_trees.specs.Foreign.{svg_attr_names, svg_tag_names};
+ghost use Rattle.standard_trees.specs.NameLists.{svg_attributes, svg_names};
 
 const SVG_TAGS: [&str; 37] = [
     "altGlyph",
@@ -127,17 +127,15 @@ fn adjusted<'a>(names: &[&'a str], name: &'a str) -> &'a str
 }
 
 /// Returns an SVG element's name in its proper case.
-#[tactic(auto, unfolding(crate::specs::Foreign::svg_tag_names))]
 pub fn svg_tag(name: &str) -> &str
-    ensures { result.now ≡ adjusted svg_tag_names name.now }
+    ensures { result.now ≡ adjusted svg_names name.now }
 {
     adjusted(&SVG_TAGS, name)
 }
 
 /// Returns an SVG attribute's name in its proper case.
-#[tactic(auto, unfolding(crate::specs::Foreign::svg_attr_names))]
 pub fn svg_attr(name: &str) -> &str
-    ensures { result.now ≡ adjusted svg_attr_names name.now }
+    ensures { result.now ≡ adjusted svg_attributes name.now }
 {
     adjusted(&SVG_ATTRS, name)
 }

@@ -5,9 +5,10 @@ ghost use Rattle.std.specs.Option.{option_copied};
 ghost use Rattle.page_trees.specs.Foreign.{adjusted_attr_name, attr_in, attr_name_in};
 ghost use Rattle.page_trees.specs.Foreign.{element_name_in, is_hidden_by, is_html_annotation};
 ghost use Rattle.page_trees.specs.Foreign.{local_in, local_name_in, namespace_in};
-ghost use Rattle.page_trees.specs.Foreign.{namespace_of_prefix, namespaced_names};
+ghost use Rattle.page_trees.specs.Foreign.{namespace_of_prefix};
 ghost use Rattle.page_trees.specs.Foreign.{prefix_in, prefix_or_none, qualified_name, value_named};
 ghost use Rattle.dom_nodes.specs.Words.{is_among};
+ghost use Rattle.standard_trees.specs.NameLists.{foreign_attributes};
 
 use crate::adjusting::{mathml_attr, svg_attr, svg_tag};
 use crate::fault::PageFault;
@@ -74,9 +75,8 @@ static NAMESPACED: [&str; 11] = [
 ];
 
 /// Returns whether an attribute with that name has a namespace in foreign content.
-#[tactic(auto, unfolding(crate::specs::Foreign::namespaced_names))]
 fn is_namespaced(name: &str) -> bool
-    ensures { result ≡ is_among name.now namespaced_names }
+    ensures { result ≡ is_among name.now foreign_attributes }
 {
     is_one_of(name, &NAMESPACED)
 }

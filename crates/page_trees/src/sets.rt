@@ -3,7 +3,11 @@
 ghost use Rattle.std.specs.Prelude.{◌≡◌};
 ghost use Rattle.page_trees.specs.Foreign.{ends_foreign_name};
 ghost use Rattle.page_trees.specs.Sets.{ends_context, ends_scope, is_a_heading, is_crossed};
-ghost use Rattle.page_trees.specs.Sets.{is_implied, is_special_element, is_special_name_of_html};
+ghost use Rattle.page_trees.specs.Names.{text_of};
+ghost use Rattle.page_trees.specs.Scopes.{is_implied_but};
+ghost use Rattle.page_trees.specs.Sets.{is_implied, is_special_element};
+ghost use Rattle.standard_trees.specs.GrowingTree.{is_among};
+ghost use Rattle.standard_trees.specs.NameLists.{special};
 
 use crate::name::Name;
 use crate::stack::{ElementNamespace, Open};
@@ -92,7 +96,7 @@ pub fn is_special(element: &Open) -> bool
 
 #[rattlefmt::skip]
 fn is_special_name(name: Name) -> bool
-    ensures { result ≡ is_special_name_of_html name }
+    ensures { result ≡ is_among (text_of name) special }
 {
     matches!(
         name,
@@ -141,6 +145,20 @@ pub fn has_implied_end(element: &Open) -> bool
         )
 }
 
+/// Returns whether the element is popped when implied end tags are generated, except for elements
+/// with that name.
+pub fn has_implied_end_but(element: &Open, except: Option<Name>) -> bool
+    ensures { result ≡ is_implied_but except element.now }
+{
+    if !has_implied_end(element) {
+        return false;
+    }
+    match except {
+        Some(name) => !element.is_html(name),
+        None => true,
+    }
+}
+
 /// Returns whether a start tag with that name ends foreign content, whatever its attributes are.
 #[rattlefmt::skip]
 pub fn breaks_out(name: Name) -> bool
@@ -148,12 +166,12 @@ pub fn breaks_out(name: Name) -> bool
 {
     match name {
         Name::B | Name::Big | Name::Blockquote | Name::Body | Name::Br | Name::Center | Name::Code
-        | Name::Dd | Name::Div | Name::Dl | Name::Dt | Name::Em | Name::Embed | Name::H1
-        | Name::H2 | Name::H3 | Name::H4 | Name::H5 | Name::H6 | Name::Head => true,
-        Name::Hr | Name::I | Name::Img | Name::Li | Name::Listing | Name::Menu | Name::Meta
-        | Name::Nobr | Name::Ol | Name::P | Name::Pre | Name::Ruby | Name::S | Name::Small
-        | Name::Span | Name::Strong | Name::Strike | Name::Sub | Name::Sup | Name::Table
-        | Name::Tt | Name::U | Name::Ul | Name::Var => true,
+        | Name::Dd | Name::Div | Name::Dl | Name::Dt | Name::Em | Name::Embed => true,
+        Name::H1 | Name::H2 | Name::H3 | Name::H4 | Name::H5 | Name::H6 | Name::Head | Name::Hr
+        | Name::I | Name::Img | Name::Li | Name::Listing | Name::Menu | Name::Meta => true,
+        Name::Nobr | Name::Ol | Name::P | Name::Pre | Name::Ruby | Name::S | Name::Small
+        | Name::Span | Name::Strong | Name::Strike | Name::Sub | Name::Sup => true,
+        Name::Table | Name::Tt | Name::U | Name::Ul | Name::Var => true,
         _ => false,
     }
 }

@@ -3,14 +3,22 @@
 
 ghost use Rattle.std.specs.Prelude.{◌≡◌, [], ◌∷◌, ◌++◌, Contains, IfNone, IfSome, OnErr, OnOk};
 ghost use Rattle.std.specs.Prelude.{◌+◌, ◌-◌, ◌<◌, ◌≤◌, ◌↔◌, ◌⊎◌, IsTrue, List, drop, false, insert};
-ghost use Rattle.std.specs.Prelude.{length, remove, reverse, slice_get, slice_set, take};
+ghost use Rattle.std.specs.Prelude.{length, not, remove, reverse, slice_get, slice_set, take};
 ghost use Rattle.std.specs.Option.{option_map_or, option_to_list};
 ghost use Rattle.page_trees.specs.Popping.{first_from, up_to_last};
-ghost use Rattle.page_trees.specs.Scopes.{ends_in, has_in_scope, has_name, is_among, is_named};
-ghost use Rattle.page_trees.specs.Scopes.{is_named_like, last_place};
+ghost use Rattle.standard_trees.specs.GrowingTree.{GrowingTree as StandardTree};
+ghost use Rattle.standard_trees.specs.GrowingTree.{beyond, has_in_scope, in_scope, is_foreign};
+ghost use Rattle.standard_trees.specs.GrowingTree.{implied_of, popped_up_to, with_stack};
+ghost use Rattle.standard_trees.specs.NameLists.{implied};
+ghost use Rattle.page_trees.specs.Names.{text_of};
+ghost use Rattle.page_trees.specs.Scopes.{ends_in, has_name, is_among, is_name, is_named};
+ghost use Rattle.page_trees.specs.Scopes.{is_implied_but, is_named_like, last_place};
 ghost use Rattle.page_trees.specs.SearchIndex.{IsIndex, IsIndexed, is_sought};
-ghost use Rattle.page_trees.specs.Sets.{ends_context, ends_scope, has_html_content};
+ghost use Rattle.page_trees.specs.Sets.{context_names, ends_context, ends_scope};
+ghost use Rattle.page_trees.specs.Sets.{has_html_content};
 ghost use Rattle.page_trees.specs.Sets.{is_in_html, is_special_element};
+ghost use Rattle.page_trees.specs.Stands.{IsStackOf, scope_kind, text_list};
+ghost use Rattle.page_trees.specs.declared.name.Name.TheVariants.{Other};
 ghost use Rattle.page_trees.specs.declared.stack.Open.{Open as AnOpen};
 
 mod links;
@@ -19,7 +27,7 @@ mod others;
 
 use crate::fault::PageFault;
 use crate::name::Name;
-use crate::sets::{Scope, TableContext, is_special};
+use crate::sets::{Scope, TableContext, has_implied_end_but, is_special};
 use dom_nodes::node_id::NodeId;
 use marks::{Marks, Sought, key_for, key_of};
 use others::OtherNames;
@@ -211,6 +219,15 @@ impl OpenElements {
 
     /// Returns how many elements stay when the stack is cleared back to a table context.
     pub fn depth_of_context(&self, context: TableContext) -> usize
+        ensures { let all = self.now.elements.items in (tree : StandardTree) →
+            IsStackOf tree all →
+            IsStackOf (popped_up_to (context_names context) tree) (take result all) }
+    {
+        self.up_to_context(context)
+    }
+
+    /// Returns one more than the index of the last element that ends a table context, or 0.
+    fn up_to_context(&self, context: TableContext) -> usize
         ensures { let all = self.now.elements.items in
             take result all ≡ up_to_last (ends_context context) all }
     {
@@ -227,12 +244,46 @@ impl OpenElements {
     /// Returns how many elements stay when foreign content is left: the last of them is the current
     /// node then, and its content is HTML.
     pub fn depth_of_html(&self) -> usize
+        ensures { let all = self.now.elements.items in (tree : StandardTree) →
+            IsStackOf tree all →
+            IsStackOf (with_stack tree (beyond (is_foreign tree) tree.stack)) (take result all) }
+    {
+        self.up_to_html()
+    }
+
+    /// Returns one more than the index of the last element whose content is HTML, or 0.
+    fn up_to_html(&self) -> usize
         ensures { let all = self.now.elements.items in
             take result all ≡ up_to_last has_html_content all }
     {
         let mut rest = self.elements.as_slice();
         while let Some((open, below)) = rest.split_last() {
             if !open.holds_foreign() {
+                return rest.len();
+            }
+            rest = below;
+        }
+        0
+    }
+
+    /// Returns how many elements stay when implied end tags are generated, except for elements with
+    /// that name.
+    pub fn depth_of_implied(&self, except: Option<Name>) -> usize
+        ensures { let all = self.now.elements.items in (tree : StandardTree) →
+            IfSome except (λ name. is_name name Other ≡ false) → IsStackOf tree all →
+            IsStackOf (implied_of implied (text_list except) tree) (take result all) }
+    {
+        self.up_to_explicit(except)
+    }
+
+    /// Returns one more than the index of the last element whose end tag can't be implied, or 0.
+    fn up_to_explicit(&self, except: Option<Name>) -> usize
+        ensures { let all = self.now.elements.items in
+            take result all ≡ up_to_last (λ o. not (is_implied_but except o)) all }
+    {
+        let mut rest = self.elements.as_slice();
+        while let Some((open, below)) = rest.split_last() {
+            if !has_implied_end_but(open, except) {
                 return rest.len();
             }
             rest = below;
@@ -426,8 +477,19 @@ impl OpenElements {
 
     /// Returns whether an HTML element with that name is in scope.
     pub fn in_scope(&self, name: Name, scope: Scope) -> bool
+        ensures rule { let elements = self.now.elements.items in (tree : StandardTree) →
+            is_name name Other ≡ false → IsStackOf tree elements → IsIndexed self.now →
+            result ≡ has_in_scope (scope_kind scope) (text_of name ∷ []) tree }
+        ensures searched { let outwards = reverse self.now.elements.items in IsIndexed self.now →
+            result ≡ in_scope (is_named name) (ends_in scope) outwards }
+    {
+        self.comes_first(name, scope)
+    }
+
+    /// Returns whether an HTML element with that name is open, and none after it ends the scope.
+    fn comes_first(&self, name: Name, scope: Scope) -> bool
         ensures { let outwards = reverse self.now.elements.items in IsIndexed self.now →
-            result ≡ has_in_scope (is_named name) (ends_in scope) outwards }
+            result ≡ in_scope (is_named name) (ends_in scope) outwards }
     {
         let top = self.top(name);
         if top == 0 {

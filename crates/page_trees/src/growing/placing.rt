@@ -1,6 +1,7 @@
 //! The appropriate place for inserting a node (13.2.6.1), with foster parenting.
 
-ghost use Rattle.std.specs.Prelude.{◌≡◌, List, ℕ, reverse, true};
+ghost use Rattle.std.specs.Prelude.{◌≡◌, List, ℕ, false, length, nat_le, reverse, true};
+ghost use Rattle.standard_trees.specs.GrowingTree.{GrowingTree as StandardTree, place};
 ghost use Rattle.dom_links.specs.Sound.{IsOpenGap, children_allowed_at};
 ghost use Rattle.dom_links.specs.Sound.{AtOrBelow, target};
 ghost use Rattle.page_trees.specs.Elements.{AreOpen, IsElement, IsPlace, IsRooted};
@@ -8,6 +9,7 @@ ghost use Rattle.page_trees.specs.Elements.{LiesAt, LiesIn};
 ghost use Rattle.page_trees.specs.Placing.{fosters, foster_place_of, inner, is_a_table};
 ghost use Rattle.page_trees.specs.Placing.{is_a_template, place_above, place_of};
 ghost use Rattle.page_trees.specs.Placing.{place_outside, place_within, point_of};
+ghost use Rattle.page_trees.specs.Stands.{AreNodes, IsStackOf, point_at};
 ghost use Rattle.page_trees.specs.declared.growing.placing.Place.TheVariants.{EndOf as AtEnd};
 ghost use Rattle.page_trees.specs.declared.stack.Open.{Open as AnOpen};
 
@@ -191,16 +193,30 @@ pub fn gap_in(tree: &Tree, elements: &[Open], foster: bool) -> InsertionPoint
     gap_of(tree, place_in(tree, elements, foster))
 }
 
-/// Returns the insertion point for a node. If the elements are nested as deep as is allowed, it is
-/// in the parent of the current node instead.
+/// Returns the insertion point for a node: the appropriate place. If the elements are nested as deep
+/// as is allowed, it is in the parent of the current node instead.
 pub fn gap(tree: &Tree, stack: &OpenElements, placing: Placing) -> InsertionPoint
     requires root { IsRooted tree.now }
     requires stack { AreOpen tree.now stack.now.elements.items }
     ensures open { IsOpenGap result tree.now }
     ensures value { let elements = stack.now.elements.items in
         result ≡ point_of tree.now (place_within tree.now placing elements) }
+    ensures rule { let elements = stack.now.elements.items in (built : StandardTree) →
+        AreNodes built.nodes tree.now → IsStackOf built elements →
+        built.fostering ≡ placing.foster →
+        nat_le placing.max_depth (length elements) ≡ false → result ≡ point_at (place built) }
 {
-    let elements = stack.as_slice();
+    gap_within(tree, stack.as_slice(), placing)
+}
+
+/// Returns the insertion point for a node in the last of these open elements, within the limit on
+/// depth.
+fn gap_within(tree: &Tree, elements: &[Open], placing: Placing) -> InsertionPoint
+    requires root { IsRooted tree.now }
+    requires stack { AreOpen tree.now elements.now }
+    ensures open { IsOpenGap result tree.now }
+    ensures value { result ≡ point_of tree.now (place_within tree.now placing elements.now) }
+{
     let place = place_in(tree, elements, placing.foster);
     if elements.len() >= placing.max_depth {
         return gap_of(tree, place_outside(tree, place));

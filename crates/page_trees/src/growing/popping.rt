@@ -7,7 +7,7 @@ use super::GrowingTree;
 use crate::fault::PageFault;
 use crate::formatting::Entry;
 use crate::name::Name;
-use crate::sets::{Scope, TableContext, has_implied_end};
+use crate::sets::{Scope, TableContext};
 use crate::stack::Open;
 use dom_nodes::node_id::NodeId;
 
@@ -118,13 +118,10 @@ impl GrowingTree {
         self.truncate(count);
     }
 
+    /// Generates implied end tags, except for elements with that name.
     pub fn generate_implied_end_tags(&mut self, except: Option<Name>) {
-        for _ in 0..self.stack.len() {
-            match self.stack.current() {
-                Some(open) if has_implied_end(&open) && Some(open.name) != except => self.pop(),
-                _ => return,
-            }
-        }
+        let count = self.stack.depth_of_implied(except);
+        self.truncate(count);
     }
 
     /// Pops elements up to one of the table context, which stays ("clear the stack back to").

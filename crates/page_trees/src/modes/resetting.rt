@@ -1,8 +1,10 @@
 //! Resetting the insertion mode appropriately (13.2.4.1).
 
-ghost use Rattle.std.specs.Prelude.{◌≡◌};
-ghost use Rattle.page_trees.specs.Modes.{mode_for, mode_in_html, mode_named};
-ghost use Rattle.page_trees.specs.Modes.{mode_of_others, mode_unless};
+ghost use Rattle.std.specs.Prelude.{◌≡◌, None, Some, if◌then◌else◌};
+ghost use Rattle.std.specs.Option.{option_map};
+ghost use Rattle.page_trees.specs.Modes.{mode_of, reset_for, reset_named};
+ghost use Rattle.page_trees.specs.Names.{text_of};
+ghost use Rattle.page_trees.specs.declared.builder.Mode.TheVariants.{AfterHead, BeforeHead};
 
 use crate::builder::{Mode, TreeBuilder};
 use crate::name::Name;
@@ -74,37 +76,41 @@ struct Setting {
 impl Setting {
     /// Returns the mode that an element determines, if any (steps 4 to 15).
     fn mode_for(self, element: &Open) -> Option<Mode>
-        ensures { result ≡ mode_for self element.now }
+        ensures { option_map mode_of result ≡ reset_for self element.now }
     {
-        match element.ns {
+        let mode = match element.ns {
             ElementNamespace::Html => self.mode_named(element.name),
-            _ => self.mode_of_others(),
+            _ => None,
+        };
+        if self.is_last {
+            return Some(mode.unwrap_or(Mode::InBody));
         }
+        mode
     }
 
     /// Returns the mode that an HTML element with that name determines, if any.
     fn mode_named(self, name: Name) -> Option<Mode>
-        ensures { result ≡ mode_named self name }
+        ensures { option_map mode_of result ≡ reset_named self (text_of name) }
     {
         match name {
-            Name::Td | Name::Th => Some(self.unless_last(Mode::InCell)),
+            Name::Td | Name::Th => self.unless_last(Mode::InCell),
             Name::Tr => Some(Mode::InRow),
             Name::Tbody | Name::Thead | Name::Tfoot => Some(Mode::InTableBody),
             Name::Caption => Some(Mode::InCaption),
             Name::Colgroup => Some(Mode::InColumnGroup),
             Name::Table => Some(Mode::InTable),
             Name::Template => Some(self.template_mode),
-            Name::Head => Some(self.unless_last(Mode::InHead)),
+            Name::Head => self.unless_last(Mode::InHead),
             Name::Body => Some(Mode::InBody),
             Name::Frameset => Some(Mode::InFrameset),
             Name::Html => Some(self.html_mode()),
-            _ => self.mode_of_others(),
+            _ => None,
         }
     }
 
     /// Returns the mode for the element `html`.
     fn html_mode(self) -> Mode
-        ensures { result ≡ mode_in_html self.has_head }
+        ensures { result ≡ (if self.has_head then AfterHead else BeforeHead) }
     {
         if self.has_head {
             Mode::AfterHead
@@ -114,20 +120,9 @@ impl Setting {
     }
 
     /// Returns a mode that the outermost element doesn't determine.
-    fn unless_last(self, mode: Mode) -> Mode
-        ensures { result ≡ mode_unless self.is_last mode }
+    fn unless_last(self, mode: Mode) -> Option<Mode>
+        ensures { result ≡ (if self.is_last then None else Some mode) }
     {
-        if self.is_last { Mode::InBody } else { mode }
-    }
-
-    /// Returns the mode for an element of another name.
-    fn mode_of_others(self) -> Option<Mode>
-        ensures { result ≡ mode_of_others self.is_last }
-    {
-        if self.is_last {
-            Some(Mode::InBody)
-        } else {
-            None
-        }
+        if self.is_last { None } else { Some(mode) }
     }
 }

@@ -2,7 +2,7 @@
 
 ghost use Rattle.std.specs.Prelude.{◌≡◌};
 ghost use Rattle.page_trees.specs.Groups.{is_cell_name, is_dropped_end_name, is_part_name};
-ghost use Rattle.page_trees.specs.Sets.{is_section_name};
+ghost use Rattle.page_trees.specs.Groups.{is_section_name};
 
 use super::{Token, is_start, next_if};
 use crate::attributes::is_hidden;

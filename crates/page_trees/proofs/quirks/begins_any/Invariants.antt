@@ -1,7 +1,8 @@
 use Rattle.std.proofs.Common.{◌≡◌, drop, map}
-use Rattle.page_trees.specs.Quirks.{begins_any}
+use Rattle.std.specs.List.{list_any}
+use Rattle.standard_trees.specs.Building.{begins}
 use Rattle.page_trees.proofs.quirks.begins_any.Given as goal
 
 -- what is left decides
 abbrev pub invariant-loop-front : goal.invariant-loop-front
-invariant-loop-front l = begins_any l.text (map (λ known. known.now) (drop l.front-index l.fronts)) ≡ begins_any l.text (map (λ known. known.now) l.fronts)
+invariant-loop-front l = list_any (begins l.text) (map (λ known. known.now) (drop l.front-index l.fronts)) ≡ list_any (begins l.text) (map (λ known. known.now) l.fronts)

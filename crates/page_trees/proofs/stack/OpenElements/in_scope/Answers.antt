@@ -1,17 +1,6 @@
-use Rattle.std.proofs.Common.{arith, sym}
-use Rattle.page_trees.specs.Scopes.{ends_in, is_named}
-use Rattle.page_trees.proofs.ScopeLemmas.{scope_search}
+use Rattle.std.proofs.Common.{◌∙◌}
+use Rattle.page_trees.proofs.StandingNames.{scope_agrees}
 use Rattle.page_trees.proofs.stack.OpenElements.in_scope.Goals as goal
 
-pub returns-then-top-eq0 : goal.returns-then-top-eq0
-returns-then-top-eq0 c is =
-    sym ((scope_search (is_named c.args.name) (ends_in c.args.scope) c.args.self.now.elements.items).missed (λ lt le. omega (arith, lt, c.top-top.ensures is, c.if-top-eq0.true)))
-
-pub returns-then-top-scope_end : goal.returns-then-top-scope_end
-returns-then-top-scope_end c is =
-    sym ((scope_search (is_named c.args.name) (ends_in c.args.scope) c.args.self.now.elements.items).missed (λ lt le. omega (arith, le, c.top-top.ensures is, c.scope_end.ensures is, c.if-top-scope_end.true)))
-
-pub returns : goal.returns
-returns c is =
-    sym ((scope_search (is_named c.args.name) (ends_in c.args.scope) c.args.self.now.elements.items).found
-    (omega (arith, c.top-top.ensures is, c.if-top-eq0.false)) (omega (arith, c.top-top.ensures is, c.scope_end.ensures is, c.if-top-scope_end.false)))
+pub returns-clause-rule : goal.returns-clause-rule
+returns-clause-rule c tree known s is = c.comes_first.ensures is ∙ scope_agrees c.args.name known c.args.scope tree c.args.self.now.elements.items s
