@@ -1,12 +1,8 @@
 -- The decoder of Big5, as in the Encoding Standard.
-use Rattle.std.specs.Prelude.{ℕ, ◌+◌, ◌-◌, ◌*◌, List, [], ◌∷◌, ◌++◌, Bool, nat_lt, nat_le, ◌==◌, ◌||◌, ◌&&◌, slice_index, if◌then◌else◌, Option, Some, None}
-use lib.Utf8.{scalar}
-
--- the character of a pointer in the index, where 0 stands for none
-unfoldable pub character_at : List ℕ → ℕ → Option ℕ
-character_at index pointer =
-    let code = slice_index index pointer in
-    if code == 0 then None else (if scalar code then Some code else None)
+use Rattle.std.specs.Prelude.{ℕ, ◌+◌, ◌-◌, ◌*◌, List, [], ◌∷◌, ◌++◌, Bool, nat_lt, nat_le, ◌==◌, ◌||◌, ◌&&◌, if◌then◌else◌, Option, Some}
+use Rattle.std.specs.Prelude.{None}
+use Rattle.decoded_text.specs.Indexes.{character_at}
+use Rattle.big5.specs.declared.decoding.Marked.{Marked}
 
 -- the first byte of two
 abbrev pub is_lead : ℕ → Bool
@@ -23,7 +19,7 @@ pointer_of lead trail = (lead - 0x81) * 157 + (trail - (if nat_lt trail 0x7F the
 abbrev pub of_two : List ℕ → ℕ → ℕ → Option ℕ
 of_two index lead trail = if is_trail trail then character_at index (pointer_of lead trail) else None
 
--- the mark that stands behind the letter at four pointers: a macron or a caron
+-- the mark that stands after the letter at four pointers: a macron or a caron
 abbrev pub mark_at : ℕ → Option ℕ
 mark_at pointer =
     if pointer == 1133 || pointer == 1164 then Some 0x0304
@@ -36,6 +32,10 @@ mark_of lead trail = if is_trail trail then mark_at (pointer_of lead trail) else
 abbrev pub marked : Option ℕ → Option ℕ → List (Option ℕ)
 marked character None = character ∷ []
 marked character (Some mark) = character ∷ Some mark ∷ []
+
+-- a character without a mark
+abbrev pub unmarked : Option ℕ → Marked
+unmarked character = record { character = character; mark = None }
 
 -- two bytes give their character. Where they have none, an error takes both bytes, but leaves a
 -- trail byte that is ASCII
@@ -52,5 +52,6 @@ unfoldable pub characters : List ℕ → List ℕ → List (Option ℕ)
 characters index [] = []
 characters index (lead ∷ []) = (if is_lead lead then None else alone lead) ∷ []
 characters index (lead ∷ trail ∷ rest) =
-    if is_lead lead then after_two (of_two index lead trail) (mark_of lead trail) trail (characters index (trail ∷ rest)) (characters index rest)
+    if is_lead lead
+    then after_two (of_two index lead trail) (mark_of lead trail) trail (characters index (trail ∷ rest)) (characters index rest)
     else alone lead ∷ characters index (trail ∷ rest)

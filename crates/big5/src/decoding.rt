@@ -1,62 +1,31 @@
 //! The decoder.
 
 ghost use Rattle.std.specs.Prelude.{◌≡◌, ◌<◌, ◌≤◌, [], ◌∷◌, false, ◌++◌, IfNone, IfOk, IfSome, IsTrue, List, OnOk, length, ℕ};
-ghost use Rattle.decoded_text.specs.Characters.{Appends, Continues, IsCounted};
-ghost use Rattle.big5.specs.Decoding.{alone, characters, character_at, is_lead, is_trail, mark_at, mark_of, marked, of_two, pointer_of};
+ghost use Rattle.decoded_text.specs.Characters.{Appends, IsCounted};
+ghost use Rattle.decoded_text.specs.Indexes.{character_at};
+ghost use Rattle.big5.specs.Decoding.{alone, characters, is_lead, is_trail, mark_at, mark_of, marked, of_two, pointer_of, unmarked};
 
 use crate::table::BIG5;
-use decoded_text::{Decoded, ascii_front};
+use decoded_text::{Decoded, Found, MultiByte, character_of};
 use std::alloc::AllocError;
 
-/// The first character of a text, and what follows it.
+/// A character, or `None` for an error, and the combining mark after it.
 #[derive(Clone, Copy, Drop)]
-pub(crate) struct Step<'a> {
+pub struct Marked {
     character: Option<char>,
-    /// A combining mark after the character.
     mark: Option<char>,
-    /// The bytes after it.
-    rest: &'a [u8],
 }
 
-/// Appends the characters of the bytes, and returns the bytes that aren't decoded yet: at most one,
-/// the beginning of a character that the next bytes continue. If `is_last` is true, all bytes are
-/// decoded.
-///
-/// # Errors
-///
-/// Fails with `AllocError` if memory runs out.
-pub fn decode_into<'b>(
-    out: &mut Decoded,
-    bytes: &'b [u8],
-    is_last: bool,
-) -> Result<&'b [u8], AllocError>
-    requires { IsCounted out.old }
-    ensures continues { (more : List ℕ) → (IsTrue is_last → more ≡ []) → IfOk result (λ rest.
-        Continues out.old (characters BIG5 (bytes.now ++ more))
-        out.new (characters BIG5 (rest.now ++ more))) }
-    ensures few { IfOk result (λ rest. length rest.now < 2) }
-    ensures all { IsTrue is_last → IfOk result (λ rest. rest.now ≡ []) }
-    ensures counted { IsCounted out.new }
-{
-    let mut rest = bytes;
-    while let Some(step) = next(rest, is_last) {
-        push(out, step.character, step.mark)?;
-        let (ascii, others) = ascii_front(step.rest);
-        out.push_ascii(ascii)?;
-        rest = others;
-    }
-    Ok(rest)
-}
+impl Found for Marked {
+    ghost use Rattle.big5.specs.Decoding.{marked};
 
-/// Appends a character and its mark.
-fn push(out: &mut Decoded, character: Option<char>, mark: Option<char>) -> Result<(), AllocError>
-    requires { IsCounted out.old }
-    ensures appends { OnOk result (Appends out.old out.new (marked character mark)) }
-    ensures counted { IsCounted out.new }
-{
-    match mark {
-        Some(mark) => push_both(out, character, mark),
-        None => out.push(character),
+    ghost items = { λ found. marked found.character found.mark };
+
+    fn push_to(self, out: &mut Decoded) -> Result<(), AllocError> {
+        match self.mark {
+            Some(mark) => push_both(out, self.character, mark),
+            None => out.push(self.character),
+        }
     }
 }
 
@@ -71,63 +40,68 @@ fn push_both(out: &mut Decoded, character: Option<char>, mark: char) -> Result<(
     Ok(())
 }
 
-/// Returns the first character and the bytes after it; `None` if it is incomplete.
-fn next(bytes: &[u8], is_last: bool) -> Option<Step<'_>>
-    ensures none { IfNone result (length bytes.now < 2) }
-    ensures last { IsTrue is_last → IfNone result (bytes.now ≡ []) }
-    ensures some { (more : List ℕ) → (IsTrue is_last → more ≡ []) → IfSome result (λ step.
-        characters BIG5 (bytes.now ++ more)
-        ≡ marked step.character step.mark ++ characters BIG5 (step.rest.now ++ more)) }
-    ensures less { IfSome result (λ step. length step.rest.now < length bytes.now) }
-{
-    let (lead, behind) = bytes.split_first()?;
-    if is_lead(*lead) {
-        return pair(*lead, behind, is_last);
+/// Big5.
+pub struct Big5;
+
+impl MultiByte for Big5 {
+    ghost use Rattle.std.specs.Prelude.{List, ℕ};
+    ghost use Rattle.big5.specs.Decoding.{characters};
+    ghost use Rattle.big5.specs.declared.table.TheConstants.{BIG5};
+
+    type Found = Marked;
+
+    ghost characters = { characters BIG5 };
+
+    ghost longest = { 2 };
+
+    fn next(bytes: &[u8], is_last: bool) -> Option<(Marked, &[u8])> {
+        let (lead, after) = bytes.split_first()?;
+        if is_lead(*lead) {
+            return pair(*lead, after, is_last);
+        }
+        Some((unmarked(alone(*lead)), after))
     }
-    Some(Step {
-        character: alone(*lead),
-        mark: None,
-        rest: behind,
-    })
+
+    fn ascii_is_itself() {}
 }
 
 /// Returns the character of two bytes, of which the first was read, and the bytes after it.
-fn pair(lead: u8, behind: &[u8], is_last: bool) -> Option<Step<'_>>
+fn pair(lead: u8, after: &[u8], is_last: bool) -> Option<(Marked, &[u8])>
     requires { IsTrue (is_lead lead) }
-    ensures none { IfNone result (behind.now ≡ []) }
+    ensures none { IfNone result (after.now ≡ []) }
     ensures last { IfNone result (is_last ≡ false) }
-    ensures some { (more : List ℕ) → (IsTrue is_last → more ≡ []) → IfSome result (λ step.
-        characters BIG5 (lead ∷ (behind.now ++ more))
-        ≡ marked step.character step.mark ++ characters BIG5 (step.rest.now ++ more)) }
-    ensures less { IfSome result (λ step. length step.rest.now ≤ length behind.now) }
+    ensures some { (more : List ℕ) → (IsTrue is_last → more ≡ []) → IfSome result (λ next.
+        characters BIG5 (lead ∷ (after.now ++ more))
+        ≡ marked next.0.character next.0.mark ++ characters BIG5 (next.1.now ++ more)) }
+    ensures less { IfSome result (λ next. length next.1.now ≤ length after.now) }
 {
-    let Some((trail, others)) = behind.split_first() else {
+    let Some((trail, others)) = after.split_first() else {
         return if is_last {
-            Some(Step {
-                character: None,
-                mark: None,
-                rest: behind,
-            })
+            Some((unmarked(None), after))
         } else {
             None
         };
     };
     match of_two(lead, *trail) {
-        Some(character) => Some(Step {
-            character: Some(character),
-            mark: mark_of(lead, *trail),
-            rest: others,
-        }),
-        None if *trail < 128 => Some(Step {
-            character: None,
-            mark: None,
-            rest: behind,
-        }),
-        None => Some(Step {
-            character: None,
-            mark: None,
-            rest: others,
-        }),
+        Some(character) => Some((
+            Marked {
+                character: Some(character),
+                mark: mark_of(lead, *trail),
+            },
+            others,
+        )),
+        None if *trail < 128 => Some((unmarked(None), after)),
+        None => Some((unmarked(None), others)),
+    }
+}
+
+/// Returns a character without a mark.
+fn unmarked(character: Option<char>) -> Marked
+    ensures { result ≡ unmarked character }
+{
+    Marked {
+        character,
+        mark: None,
     }
 }
 
@@ -167,7 +141,7 @@ fn of_two(lead: u8, trail: u8) -> Option<char>
     None
 }
 
-/// Returns the mark behind the letter of two bytes.
+/// Returns the mark after the letter of two bytes.
 fn mark_of(lead: u8, trail: u8) -> Option<char>
     requires { IsTrue (is_lead lead) }
     ensures { result ≡ mark_of lead trail }
@@ -200,12 +174,12 @@ fn mark_at(pointer: usize) -> Option<char>
 }
 
 /// Returns the character of a pointer.
-#[tactic(auto, unfolding(crate::specs::Decoding::character_at))]
+#[tactic(auto, unfolding(decoded_text::specs::Indexes::character_at, decoded_text::specs::Indexes::character_of))]
 fn character_at(index: &[u32], pointer: usize) -> Option<char>
     ensures { result ≡ character_at index.now pointer }
 {
-    if pointer >= index.len() || index[pointer] == 0 {
+    if pointer >= index.len() {
         return None;
     }
-    char::from_u32(index[pointer])
+    character_of(index[pointer])
 }

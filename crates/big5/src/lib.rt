@@ -5,4 +5,4 @@
 mod decoding;
 mod table;
 
-pub use decoding::decode_into;
+pub use decoding::Big5;

@@ -89,7 +89,8 @@ impl State {
     }
 }
 
-/// What is known of a page's encoding by the label that came with it; nothing if the label is empty.
+/// What is known of a page's encoding by the label that came with it; nothing if the label is
+/// empty.
 pub(crate) fn charset_of(label: &[u8]) -> Result<Charset, Fault>
     ensures fallback { IfOk result (λ charset. charset.fallback ≡ Guess) }
     ensures transport { IfOk result (λ charset. IsTransport label.now charset.transport) }

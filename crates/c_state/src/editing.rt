@@ -16,8 +16,9 @@ use dom_query::prelude::*;
 use dom_query::{Allow, Snippet, sanitize};
 
 impl State {
-    /// Gives the element's first attribute of that local name the value, or adds one. Refused as `Kind`
-    /// for another node, and as `Name` where the tokenizer couldn't read the name as one of an attribute.
+    /// Gives the element's first attribute of that local name the value, or adds one. Refused as
+    /// `Kind` for another node, and as `Name` where the tokenizer couldn't read the name as one of
+    /// an attribute.
     pub fn set_attr(&mut self, node: u32, name: &[u8], value: &[u8]) -> Result<usize, Fault>
         ensures { ChangesTree result self.old self.new
             (λ old new. (new ≡ attr_set node name.now value.now old)
@@ -31,7 +32,8 @@ impl State {
         Ok(0)
     }
 
-    /// Removes every attribute of that local name. Refused as `Kind` for a node that isn't an element.
+    /// Removes every attribute of that local name. Refused as `Kind` for a node that isn't an
+    /// element.
     pub fn remove_attr(&mut self, node: u32, name: &[u8]) -> Result<usize, Fault>
         ensures { ChangesTree result self.old self.new
             (λ old new. new ≡ attr_removed node name.now old) }
@@ -43,8 +45,8 @@ impl State {
         Ok(0)
     }
 
-    /// Changes the local name of an element. Refused as `Kind` for another node, and as `Name` where the
-    /// tokenizer couldn't read the name as one of an element.
+    /// Changes the local name of an element. Refused as `Kind` for another node, and as `Name`
+    /// where the tokenizer couldn't read the name as one of an element.
     pub fn rename(&mut self, node: u32, name: &[u8]) -> Result<usize, Fault>
         ensures { ChangesTree result self.old self.new
             (λ old new. (new ≡ element_renamed node name.now old)
@@ -57,8 +59,8 @@ impl State {
         Ok(0)
     }
 
-    /// Puts one text in the place of an element's children, or of a text's contents. Refused as `Kind` for
-    /// another node.
+    /// Puts one text in the place of an element's children, or of a text's contents. Refused as
+    /// `Kind` for another node.
     pub fn set_text(&mut self, node: u32, text: &[u8]) -> Result<usize, Fault>
         ensures { EditsTree result self.old self.new (setting_text node text.now) }
     {

@@ -1,6 +1,6 @@
 //! The state behind a document's handle: the document, and what was asked of it last; and the state
-//! behind the handle of a policy. Every answer is a number, and lists and texts are written into the
-//! caller's room as far as they fit.
+//! behind the handle of a policy. Every answer is a number, and lists and texts are written into
+//! the caller's room as far as they fit.
 #![tactic(auto)]
 
 mod bytes;

@@ -1,5 +1,5 @@
-//! Names that nodes and attributes may get: those that the tokenizer of the HTML Standard can read, so
-//! that what is written is read as it was.
+//! Names that nodes and attributes may get: those that the tokenizer of the HTML Standard can read,
+//! so that what is written is read as it was.
 
 ghost use Rattle.std.specs.Prelude.{◌≡◌, IfOk, true};
 ghost use Rattle.std.specs.List.{list_all};
@@ -10,9 +10,9 @@ ghost use Rattle.c_state.specs.Names.{is_letter};
 use crate::bytes::as_text;
 use crate::fault::Fault;
 
-/// The bytes as the name of an element. Refused as `NotUtf8`, and as `Name` where the tokenizer can't
-/// read it as one: it begins with a letter of ASCII, and has no ASCII whitespace, no U+0000, no `/`
-/// and no `>`.
+/// The bytes as the name of an element. Refused as `NotUtf8`, and as `Name` where the tokenizer
+/// can't read it as one: it begins with a letter of ASCII, and has no ASCII whitespace, no U+0000,
+/// no `/` and no `>`.
 pub fn element_name(bytes: &[u8]) -> Result<&str, Fault>
     ensures text { IfOk result (λ name. name.now ≡ bytes.now) }
     ensures readable { IfOk result (λ _. is_element_name bytes.now ≡ true) }
@@ -25,8 +25,9 @@ pub fn element_name(bytes: &[u8]) -> Result<&str, Fault>
     }
 }
 
-/// The bytes as the name of an attribute. Refused as `NotUtf8`, and as `Name` where the tokenizer can't
-/// read it as one: it isn't empty, and has no ASCII whitespace, no U+0000, no `/`, no `>` and no `=`.
+/// The bytes as the name of an attribute. Refused as `NotUtf8`, and as `Name` where the tokenizer
+/// can't read it as one: it isn't empty, and has no ASCII whitespace, no U+0000, no `/`, no `>` and
+/// no `=`.
 pub fn attribute_name(bytes: &[u8]) -> Result<&str, Fault>
     ensures text { IfOk result (λ name. name.now ≡ bytes.now) }
     ensures readable { IfOk result (λ _. is_attribute_name bytes.now ≡ true) }

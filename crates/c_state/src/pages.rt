@@ -17,8 +17,8 @@ pub struct Reader {
 
 impl Reader {
     /// A reader of a page in any encoding, as `PageByteParser` reads it. The label is that of the
-    /// transport's encoding; an empty one says nothing. Refused as `UnknownLabel` where no encoding has
-    /// that label. Elements nest as deep as `max_depth` says; 0 is no limit.
+    /// transport's encoding; an empty one says nothing. Refused as `UnknownLabel` where no encoding
+    /// has that label. Elements nest as deep as `max_depth` says; 0 is no limit.
     pub fn new(alloc: Global, label: &[u8], max_depth: usize) -> Result<Reader, Fault> {
         let charset = charset_of(label)?;
         let parser = PageByteParser::new(alloc, charset, options_of(max_depth))?;

@@ -102,8 +102,8 @@ impl PolicyState {
         self.put_rules(with_attribute_of(rules, element, name))
     }
 
-    /// Takes back what the rules say of that attribute of elements of that name, whatever its values
-    /// are.
+    /// Takes back what the rules say of that attribute of elements of that name, whatever its
+    /// values are.
     pub fn disallow_attribute_of(&mut self, element: &[u8], name: &[u8]) -> Result<usize, Fault>
         ensures { ChangesRules result self.old self.new
             (λ old new. new ≡ without_attribute_of element.now name.now old) }

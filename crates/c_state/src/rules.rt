@@ -1,5 +1,5 @@
-//! Rules of a policy, by their numbers. Each function takes rules that may be missing, and gives the
-//! fault that says why they are.
+//! Rules of a policy, by their numbers. Each function takes rules that may be missing, and gives
+//! the fault that says why they are.
 
 ghost use Rattle.std.specs.Prelude.{◌≡◌, None, OnOk, Some};
 ghost use Rattle.dom_clean.specs.Policy.{own_attribute};
@@ -120,8 +120,8 @@ pub fn with_base(alloc: Global, rules: Result<Rules, Fault>, base: &[u8]) -> Res
 
 /// The rules with a setting: how many elements may be nested (0), whether attributes whose names
 /// begin with `data-` are allowed (1), whether addresses without a scheme are kept or else dropped
-/// (2), and links without a `rel` of the policy (3), for which the number doesn't matter. Refused as
-/// `Argument` for any other setting.
+/// (2), and links without a `rel` of the policy (3), for which the number doesn't matter. Refused
+/// as `Argument` for any other setting.
 pub fn with_setting(
     rules: Result<Rules, Fault>,
     setting: u32,

@@ -15,8 +15,8 @@ use dom_query::prelude::*;
 use dom_query::{Context, Options, parse_page_bytes, parse_page_fragment};
 use std::alloc::Global;
 
-/// A document, how its bytes were decoded if `parse_bytes` read it, and what the last questions found:
-/// nodes, a text, and the lengths of the pieces that the text is made of.
+/// A document, how its bytes were decoded if `parse_bytes` read it, and what the last questions
+/// found: nodes, a text, and the lengths of the pieces that the text is made of.
 #[derive(Drop)]
 pub struct State {
     pub document: Document,

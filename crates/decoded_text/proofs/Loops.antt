@@ -1,5 +1,5 @@
 -- Loops that write characters, and then the ASCII characters behind them.
-use Rattle.std.proofs.Common.{◌≡◌, ℕ, List, [], ◌∷◌, ◌++◌, map, ap, ◌∙◌, append_assoc, Option, Some}
+use Rattle.std.proofs.Common.{◌≡◌, ℕ, suc, ◌<◌, refl, List, [], ◌∷◌, ◌++◌, map, ap, ◌∙◌, append_assoc, Option, Some}
 use Rattle.std.specs.Str.{IsAscii}
 use Rattle.decoded_text.specs.declared.decoded.Decoded.{Decoded}
 use Rattle.decoded_text.specs.Characters.{Appends, Continues}
@@ -15,9 +15,8 @@ loop_items chars runs old mid between new before rest behind ascii others more i
     (continues-more old mid between before (chars (rest ++ more)) (chars (behind ++ more)) items so_far is one)
     (ap chars cut ∙ runs ascii (others ++ more) h) run
 
-pub loop_step : (chars : List ℕ → List (Option ℕ)) → ((front all : List ℕ) → IsAscii front → chars (front ++ all) ≡ map Some front ++ chars all) →
-    (old mid between new : Decoded) (before : List (Option ℕ)) (rest behind ascii others more : List ℕ) (c : Option ℕ) →
-    Continues old before mid (chars (rest ++ more)) → chars (rest ++ more) ≡ c ∷ chars (behind ++ more) → Appends mid between (c ∷ []) →
-    behind ≡ ascii ++ others → IsAscii ascii → Appends between new (map Some ascii) → Continues old before new (chars (others ++ more))
-loop_step chars runs old mid between new before rest behind ascii others more c so_far is one parts h run =
-    loop_items chars runs old mid between new before rest behind ascii others more (c ∷ []) so_far is one parts h run
+-- where a byte of ASCII is its character, a run of ASCII is its text
+pub ascii_runs : (chars : List ℕ → List (Option ℕ)) → ((b : ℕ) (all : List ℕ) → b < 128 → chars (b ∷ all) ≡ Some b ∷ chars all) →
+    (front all : List ℕ) → IsAscii front → chars (front ++ all) ≡ map Some front ++ chars all
+ascii_runs chars one [] all h = refl
+ascii_runs chars one (b ∷ bs) all h = one b (bs ++ all) (h 0) ∙ ap (λ r. Some b ∷ r) (ascii_runs chars one bs all (λ i. h (suc i)))

@@ -1,5 +1,5 @@
 -- Texts of lists of characters.
-use Rattle.std.proofs.Common.{◌≡◌, ℕ, suc, ◌<◌, ◌+◌, List, [], ◌∷◌, ◌++◌, map, length, refl, sym, ap, ap₂, ◌∙◌, append_assoc, append-nil, arith, add-zero, zero-add, Option, Some, None}
+use Rattle.std.proofs.Common.{◌≡◌, ℕ, ◌+◌, List, [], ◌∷◌, ◌++◌, map, refl, sym, ap, ◌∙◌, append_assoc, append-nil, arith, add-zero, zero-add, Option, Some, None}
 use Rattle.std.proofs.lemmas.Str.{encodes-append, encodes-chars, encodes-IsAscii}
 use Rattle.std.specs.Prelude.{string_bytes, unwrap_or, encode_utf8_all}
 use Rattle.std.specs.Str.{IsAscii, IsUtf8, chars}

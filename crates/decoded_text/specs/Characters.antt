@@ -1,5 +1,5 @@
 -- What decoders give: characters, and errors.
-use Rattle.std.specs.Prelude.{◌≡◌, ℕ, suc, ◌+◌, ◌≤◌, List, [], ◌∷◌, ◌++◌, map, Option, Some, None, unwrap_or, string_bytes, string_len, encode_utf8_all}
+use Rattle.std.specs.Prelude.{◌≡◌, ℕ, suc, ◌+◌, ◌≤◌, nat_lt, if◌then◌else◌, List, [], ◌∷◌, ◌++◌, map, Option, Some, None, unwrap_or, string_bytes, string_len, encode_utf8_all}
 use Rattle.decoded_text.specs.declared.decoded.Decoded.{Decoded}
 
 -- A decoder gives a list: each character of the text, and None for each error, which is to say
@@ -33,3 +33,9 @@ IsCounted decoded = decoded.replaced ≤ string_len decoded.text
 pub record Continues (old : Decoded) (before : List (Option ℕ)) (new : Decoded) (after : List (Option ℕ)) : Type 0 where
   pub text : string_bytes new.text ++ text_of after ≡ string_bytes old.text ++ text_of before
   pub replaced : new.replaced + errors_in after ≡ old.replaced + errors_in before
+
+-- Bytes give their character. Where they have none, an error takes them all, but leaves a last byte that is ASCII: what
+-- follows is decoded from the last byte on, or else after it.
+abbrev pub character_or_error : Option ℕ → ℕ → List (Option ℕ) → List (Option ℕ) → List (Option ℕ)
+character_or_error (Some character) last from_last after_last = Some character ∷ after_last
+character_or_error None last from_last after_last = if nat_lt last 128 then None ∷ from_last else None ∷ after_last

@@ -4,6 +4,10 @@
 
 mod ascii;
 mod decoded;
+mod index;
+mod multi_byte;
 
 pub use ascii::ascii_front;
 pub use decoded::Decoded;
+pub use index::{character_at, character_of};
+pub use multi_byte::{Found, MultiByte, character_or_error, decode_into};

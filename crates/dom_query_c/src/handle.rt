@@ -12,7 +12,8 @@ use c_state::{Fault, State};
 use std::alloc::Global;
 use std::mem;
 
-/// A document, or none; and the byte at which the last fault of markup was met. All bytes 0 is a handle with no document.
+/// A document, or none; and the byte at which the last fault of markup was met. All bytes 0 is a
+/// handle with no document.
 #[repr(C)]
 #[derive(Drop)]
 pub struct Handle {

@@ -1,5 +1,5 @@
-//! HTML documents, policies and readers behind handles. `c/dom_query.c` calls these functions, and gives C
-//! what `include/dom_query.h` describes.
+//! HTML documents, policies and readers behind handles. `c/dom_query.c` calls these functions, and
+//! gives C what `include/dom_query.h` describes.
 #![tactic(auto)]
 
 ghost use Rattle.std.specs.Prelude.{◌≡◌, ◌∷◌, [], IfOk, MatchOption, None, Some};
@@ -243,7 +243,8 @@ pub extern "C" fn dq_proved_select_attrs(
     ask!(alloc, handle, state => state.select_attrs(root, selectors, name))
 }
 
-/// The nodes that were found last: how many there are.
+/// Writes the ids of the nodes that were found last to `to`, as far as they fit, and returns how
+/// many there are.
 #[unsafe(no_mangle)]
 pub extern "C" fn dq_proved_found(alloc: Global, handle: &mut Handle, to: &mut [u32]) -> i64
     ensures { Asks handle.old.slot.state handle.new.slot.state result
@@ -252,7 +253,7 @@ pub extern "C" fn dq_proved_found(alloc: Global, handle: &mut Handle, to: &mut [
     ask!(alloc, handle, state => Ok(state.write_ids(to)))
 }
 
-/// The text that was taken last: its length.
+/// Writes the text that was taken last to `to`, as far as it fits, and returns its length in bytes.
 #[unsafe(no_mangle)]
 pub extern "C" fn dq_proved_taken(alloc: Global, handle: &mut Handle, to: &mut [u8]) -> i64
     ensures { Asks handle.old.slot.state handle.new.slot.state result
@@ -261,7 +262,9 @@ pub extern "C" fn dq_proved_taken(alloc: Global, handle: &mut Handle, to: &mut [
     ask!(alloc, handle, state => Ok(state.write_text(to)))
 }
 
-/// The lengths of the pieces of the text that was taken last: how many there are.
+/// Writes the lengths in bytes of the pieces of which the text that was taken last consists, such
+/// as the names and values of attributes, to `to`, as far as they fit, and returns how many pieces
+/// there are.
 #[unsafe(no_mangle)]
 pub extern "C" fn dq_proved_lengths(alloc: Global, handle: &mut Handle, to: &mut [u32]) -> i64
     ensures { Asks handle.old.slot.state handle.new.slot.state result

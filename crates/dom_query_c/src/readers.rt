@@ -34,8 +34,8 @@ pub extern "C" fn dq_proved_reader_feed(
     ask!(alloc, handle, reader => reader.feed(piece))
 }
 
-/// Puts the page, all of whose bytes have come, into the handle of a document, in place of what it held.
-/// The reader's handle is then empty.
+/// Puts the page, all of whose bytes have come, into the handle of a document, in place of what it
+/// held. The reader's handle is then empty.
 #[unsafe(no_mangle)]
 pub extern "C" fn dq_proved_reader_end(
     alloc: Global,

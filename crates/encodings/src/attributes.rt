@@ -236,7 +236,7 @@ pub fn label_in_content(content: &[u8]) -> Option<&[u8]>
     None
 }
 
-/// Returns the bytes behind `charset`, white space and an equals sign, if they start with these.
+/// Returns the bytes after `charset`, white space and an equals sign, if they start with these.
 fn behind_charset(bytes: &[u8]) -> Option<&[u8]>
     ensures { option_copied result ≡ behind_charset bytes.now }
 {
@@ -246,7 +246,7 @@ fn behind_charset(bytes: &[u8]) -> Option<&[u8]>
     behind_equals(Run::Spaces.skip(behind(7, bytes)))
 }
 
-/// Returns the bytes behind the equals sign that they start with.
+/// Returns the bytes after the equals sign that they start with.
 fn behind_equals(bytes: &[u8]) -> Option<&[u8]>
     ensures { option_copied result ≡ behind_equals bytes.now }
 {

@@ -8,7 +8,7 @@ ghost use Rattle.encodings.specs.Labels.{encoding_of, of_markup};
 ghost use Rattle.encodings.specs.Prescan.{declared_encoding, looked_at, prescan};
 ghost use Rattle.encodings.specs.declared.encoding.Encoding.{Encoding};
 
-/// Nothing behind the first 1,024 bytes of a page declares its encoding.
+/// Nothing after the first 1,024 bytes of a page declares its encoding.
 pub fn only_the_front_is_looked_at()
     ensures { (bytes more : List ℕ) → looked_at ≤ length bytes
         → declared_encoding (bytes ++ more) ≡ declared_encoding bytes }

@@ -16,7 +16,7 @@ pub(crate) enum Run {
     SpacesAndSlashes,
     /// White space and control characters.
     Blanks,
-    /// What the name of an attribute has behind its first byte.
+    /// What the name of an attribute has after its first byte.
     Name,
     /// What the name of a tag and a value without quotes have.
     Value,
@@ -70,7 +70,7 @@ fn is_space_or_slash(byte: u8) -> bool
     byte.is_ascii_whitespace() || byte == b'/'
 }
 
-/// Returns the bytes before a byte and those behind it, if it is there.
+/// Returns the bytes before a byte and those after it, if it is there.
 pub(crate) fn cut_at(byte: u8, bytes: &[u8]) -> Option<(&[u8], &[u8])>
     ensures { option_map (λ cut. (cut.0.now, cut.1.now)) result ≡ cut_at byte bytes.now }
 {
@@ -81,7 +81,7 @@ pub(crate) fn cut_at(byte: u8, bytes: &[u8]) -> Option<(&[u8], &[u8])>
     }
 }
 
-/// Returns what stands in the quotes that the bytes begin with, and the bytes behind these.
+/// Returns what stands in the quotes that the bytes begin with, and the bytes after these.
 pub(crate) fn in_quotes(bytes: &[u8]) -> Option<(&[u8], &[u8])>
     ensures { option_map (λ cut. (cut.0.now, cut.1.now)) result ≡ in_quotes bytes.now }
 {

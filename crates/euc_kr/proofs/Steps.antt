@@ -1,17 +1,17 @@
 -- What the first byte of a text gives, whatever follows.
-use Rattle.std.proofs.Common.{◌≡◌, ℕ, List, [], ◌∷◌, ◌++◌, Bool, true, false, refl, sym, ap, ap₂, ◌∙◌, subst, nat_lt, ◌<◌, ◌≤◌, map, zero, suc, length, arith, Option, Some, None}
+use Rattle.std.proofs.Common.{◌≡◌, ℕ, List, [], ◌∷◌, ◌++◌, true, false, refl, sym, ap, ap₂, ◌∙◌, ◌<◌, length, arith, Option, Some, None}
 use Rattle.std.proofs.lemmas.Bool.Decides.{nat_tests}
-use Rattle.std.specs.Str.{IsAscii}
-use Rattle.euc_kr.specs.Decoding.{after_two, alone, characters, is_lead, of_two}
+use Rattle.decoded_text.specs.Characters.{character_or_error}
+use Rattle.euc_kr.specs.Decoding.{alone, characters, is_lead, of_two}
 
 one : (index : List ℕ) (lead : ℕ) (all : List ℕ) → is_lead lead ≡ false → characters index (lead ∷ all) ≡ alone lead ∷ characters index all
 unfolding characters
 one index lead [] h = rw h refl
 one index lead (trail ∷ rest) h = rw h refl
 
-pub step_one : (index bytes behind more : List ℕ) (lead : ℕ) (c : Option ℕ) → bytes ≡ lead ∷ behind → is_lead lead ≡ false → c ≡ alone lead → characters index (bytes ++ more) ≡ c ∷ characters index (behind ++ more)
-step_one index bytes behind more lead c is h k =
-    ap (λ b. characters index (b ++ more)) is ∙ one index lead (behind ++ more) h ∙ ap (λ a. a ∷ characters index (behind ++ more)) (sym k)
+pub step_one : (index bytes after more : List ℕ) (lead : ℕ) (c : Option ℕ) → bytes ≡ lead ∷ after → is_lead lead ≡ false → c ≡ alone lead → characters index (bytes ++ more) ≡ c ∷ characters index (after ++ more)
+step_one index bytes after more lead c is h k =
+    ap (λ b. characters index (b ++ more)) is ∙ one index lead (after ++ more) h ∙ ap (λ a. a ∷ characters index (after ++ more)) (sym k)
 
 no_lead : (b : ℕ) → b < 128 → is_lead b ≡ false
 no_lead b h = grind (arith, nat_tests)
@@ -19,37 +19,22 @@ no_lead b h = grind (arith, nat_tests)
 itself : (b : ℕ) → b < 128 → alone b ≡ Some b
 itself b h = grind (arith, nat_tests)
 
-pub runs : (index front all : List ℕ) → IsAscii front → characters index (front ++ all) ≡ map Some front ++ characters index all
-runs index [] all h = refl
-runs index (b ∷ bs) all h = one index b (bs ++ all) (no_lead b (h 0)) ∙ ap₂ (λ c r. c ∷ r) (itself b (h 0)) (runs index bs all (λ i. h (suc i)))
+pub ascii : (index : List ℕ) (b : ℕ) (all : List ℕ) → b < 128 → characters index (b ∷ all) ≡ Some b ∷ characters index all
+ascii index b all h = one index b all (no_lead b h) ∙ ap (λ c. c ∷ characters index all) (itself b h)
 
 two : (index : List ℕ) (lead trail : ℕ) (all : List ℕ) → is_lead lead ≡ true →
-    characters index (lead ∷ trail ∷ all) ≡ after_two (of_two index lead trail) trail (characters index (trail ∷ all)) (characters index all)
+    characters index (lead ∷ trail ∷ all) ≡ character_or_error (of_two index lead trail) trail (characters index (trail ∷ all)) (characters index all)
 unfolding characters
 two index lead trail all h = rw h refl
 
-two_is : (index behind others more : List ℕ) (lead trail : ℕ) (found : Option ℕ) → is_lead lead ≡ true → behind ≡ trail ∷ others → found ≡ of_two index lead trail →
-    characters index (lead ∷ (behind ++ more)) ≡ after_two found trail (characters index (trail ∷ (others ++ more))) (characters index (others ++ more))
-two_is index behind others more lead trail found h next is =
+pub pair : (index after others rest more : List ℕ) (lead trail : ℕ) (found c : Option ℕ) → is_lead lead ≡ true → after ≡ trail ∷ others → found ≡ of_two index lead trail →
+    c ∷ characters index (rest ++ more) ≡ character_or_error found trail (characters index (after ++ more)) (characters index (others ++ more)) →
+    characters index (lead ∷ (after ++ more)) ≡ c ∷ characters index (rest ++ more)
+pair index after others rest more lead trail found c h next is gives =
     ap (λ b. characters index (lead ∷ (b ++ more))) next ∙ two index lead trail (others ++ more) h
-    ∙ ap (λ t. after_two t trail (characters index (trail ∷ (others ++ more))) (characters index (others ++ more))) (sym is)
+    ∙ ap₂ (λ b t. character_or_error t trail (characters index (b ++ more)) (characters index (others ++ more))) (sym next) (sym is) ∙ sym gives
 
-pub pair_some : (index behind others more : List ℕ) (lead trail c : ℕ) → is_lead lead ≡ true → behind ≡ trail ∷ others → Some c ≡ of_two index lead trail →
-    characters index (lead ∷ (behind ++ more)) ≡ Some c ∷ characters index (others ++ more)
-pair_some index behind others more lead trail c h next is = two_is index behind others more lead trail (Some c) h next is
-
-pub pair_ascii : (index behind others more : List ℕ) (lead trail : ℕ) → is_lead lead ≡ true → behind ≡ trail ∷ others → None ≡ of_two index lead trail → trail < 128 →
-    characters index (lead ∷ (behind ++ more)) ≡ None ∷ characters index (behind ++ more)
-pair_ascii index behind others more lead trail h next is ascii =
-    let test : nat_lt trail 128 ≡ true = grind (arith, nat_tests) in
-    two_is index behind others more lead trail None h next is ∙ rw test (ap (λ b. None ∷ characters index (b ++ more)) (sym next))
-
-pub pair_none : (index behind others more : List ℕ) (lead trail : ℕ) → is_lead lead ≡ true → behind ≡ trail ∷ others → None ≡ of_two index lead trail → 128 ≤ trail →
-    characters index (lead ∷ (behind ++ more)) ≡ None ∷ characters index (others ++ more)
-pair_none index behind others more lead trail h next is ascii =
-    let test : nat_lt trail 128 ≡ false = grind (arith, nat_tests) in two_is index behind others more lead trail None h next is ∙ rw test refl
-
-pub cut : (index behind more : List ℕ) (lead : ℕ) → is_lead lead ≡ true → length behind ≡ 0 → more ≡ [] → characters index (lead ∷ (behind ++ more)) ≡ None ∷ characters index (behind ++ more)
+pub cut : (index after more : List ℕ) (lead : ℕ) → is_lead lead ≡ true → length after ≡ 0 → more ≡ [] → characters index (lead ∷ (after ++ more)) ≡ None ∷ characters index (after ++ more)
 unfolding characters
 cut index [] more lead h none last = ap (λ m. characters index (lead ∷ m)) last ∙ rw h refl ∙ ap (λ m. None ∷ characters index m) (sym last)
 cut index (b ∷ bs) more lead h none last = absurd (omega arith)

@@ -4,4 +4,4 @@
 mod decoding;
 mod table;
 
-pub use decoding::decode_into;
+pub use decoding::EucKr;

@@ -1,13 +1,8 @@
 -- The decoder of gb18030, as in the Encoding Standard.
-use Rattle.std.specs.Prelude.{ℕ, ◌+◌, ◌-◌, ◌*◌, List, [], ◌∷◌, Bool, nat_lt, nat_le, ◌==◌, ◌||◌, ◌&&◌, slice_index, if◌then◌else◌, Option, Some, None}
+use Rattle.std.specs.Prelude.{ℕ, ◌+◌, ◌-◌, ◌*◌, List, [], ◌∷◌, Bool, nat_lt, nat_le, ◌==◌, ◌||◌, ◌&&◌, if◌then◌else◌, Option, Some, None}
 use Rattle.gb18030.specs.Ranges.{range_character}
-use lib.Utf8.{scalar}
-
--- the character of a pointer in the index, where 0 stands for none
-unfoldable pub character_at : List ℕ → ℕ → Option ℕ
-character_at index pointer =
-    let code = slice_index index pointer in
-    if code == 0 then None else (if scalar code then Some code else None)
+use Rattle.decoded_text.specs.Characters.{character_or_error}
+use Rattle.decoded_text.specs.Indexes.{character_at}
 
 -- the first byte of two or four, and the third of four
 abbrev pub is_lead : ℕ → Bool
@@ -28,12 +23,6 @@ abbrev pub of_four : List ℕ → List ℕ → ℕ → ℕ → ℕ → ℕ → O
 of_four firsts codes first second third fourth =
     range_character firsts codes ((first - 0x81) * 12600 + (second - 0x30) * 1260 + (third - 0x81) * 10 + (fourth - 0x30))
 
--- two bytes give their character. Where they have none, an error takes both bytes, but leaves a
--- second byte that is ASCII
-abbrev pub after_two : Option ℕ → ℕ → List (Option ℕ) → List (Option ℕ) → List (Option ℕ)
-after_two (Some character) second from_second behind = Some character ∷ behind
-after_two None second from_second behind = if nat_lt second 128 then None ∷ from_second else None ∷ behind
-
 -- a byte that begins nothing longer
 abbrev pub alone : ℕ → Option ℕ
 alone byte = if nat_lt byte 128 then Some byte else (if byte == 0x80 then Some 0x20AC else None)
@@ -46,17 +35,19 @@ characters index firsts codes (first ∷ []) = (if is_lead first then None else 
 characters index firsts codes (first ∷ second ∷ []) =
     if is_lead first then
     (if is_digit second then None ∷ []
-    else after_two (of_two index first second) second (characters index firsts codes (second ∷ [])) [])
+    else character_or_error (of_two index first second) second (characters index firsts codes (second ∷ [])) [])
     else alone first ∷ characters index firsts codes (second ∷ [])
 characters index firsts codes (first ∷ second ∷ third ∷ []) =
     if is_lead first then
     (if is_digit second then (if is_lead third then None ∷ [] else None ∷ characters index firsts codes (second ∷ third ∷ []))
-    else after_two (of_two index first second) second (characters index firsts codes (second ∷ third ∷ [])) (characters index firsts codes (third ∷ [])))
+    else character_or_error (of_two index first second) second (characters index firsts codes (second ∷ third ∷ []))
+    (characters index firsts codes (third ∷ [])))
     else alone first ∷ characters index firsts codes (second ∷ third ∷ [])
 characters index firsts codes (first ∷ second ∷ third ∷ fourth ∷ rest) =
     if is_lead first then
     (if is_digit second then
     (if is_lead third && is_digit fourth then of_four firsts codes first second third fourth ∷ characters index firsts codes rest
     else None ∷ characters index firsts codes (second ∷ third ∷ fourth ∷ rest))
-    else after_two (of_two index first second) second (characters index firsts codes (second ∷ third ∷ fourth ∷ rest)) (characters index firsts codes (third ∷ fourth ∷ rest)))
+    else character_or_error (of_two index first second) second (characters index firsts codes (second ∷ third ∷ fourth ∷ rest))
+    (characters index firsts codes (third ∷ fourth ∷ rest)))
     else alone first ∷ characters index firsts codes (second ∷ third ∷ fourth ∷ rest)

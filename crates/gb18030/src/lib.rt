@@ -6,4 +6,4 @@ mod decoding;
 mod ranges;
 mod table;
 
-pub use decoding::decode_into;
+pub use decoding::Gb18030;

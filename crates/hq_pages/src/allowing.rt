@@ -17,8 +17,8 @@ const DENIED: &str = "the NAME of an element";
 /// - `NAME[ATTRIBUTE=VALUE]` allows them, and the attribute on them if it has that value,
 /// - `[ATTRIBUTE]` allows the attribute on every element.
 ///
-/// Several attributes may follow a name, each in brackets. Fails if an item has another form, and if
-/// memory runs out.
+/// Several attributes may follow a name, each in brackets. Fails if an item has another form, and
+/// if memory runs out.
 pub fn allow(alloc: Global, rules: &mut Rules, text: &str) -> Result<(), RuleFault> {
     for item in text.split(',') {
         let item = item.trim();
@@ -52,8 +52,9 @@ fn allow_item(rules: &mut Rules, item: &str) -> Result<bool, RuleFault> {
     Ok(true)
 }
 
-/// Allows an attribute, which may have a value behind `=`, on elements of that name, or if the name
-/// is empty, on every element. Returns whether it has the form of an attribute.
+/// Allows an attribute on the elements with this name, or on every element if the name is empty.
+/// The text is the name of the attribute, or `attribute=value`, which allows this value alone and
+/// only on elements with a name. Returns whether the text has one of these two forms.
 fn allow_attribute(rules: &mut Rules, name: &str, text: &str) -> Result<bool, RuleFault> {
     if let Some((attribute, value)) = text.split_once('=') {
         rules.allow_value(name, attribute, value)?;

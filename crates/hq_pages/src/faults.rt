@@ -171,7 +171,8 @@ impl From<RunFault> for Fault {
             RunFault::BadScript(line) => Fault::Script(line),
             RunFault::TooManyNodes => Fault::TooManyNodes,
             RunFault::Memory => Fault::Memory,
-            // The page was read before, so its markup isn't at fault: the writer is.
+            // A script runs on a page that was parsed already, so no markup can be at fault here:
+            // the result couldn't be written.
             RunFault::Write | RunFault::BadMarkup => Fault::Output(io::Error::from(
                 ErrorKind::Other,
             )),

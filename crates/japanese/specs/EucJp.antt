@@ -1,6 +1,8 @@
 -- The decoder of EUC-JP, as in the Encoding Standard.
 use Rattle.std.specs.Prelude.{ℕ, ◌+◌, ◌-◌, ◌*◌, List, [], ◌∷◌, Bool, nat_lt, nat_le, ◌==◌, ◌||◌, ◌&&◌, if◌then◌else◌, Option, Some, None}
-use Rattle.japanese.specs.Index.{after_two, character_at, katakana}
+use Rattle.decoded_text.specs.Characters.{character_or_error}
+use Rattle.decoded_text.specs.Indexes.{character_at}
+use Rattle.japanese.specs.Shared.{katakana}
 
 -- a row or a cell of an index
 abbrev pub is_high : ℕ → Bool
@@ -36,11 +38,12 @@ characters jis0208 jis0212 (lead ∷ []) = (if is_lead lead then None else alone
 characters jis0208 jis0212 (lead ∷ trail ∷ []) =
     if is_lead lead then
     (if is_three lead trail then None ∷ []
-    else after_two (of_two jis0208 lead trail) trail (characters jis0208 jis0212 (trail ∷ [])) [])
+    else character_or_error (of_two jis0208 lead trail) trail (characters jis0208 jis0212 (trail ∷ [])) [])
     else alone lead ∷ characters jis0208 jis0212 (trail ∷ [])
 characters jis0208 jis0212 (lead ∷ trail ∷ third ∷ rest) =
     if is_lead lead then
     (if is_three lead trail then
-    after_two (of_cell jis0212 trail third) third (characters jis0208 jis0212 (third ∷ rest)) (characters jis0208 jis0212 rest)
-    else after_two (of_two jis0208 lead trail) trail (characters jis0208 jis0212 (trail ∷ third ∷ rest)) (characters jis0208 jis0212 (third ∷ rest)))
+    character_or_error (of_cell jis0212 trail third) third (characters jis0208 jis0212 (third ∷ rest)) (characters jis0208 jis0212 rest)
+    else character_or_error (of_two jis0208 lead trail) trail (characters jis0208 jis0212 (trail ∷ third ∷ rest))
+    (characters jis0208 jis0212 (third ∷ rest)))
     else alone lead ∷ characters jis0208 jis0212 (trail ∷ third ∷ rest)

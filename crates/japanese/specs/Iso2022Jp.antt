@@ -3,7 +3,8 @@ use Rattle.std.specs.Prelude.{ℕ, ◌+◌, ◌-◌, ◌*◌, List, [], ◌∷�
 use Rattle.japanese.specs.declared.iso_2022_jp.Mode.{Mode}
 use Rattle.japanese.specs.declared.iso_2022_jp.Mode.TheVariants.{Ascii, Roman, Katakana, Jis0208}
 use Rattle.japanese.specs.declared.iso_2022_jp.State.{State}
-use Rattle.japanese.specs.Index.{character_at, katakana}
+use Rattle.decoded_text.specs.Indexes.{character_at}
+use Rattle.japanese.specs.Shared.{katakana}
 
 -- the state at the beginning of a text
 abbrev pub start : State

@@ -1,5 +1,5 @@
 pub mod EucJp
-pub mod Index
 pub mod Iso2022Jp
+pub mod Shared
 pub mod ShiftJis
 pub mod Tables

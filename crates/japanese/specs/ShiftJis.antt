@@ -1,6 +1,8 @@
 -- The decoder of Shift_JIS, as in the Encoding Standard.
-use Rattle.std.specs.Prelude.{ℕ, ◌+◌, ◌-◌, ◌*◌, List, [], ◌∷◌, Bool, nat_lt, nat_le, ◌==◌, ◌||◌, ◌&&◌, if◌then◌else◌, Option, Some, None}
-use Rattle.japanese.specs.Index.{after_two, character_at, katakana}
+use Rattle.std.specs.Prelude.{ℕ, ◌+◌, ◌-◌, ◌*◌, List, [], ◌∷◌, Bool, nat_lt, nat_le, ◌||◌, ◌&&◌, if◌then◌else◌, Option, Some, None}
+use Rattle.decoded_text.specs.Characters.{character_or_error}
+use Rattle.decoded_text.specs.Indexes.{character_at}
+use Rattle.japanese.specs.Shared.{katakana}
 
 -- the first byte of two
 abbrev pub is_lead : ℕ → Bool
@@ -34,5 +36,5 @@ unfoldable pub characters : List ℕ → List ℕ → List (Option ℕ)
 characters index [] = []
 characters index (lead ∷ []) = (if is_lead lead then None else alone lead) ∷ []
 characters index (lead ∷ trail ∷ rest) =
-    if is_lead lead then after_two (of_two index lead trail) trail (characters index (trail ∷ rest)) (characters index rest)
+    if is_lead lead then character_or_error (of_two index lead trail) trail (characters index (trail ∷ rest)) (characters index rest)
     else alone lead ∷ characters index (trail ∷ rest)

@@ -1,110 +1,81 @@
 //! EUC-JP.
 
 ghost use Rattle.std.specs.Prelude.{◌≡◌, ◌<◌, ◌≤◌, [], ◌∷◌, false, ◌++◌, IfNone, IfOk, IfSome, IsTrue, List, length, ℕ};
-ghost use Rattle.decoded_text.specs.Characters.{Continues, IsCounted};
 ghost use Rattle.japanese.specs.EucJp.{alone, characters, is_high, is_lead, is_three, of_cell, of_two};
 
-use crate::index::{character_at, katakana};
+use crate::katakana::katakana;
 use crate::table::{JIS0208, JIS0212};
-use decoded_text::{Decoded, ascii_front};
-use std::alloc::AllocError;
+use decoded_text::{MultiByte, character_at, character_or_error};
 
-/// Appends the characters of the bytes, and returns the bytes that aren't decoded yet: at most two,
-/// the beginning of a character that the next bytes continue. If `is_last` is true, all bytes are
-/// decoded.
-///
-/// # Errors
-///
-/// Fails with `AllocError` if memory runs out.
-pub fn decode_into<'b>(
-    out: &mut Decoded,
-    bytes: &'b [u8],
-    is_last: bool,
-) -> Result<&'b [u8], AllocError>
-    requires { IsCounted out.old }
-    ensures continues { (more : List ℕ) → (IsTrue is_last → more ≡ []) → IfOk result (λ rest.
-        Continues out.old (characters JIS0208 JIS0212 (bytes.now ++ more))
-        out.new (characters JIS0208 JIS0212 (rest.now ++ more))) }
-    ensures few { IfOk result (λ rest. length rest.now < 3) }
-    ensures all { IsTrue is_last → IfOk result (λ rest. rest.now ≡ []) }
-    ensures counted { IsCounted out.new }
-{
-    let mut rest = bytes;
-    while let Some((character, behind)) = next(rest, is_last) {
-        out.push(character)?;
-        let (ascii, others) = ascii_front(behind);
-        out.push_ascii(ascii)?;
-        rest = others;
-    }
-    Ok(rest)
-}
+/// EUC-JP.
+pub struct EucJp;
 
-/// Returns the first character and the bytes after it; `None` if it is incomplete.
-fn next(bytes: &[u8], is_last: bool) -> Option<(Option<char>, &[u8])>
-    ensures none { IfNone result (length bytes.now < 3) }
-    ensures last { IsTrue is_last → IfNone result (bytes.now ≡ []) }
-    ensures some { (more : List ℕ) → (IsTrue is_last → more ≡ []) → IfSome result (λ next.
-        characters JIS0208 JIS0212 (bytes.now ++ more)
-        ≡ next.0 ∷ characters JIS0208 JIS0212 (next.1.now ++ more)) }
-    ensures less { IfSome result (λ next. length next.1.now < length bytes.now) }
-{
-    let (lead, behind) = bytes.split_first()?;
-    if is_lead(*lead) {
-        return pair(*lead, behind, is_last);
+impl MultiByte for EucJp {
+    ghost use Rattle.std.specs.Prelude.{List, ℕ};
+    ghost use Rattle.japanese.specs.EucJp.{characters};
+    ghost use Rattle.japanese.specs.declared.table.TheConstants.{JIS0208, JIS0212};
+
+    type Found = Option<char>;
+
+    ghost characters = { characters JIS0208 JIS0212 };
+
+    ghost longest = { 3 };
+
+    fn next(bytes: &[u8], is_last: bool) -> Option<(Option<char>, &[u8])> {
+        let (lead, after) = bytes.split_first()?;
+        if is_lead(*lead) {
+            return pair(*lead, after, is_last);
+        }
+        Some((alone(*lead), after))
     }
-    Some((alone(*lead), behind))
+
+    fn ascii_is_itself() {}
 }
 
 /// Returns the character of two or three bytes, of which the first was read, and the bytes after
 /// it.
-fn pair(lead: u8, behind: &[u8], is_last: bool) -> Option<(Option<char>, &[u8])>
+fn pair(lead: u8, after: &[u8], is_last: bool) -> Option<(Option<char>, &[u8])>
     requires { IsTrue (is_lead lead) }
-    ensures none { IfNone result (length behind.now < 2) }
+    ensures none { IfNone result (length after.now < 2) }
     ensures last { IfNone result (is_last ≡ false) }
     ensures some { (more : List ℕ) → (IsTrue is_last → more ≡ []) → IfSome result (λ next.
-        characters JIS0208 JIS0212 (lead ∷ (behind.now ++ more))
+        characters JIS0208 JIS0212 (lead ∷ (after.now ++ more))
         ≡ next.0 ∷ characters JIS0208 JIS0212 (next.1.now ++ more)) }
-    ensures less { IfSome result (λ next. length next.1.now ≤ length behind.now) }
+    ensures less { IfSome result (λ next. length next.1.now ≤ length after.now) }
 {
-    let Some((trail, others)) = behind.split_first() else {
-        return if is_last { Some((None, behind)) } else { None };
+    let Some((trail, others)) = after.split_first() else {
+        return if is_last { Some((None, after)) } else { None };
     };
     if is_three(lead, *trail) {
-        return three(lead, *trail, behind, others, is_last);
+        return three(lead, *trail, after, others, is_last);
     }
-    match of_two(lead, *trail) {
-        Some(character) => Some((Some(character), others)),
-        None if *trail < 128 => Some((None, behind)),
-        None => Some((None, others)),
-    }
+    let found = of_two(lead, *trail);
+    Some(character_or_error(found, *trail, after, others))
 }
 
 /// Returns the character of three bytes, of which two were read, and the bytes after it.
 fn three<'b>(
     lead: u8,
     trail: u8,
-    behind: &'b [u8],
+    after: &'b [u8],
     others: &'b [u8],
     is_last: bool,
 ) -> Option<(Option<char>, &'b [u8])>
     requires lead { IsTrue (is_lead lead) }
     requires trail { IsTrue (is_three lead trail) }
-    requires behind { behind.now ≡ trail ∷ others.now }
+    requires after { after.now ≡ trail ∷ others.now }
     ensures none { IfNone result (others.now ≡ []) }
     ensures last { IfNone result (is_last ≡ false) }
     ensures some { (more : List ℕ) → (IsTrue is_last → more ≡ []) → IfSome result (λ next.
-        characters JIS0208 JIS0212 (lead ∷ (behind.now ++ more))
+        characters JIS0208 JIS0212 (lead ∷ (after.now ++ more))
         ≡ next.0 ∷ characters JIS0208 JIS0212 (next.1.now ++ more)) }
-    ensures less { IfSome result (λ next. length next.1.now ≤ length behind.now) }
+    ensures less { IfSome result (λ next. length next.1.now ≤ length after.now) }
 {
     let Some((third, rest)) = others.split_first() else {
         return if is_last { Some((None, others)) } else { None };
     };
-    match of_cell(&JIS0212, trail, *third) {
-        Some(character) => Some((Some(character), rest)),
-        None if *third < 128 => Some((None, others)),
-        None => Some((None, rest)),
-    }
+    let found = of_cell(&JIS0212, trail, *third);
+    Some(character_or_error(found, *third, others, rest))
 }
 
 /// Returns whether a byte is a row or a cell of an index.

@@ -4,9 +4,9 @@ ghost use Rattle.std.specs.Prelude.{◌≡◌, ◌<◌, ◌≤◌, [], ◌∷◌
 ghost use Rattle.decoded_text.specs.Characters.{Appends, Continues, IsCounted};
 ghost use Rattle.japanese.specs.Iso2022Jp.{characters, in_mode, is_lead, of_two, plain, target};
 
-use crate::index::{character_at, katakana};
+use crate::katakana::katakana;
 use crate::table::JIS0208;
-use decoded_text::Decoded;
+use decoded_text::{Decoded, character_at};
 use std::alloc::AllocError;
 
 /// How bytes are decoded until the next escape sequence.
@@ -99,40 +99,40 @@ fn next(state: State, bytes: &[u8], is_last: bool) -> Option<Step<'_>>
         ≡ option_to_list step.character ++ characters JIS0208 step.state (step.rest.now ++ more)) }
     ensures less { IfSome result (λ step. length step.rest.now < length bytes.now) }
 {
-    let (first, behind) = bytes.split_first()?;
+    let (first, after) = bytes.split_first()?;
     if *first == 0x1B {
-        return escape(state, behind, is_last);
+        return escape(state, after, is_last);
     }
     if is_lead(state.mode, *first) {
-        return pair(state, *first, behind, is_last);
+        return pair(state, *first, after, is_last);
     }
     Some(Step {
         character: Some(in_mode(state.mode, *first)),
         state: plain(state),
-        rest: behind,
+        rest: after,
     })
 }
 
 /// Returns an escape whose first byte was read, or an error in place of one.
-fn escape(state: State, behind: &[u8], is_last: bool) -> Option<Step<'_>>
-    ensures none { IfNone result (length behind.now < 2) }
+fn escape(state: State, after: &[u8], is_last: bool) -> Option<Step<'_>>
+    ensures none { IfNone result (length after.now < 2) }
     ensures last { IfNone result (is_last ≡ false) }
     ensures some { (more : List ℕ) → (IsTrue is_last → more ≡ []) → IfSome result (λ step.
-        characters JIS0208 state (27 ∷ (behind.now ++ more))
+        characters JIS0208 state (27 ∷ (after.now ++ more))
         ≡ option_to_list step.character ++ characters JIS0208 step.state (step.rest.now ++ more)) }
-    ensures less { IfSome result (λ step. length step.rest.now ≤ length behind.now) }
+    ensures less { IfSome result (λ step. length step.rest.now ≤ length after.now) }
 {
-    let Some((a, others)) = behind.split_first() else {
-        return cut(state, behind, is_last);
+    let Some((a, others)) = after.split_first() else {
+        return cut(state, after, is_last);
     };
     let Some((b, rest)) = others.split_first() else {
-        return cut(state, behind, is_last);
+        return cut(state, after, is_last);
     };
     let Some(mode) = target(*a, *b) else {
         return Some(Step {
             character: Some(None),
             state: plain(state),
-            rest: behind,
+            rest: after,
         });
     };
     let state_after = State {
@@ -154,13 +154,13 @@ fn escape(state: State, behind: &[u8], is_last: bool) -> Option<Step<'_>>
 }
 
 /// Returns an escape that the bytes end within.
-fn cut(state: State, behind: &[u8], is_last: bool) -> Option<Step<'_>>
-    requires { length behind.now < 2 }
+fn cut(state: State, after: &[u8], is_last: bool) -> Option<Step<'_>>
+    requires { length after.now < 2 }
     ensures last { IfNone result (is_last ≡ false) }
     ensures some { (more : List ℕ) → (IsTrue is_last → more ≡ []) → IfSome result (λ step.
-        characters JIS0208 state (27 ∷ (behind.now ++ more))
+        characters JIS0208 state (27 ∷ (after.now ++ more))
         ≡ option_to_list step.character ++ characters JIS0208 step.state (step.rest.now ++ more)) }
-    ensures less { IfSome result (λ step. length step.rest.now ≤ length behind.now) }
+    ensures less { IfSome result (λ step. length step.rest.now ≤ length after.now) }
 {
     if !is_last {
         return None;
@@ -168,35 +168,35 @@ fn cut(state: State, behind: &[u8], is_last: bool) -> Option<Step<'_>>
     Some(Step {
         character: Some(None),
         state: plain(state),
-        rest: behind,
+        rest: after,
     })
 }
 
 /// Returns the character of two bytes, of which the first was read.
-fn pair(state: State, first: u8, behind: &[u8], is_last: bool) -> Option<Step<'_>>
+fn pair(state: State, first: u8, after: &[u8], is_last: bool) -> Option<Step<'_>>
     requires { IsTrue (is_lead state.mode first) }
-    ensures none { IfNone result (behind.now ≡ []) }
+    ensures none { IfNone result (after.now ≡ []) }
     ensures last { IfNone result (is_last ≡ false) }
     ensures some { (more : List ℕ) → (IsTrue is_last → more ≡ []) → IfSome result (λ step.
-        characters JIS0208 state (first ∷ (behind.now ++ more))
+        characters JIS0208 state (first ∷ (after.now ++ more))
         ≡ option_to_list step.character ++ characters JIS0208 step.state (step.rest.now ++ more)) }
-    ensures less { IfSome result (λ step. length step.rest.now ≤ length behind.now) }
+    ensures less { IfSome result (λ step. length step.rest.now ≤ length after.now) }
 {
-    let Some((second, others)) = behind.split_first() else {
+    let Some((second, others)) = after.split_first() else {
         if !is_last {
             return None;
         }
         return Some(Step {
             character: Some(None),
             state: plain(state),
-            rest: behind,
+            rest: after,
         });
     };
     if *second == 0x1B {
         return Some(Step {
             character: Some(None),
             state: plain(state),
-            rest: behind,
+            rest: after,
         });
     }
     Some(Step {
@@ -206,7 +206,7 @@ fn pair(state: State, first: u8, behind: &[u8], is_last: bool) -> Option<Step<'_
     })
 }
 
-/// Returns the state behind anything but an escape.
+/// Returns the state after anything but an escape.
 fn plain(state: State) -> State
     ensures { result ≡ plain state }
 {

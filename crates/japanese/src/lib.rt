@@ -3,7 +3,7 @@
 #![tactic(auto)]
 
 pub mod euc_jp;
-mod index;
 pub mod iso_2022_jp;
+mod katakana;
 pub mod shift_jis;
 mod table;

@@ -20,9 +20,9 @@ use text_decoding::{Charset, Confidence, Encoding, decode_page};
 pub struct ReadPage {
     /// The document.
     pub document: Document,
-    /// The encoding that the page was in.
+    /// The encoding of the page.
     pub encoding: Encoding,
-    /// What says so.
+    /// What names this encoding: a byte order mark, the transport, the page, or nothing.
     pub confidence: Confidence,
     /// How many times U+FFFD stands in the page's text for bytes that could not be decoded.
     pub replaced: usize,

@@ -14,7 +14,7 @@ use Rattle.text_decoding.specs.declared.page.Confidence.TheVariants.{Declared, F
 use Rattle.text_decoding.specs.declared.page.Fallback.{Fallback}
 use Rattle.text_decoding.specs.declared.page.Fallback.TheVariants.{Guess, Of}
 
--- the bytes behind a byte order mark
+-- the bytes after a byte order mark
 abbrev pub behind_mark : List ℕ → List ℕ
 behind_mark bytes = drop (option_map_or (λ mark. mark.1) (for_bom bytes) 0) bytes
 

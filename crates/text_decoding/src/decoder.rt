@@ -10,7 +10,7 @@ use encodings::Encoding;
 use std::alloc::{AllocError, Global};
 
 /// Decodes bytes that come in pieces, which may be cut anywhere. The texts of the pieces, one
-/// behind the other, are the text of all bytes.
+/// after the other, are the text of all bytes.
 #[derive(Drop)]
 pub struct Decoder {
     alloc: Global,
@@ -64,7 +64,7 @@ impl Decoder {
         Ok(text)
     }
 
-    /// Decodes bytes behind those that were decoded.
+    /// Decodes bytes after those that were decoded.
     fn read(&mut self, bytes: &[u8]) -> Result<Decoded, AllocError>
         ensures begins { (more : List ℕ) → IfOk result (λ decoded.
             Begins decoded (characters_from self.old.encoding self.old.state (bytes.now ++ more))

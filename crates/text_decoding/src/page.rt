@@ -97,8 +97,8 @@ pub fn decode_page(
     }
 }
 
-/// The encoding that a mark, the transport or the page itself says, if any does, and the bytes
-/// behind a byte order mark.
+/// Returns the encoding that a byte order mark, the transport or the page itself names, if any
+/// does, and the bytes after a byte order mark.
 fn said_encoding(
     bytes: &[u8],
     transport: Option<Encoding>,
@@ -118,7 +118,7 @@ fn said_encoding(
     }
 }
 
-/// The bytes without so many at the front.
+/// Returns the bytes without so many at the front.
 fn behind(length: usize, bytes: &[u8]) -> &[u8]
     ensures { result.now ≡ drop length bytes.now }
 {
@@ -128,7 +128,7 @@ fn behind(length: usize, bytes: &[u8]) -> &[u8]
     }
 }
 
-/// The text of the bytes in an encoding.
+/// Returns the text of the bytes in an encoding.
 fn decode_as(
     alloc: Global,
     encoding: Encoding,
@@ -147,7 +147,8 @@ fn decode_as(
     })
 }
 
-/// The text of a page of whose encoding nothing is said.
+/// Returns the text of a page whose encoding nothing names, neither a byte order mark nor the
+/// transport nor the page itself: it is in the fallback.
 fn decode_unsaid(
     alloc: Global,
     fallback: Fallback,
@@ -163,7 +164,7 @@ fn decode_unsaid(
     }
 }
 
-/// The text of bytes that are UTF-8, and otherwise windows-1252.
+/// Returns the text of bytes in UTF-8 if they are UTF-8, and otherwise in windows-1252.
 fn decode_guess(alloc: Global, bytes: &[u8]) -> Result<PageText<'_>, AllocError>
     ensures text { IfOk result (λ page. IsTextOf page.text (characters page.encoding bytes.now)) }
     ensures encoding { IfOk result (λ page. IsFallback Guess bytes.now page.encoding) }

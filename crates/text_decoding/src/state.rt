@@ -9,12 +9,17 @@ ghost use Rattle.text_decoding.specs.Decoding.{characters_from, replaced_from};
 ghost use Rattle.text_decoding.specs.Utf8.{characters as utf8_characters};
 
 use crate::utf8::{FRESH, Utf8State, decode_into as decode_utf8_into, end_into as end_utf8_into};
-use decoded_text::Decoded;
+use big5::Big5;
+use decoded_text::{Decoded, decode_into as decode_multi_byte_into};
 use encodings::utf16::{ByteOrder, decode_into as decode_utf16_into};
 use encodings::{Encoding, SingleByte};
+use euc_kr::EucKr;
+use gb18030::Gb18030;
+use japanese::euc_jp::EucJp;
 use japanese::iso_2022_jp::{
     START as JAPANESE_START, State as JapaneseState, decode_into as decode_japanese_into,
 };
+use japanese::shift_jis::ShiftJis;
 use std::alloc::AllocError;
 
 /// What a decoder knows between two pieces.
@@ -35,7 +40,7 @@ pub(crate) const START: State = State {
     is_replaced: false,
 };
 
-/// Appends the characters of the bytes from a state on. Returns the state behind them, and the
+/// Appends the characters of the bytes from a state on. Returns the state after them, and the
 /// bytes that are not decoded yet. Where the bytes are the last ones, all are decoded.
 ///
 /// # Errors
@@ -71,23 +76,23 @@ pub(crate) fn decode_into<'b>(
             Ok((state, rest))
         }
         Encoding::Gbk | Encoding::Gb18030 => {
-            let rest = gb18030::decode_into(out, bytes, is_last)?;
+            let rest = decode_multi_byte_into::<Gb18030>(out, bytes, is_last)?;
             Ok((state, rest))
         }
         Encoding::Big5 => {
-            let rest = big5::decode_into(out, bytes, is_last)?;
+            let rest = decode_multi_byte_into::<Big5>(out, bytes, is_last)?;
             Ok((state, rest))
         }
         Encoding::EucJp => {
-            let rest = japanese::euc_jp::decode_into(out, bytes, is_last)?;
+            let rest = decode_multi_byte_into::<EucJp>(out, bytes, is_last)?;
             Ok((state, rest))
         }
         Encoding::ShiftJis => {
-            let rest = japanese::shift_jis::decode_into(out, bytes, is_last)?;
+            let rest = decode_multi_byte_into::<ShiftJis>(out, bytes, is_last)?;
             Ok((state, rest))
         }
         Encoding::EucKr => {
-            let rest = euc_kr::decode_into(out, bytes, is_last)?;
+            let rest = decode_multi_byte_into::<EucKr>(out, bytes, is_last)?;
             Ok((state, rest))
         }
     }

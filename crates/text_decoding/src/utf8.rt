@@ -29,7 +29,7 @@ pub(crate) const FRESH: Utf8State = Utf8State {
     upper: 0xBF,
 };
 
-/// Appends the characters of the bytes from a state on, and returns the state behind them.
+/// Appends the characters of the bytes from a state on, and returns the state after them.
 ///
 /// # Errors
 ///
@@ -71,7 +71,7 @@ pub(crate) fn end_into(state: Utf8State, out: &mut Decoded) -> Result<(), AllocE
 }
 
 /// Between two characters, appends the text that the bytes begin with, and returns the bytes
-/// behind.
+/// after.
 fn push_valid<'b>(
     state: Utf8State,
     out: &mut Decoded,
@@ -92,7 +92,7 @@ fn push_valid<'b>(
     Ok(rest)
 }
 
-/// The longest text that the bytes begin with, and the bytes behind it.
+/// The longest text that the bytes begin with, and the bytes after it.
 fn valid_front(bytes: &[u8]) -> (&str, &[u8])
     ensures parts { bytes.now ≡ result.0.now ++ result.1.now }
     ensures text { IsUtf8 result.0.now }
@@ -106,7 +106,7 @@ fn valid_front(bytes: &[u8]) -> (&str, &[u8])
     }
 }
 
-/// Appends what a byte gives in a state, and returns the state behind it.
+/// Appends what a byte gives in a state, and returns the state after it.
 fn push_byte(state: Utf8State, out: &mut Decoded, byte: u8) -> Result<Utf8State, AllocError>
     requires { IsCounted out.old }
     ensures continues { (more : List ℕ) → IfOk result (λ end.
@@ -125,7 +125,7 @@ fn push_byte(state: Utf8State, out: &mut Decoded, byte: u8) -> Result<Utf8State,
     Ok(end)
 }
 
-/// Appends what a byte gives between two characters, and returns the state behind it.
+/// Appends what a byte gives between two characters, and returns the state after it.
 fn push_first(out: &mut Decoded, byte: u8) -> Result<Utf8State, AllocError>
     requires { IsCounted out.old }
     ensures continues { (more : List ℕ) → IfOk result (λ end.
@@ -140,7 +140,7 @@ fn push_first(out: &mut Decoded, byte: u8) -> Result<Utf8State, AllocError>
     Ok(FRESH)
 }
 
-/// The state behind the first byte of two, three or four.
+/// The state after the first byte of two, three or four.
 fn begun_by(byte: u8) -> Option<Utf8State>
     ensures { result ≡ begun_by byte }
 {
@@ -181,7 +181,7 @@ fn alone(byte: u8) -> Option<char>
     }
 }
 
-/// Appends the character that a byte ends, if it ends one, and returns the state behind it.
+/// Appends the character that a byte ends, if it ends one, and returns the state after it.
 fn push_next(state: Utf8State, out: &mut Decoded, byte: u8) -> Result<Utf8State, AllocError>
     requires within { (state.needed ≡ 0 → ⊥) × IsTrue (is_between state.lower state.upper byte) }
     requires counted { IsCounted out.old }

@@ -1,5 +1,9 @@
 //! The response of HTTP in a record.
 
+ghost use Rattle.std.specs.Prelude.{◌≡◌, IfOk, option_copied};
+ghost use Rattle.warc.specs.Responses.{IsEndOf, body_bytes, is_html};
+ghost use Rattle.warc.specs.declared.responses.ResponseFault.TheVariants.{Memory};
+
 use crate::fields::{FIELDS, begins_with_word, value_of};
 use httparse::{EMPTY_HEADER, Response as Head, Status, parse_chunk_size};
 use std::alloc::{AllocError, Global};
@@ -16,7 +20,9 @@ pub struct Response<'a> {
 
 impl Response<'_> {
     /// Returns whether the body is HTML by its content type; `true` if there is none.
-    pub fn is_html(&self) -> bool {
+    pub fn is_html(&self) -> bool
+        ensures { result ≡ is_html (option_copied self.now.content_type) }
+    {
         match self.content_type {
             Some(kind) => {
                 begins_with_word(kind, "text/html")
@@ -36,7 +42,9 @@ pub enum Body<'a> {
 
 impl Body<'_> {
     /// Returns the bytes.
-    pub fn as_slice(&self) -> &[u8] {
+    pub fn as_slice(&self) -> &[u8]
+        ensures { result.now ≡ body_bytes self.now }
+    {
         match self {
             Body::Lent(bytes) => bytes,
             Body::Joined(bytes) => bytes,
@@ -69,6 +77,8 @@ impl ResponseFault {
 }
 
 impl From<AllocError> for ResponseFault {
+    ghost from_gives = { λ _ fault. fault ≡ Memory };
+
     fn from(_: AllocError) -> ResponseFault {
         ResponseFault::Memory
     }
@@ -76,8 +86,10 @@ impl From<AllocError> for ResponseFault {
 
 /// Returns what a response of HTTP says, with its body, which is joined if it was sent in chunks.
 /// Fails if the bytes aren't a response of HTTP/1.0 or 1.1, if a chunk is bad or cut off, if the
-/// body is compressed, and when memory runs out.
-pub fn response_of(alloc: Global, bytes: &[u8]) -> Result<Response<'_>, ResponseFault> {
+/// body is compressed, and when memory runs out. A body that isn't joined is lent from the bytes.
+pub fn response_of(alloc: Global, bytes: &[u8]) -> Result<Response<'_>, ResponseFault>
+    ensures { IfOk result (λ response. IsEndOf bytes.now response.body) }
+{
     let mut fields = [EMPTY_HEADER; FIELDS];
     let mut head = Head::new(&mut fields);
     let Ok(Status::Complete(length)) = head.parse(bytes) else {
@@ -111,8 +123,8 @@ fn is_compressed(coding: Option<&[u8]>) -> bool {
     }
 }
 
-/// Returns the bytes of all chunks of a body, one after the other. What is after the last chunk, the
-/// empty one, is ignored.
+/// Returns the bytes of all chunks of a body, one after the other. What is after the last chunk,
+/// the empty one, is ignored.
 fn joined_chunks(alloc: Global, body: &[u8]) -> Result<Vec<u8>, ResponseFault> {
     let mut joined = Vec::new(alloc);
     let mut rest = body;

@@ -1,14 +1,11 @@
-use Rattle.japanese.proofs.ShiftJisSteps.{cut, pair_some, pair_ascii, pair_none}
+use Rattle.japanese.specs.declared.table.TheConstants.{JIS0208}
+use Rattle.japanese.specs.ShiftJis.{characters}
+use Rattle.japanese.proofs.ShiftJisSteps.{cut, pair}
 use Rattle.japanese.proofs.shift_jis.pair.Goals as goal
 
 pub returns-then-is_last-clause-some : goal.returns-then-is_last-clause-some
 returns-then-is_last-clause-some c = λ more last. cut _ _ more _ c.requires c.in_default.ensures.cases (last c.if-is_last.true)
 
-pub returns-in-Some-of_two-clause-some : goal.returns-in-Some-of_two-clause-some
-returns-in-Some-of_two-clause-some c = λ more last. pair_some _ _ _ more _ _ _ c.requires c.in-Some.ensures.cases.0 c.in-Some-of_two.ensures
-
-pub returns-in-None-clause-some : goal.returns-in-None-clause-some
-returns-in-None-clause-some c = λ more last. pair_ascii _ _ _ more _ _ c.requires c.in-Some.ensures.cases.0 c.in-None.ensures c.if-trail-lt128.true
-
-pub returns-in-None-2-clause-some : goal.returns-in-None-2-clause-some
-returns-in-None-2-clause-some c = λ more last. pair_none _ _ _ more _ _ c.requires c.in-Some.ensures.cases.0 c.in-None.ensures c.if-trail-lt128.false
+pub returns-clause-some : goal.returns-clause-some
+returns-clause-some c =
+    λ more last. pair _ _ _ _ more _ _ _ _ c.requires c.in-Some.ensures.cases.0 c.of_two-found.ensures (c.character_or_error.ensures.gives (characters JIS0208) more)
