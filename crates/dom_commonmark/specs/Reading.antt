@@ -24,12 +24,12 @@ read_as_text false cell before (b ∷ piece) after =
 read_as_text true cell before (b ∷ piece) after =
     if is_ascii_punctuation b then behind b (read_as_text false cell (b ∷ before) piece after) else None
 
--- what the writer puts before a text: nothing, or something that doesn't end in a letter or digit
+-- what may stand before a text: nothing, or something that doesn't end in a letter or digit
 abbrev pub IsFront : List ℕ → Type 0
 IsFront before = is_ascii_alphanumeric (first_of before) ≡ false
 
--- what the writer puts behind a text: nothing, or something that begins with no letter or digit, no `;`, `#` and `/`, and with `[` only
--- where the text is followed by a link
+-- what may stand behind a text: nothing, or something that begins with no letter or digit, no `;`, `#` and `/`, and with `[` only where
+-- the text is followed by a link
 pub record IsBack (place : Place) (after : List ℕ) : Type 0 where
   pub no_word : is_ascii_alphanumeric (first_of after) ≡ false
   pub no_semicolon : (first_of after == semicolon) ≡ false

@@ -21,9 +21,10 @@ pub struct Place {
     pub before_link: bool,
 }
 
-/// Appends the text with a backslash before each character that begins or ends a construct. Between
-/// any two neighbours that the writer puts beside a text, a reader takes what was appended as
-/// exactly that text. Fails only when memory runs out.
+/// Appends the text with a backslash before each character that begins or ends a construct. A
+/// reader takes what was appended as exactly that text, unless a letter or digit is before it, or
+/// one of those, `;`, `#` or `/` behind it, or a `[` that `place` doesn't name. Fails only when
+/// memory runs out.
 pub fn push_escaped(out: &mut String, text: &str, place: Place) -> Result<(), OutOfMemory>
     ensures value { OnOk result (AppendsEscaped place out.old out.new text.now) }
     ensures reads { OnOk result (ReadsAsText place out.old out.new text.now) }
@@ -151,7 +152,7 @@ fn begins_tag(byte: u8) -> bool
 
 /// Returns whether a `&` before the bytes may begin a character reference: letters, digits and `#`
 /// follow, and then a semicolon.
-fn is_reference(after: &[u8]) -> bool
+pub(crate) fn is_reference(after: &[u8]) -> bool
     ensures { result ≡ is_reference after.now }
 {
     let mut rest = after;

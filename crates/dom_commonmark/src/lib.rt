@@ -1,5 +1,14 @@
-//! Texts as CommonMark: escapes by which a reader takes a text as text. Start at
-//! `escaping::push_escaped`.
+//! Trees as CommonMark, with the tables, the strikethrough and the task lists of GFM. Start at
+//! `writer::commonmark`; `escaping::push_escaped` escapes a text.
 #![tactic(auto)]
 
+mod addresses;
 pub mod escaping;
+mod flanks;
+mod inlines;
+mod line_marks;
+mod lines;
+pub mod options;
+mod spans;
+mod tags;
+pub mod writer;
