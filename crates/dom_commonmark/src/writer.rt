@@ -10,7 +10,7 @@ use crate::flanks::MarkKind;
 use crate::inlines::{Flow, Inlines};
 use crate::lines::{Beginning, Lines};
 use crate::options::Options;
-use crate::tags::{Tag, tag_named};
+use crate::tags::{Tag, tag_named, tag_of};
 use crate::writer::lists::List;
 use crate::writer::tables::Table;
 use dom_nodes::fault::OutOfMemory;
@@ -43,6 +43,15 @@ pub fn commonmark_inside(
     let mut writer = Writer::new(alloc, node.tree, *options);
     writer.push_children(node.id)?;
     writer.written()
+}
+
+/// Returns whether a node is a block, which stands on lines of its own.
+pub fn is_block(node: &NodeRef<'_>) -> bool {
+    match tag_of(node) {
+        Tag::Inline | Tag::Skipped | Tag::Strong | Tag::Emphasis | Tag::Strike | Tag::Code => false,
+        Tag::Link | Tag::Image | Tag::Break | Tag::Input => false,
+        _ => true,
+    }
 }
 
 /// A piece of what remains to be written.

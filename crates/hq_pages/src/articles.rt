@@ -5,6 +5,7 @@ use crate::faults::Fault;
 use crate::json::add;
 use crate::linked_data::linked_data_of;
 use crate::options::{Options, Printing, Show};
+use crate::showing::commonmark_of;
 use dom_article::{Article, article_of_known};
 use dom_query::{Document, NodeId, NodeMarkup, NodeMd, NodeRef, clean_document, serialize_md};
 use serde_json::{Map, Value};
@@ -83,6 +84,7 @@ impl TakenArticle {
         match printing.show {
             Show::Html => Ok(self.node().inner_html()?),
             Show::Text => Ok(self.node().formatted_text()?),
+            Show::CommonMark => commonmark_of(alloc, &self.node(), true),
             _ => self.markdown(alloc),
         }
     }

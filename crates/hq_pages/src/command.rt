@@ -31,11 +31,12 @@ const NONE: char = ' ';
 
 /// All options, in the order in which `--help` lists them.
 #[rattlefmt::skip]
-static OPTIONS: [Choice; 37] = [
+static OPTIONS: [Choice; 38] = [
     ("html", NONE, "", "", "Print each match as HTML (the default)"),
     ("inner", NONE, "", "", "Print what is inside each match: HTML, or with --md Markdown"),
     ("text", 't', "", "", "Print the text of each match"),
     ("md", 'm', "", "", "Print each match as Markdown"),
+    ("commonmark", NONE, "", "", "Print each match as CommonMark, with tables as GitHub has them"),
     ("attr", 'a', "NAME", "", "Print this attribute of each match that has it"),
     ("count", 'c', "", "json", "Print how many matches there are"),
     ("csv", NONE, "", "json", "Print the rows of each matched table as CSV"),
@@ -78,8 +79,17 @@ static OPTIONS: [Choice; 37] = [
 ];
 
 /// The options that say what is printed, of which at most one can be used.
-static SHOWS: [&str; 9] = [
-    "html", "text", "md", "attr", "count", "csv", "document", "tree", "script",
+static SHOWS: [&str; 10] = [
+    "html",
+    "text",
+    "md",
+    "commonmark",
+    "attr",
+    "count",
+    "csv",
+    "document",
+    "tree",
+    "script",
 ];
 
 /// Returns the words of the command line; the first is the program's name. Fails if one of them

@@ -107,6 +107,8 @@ pub enum Show<'a> {
     Text,
     Attr(&'a str),
     Markdown,
+    /// CommonMark with the tables of GitHub Flavored Markdown.
+    CommonMark,
     /// How many matches there are.
     Count,
     /// The rows of tables.
@@ -211,7 +213,11 @@ impl<'a> Options<'a> {
         if self.stream.progress && !self.stream.is_one() {
             return Some("--progress: only with --jsonl or --warc");
         }
-        if self.printing.inner && !matches!(self.printing.show, Show::Html | Show::Markdown) {
+        let has_inside = matches!(
+            self.printing.show,
+            Show::Html | Show::Markdown | Show::CommonMark
+        );
+        if self.printing.inner && !has_inside {
             return Some("--inner: only HTML and Markdown have an inside");
         }
         if !selects && (self.printing.first || self.printing.inner) {
@@ -371,10 +377,11 @@ fn matcher_of(alloc: Global, text: &str, place: &'static str) -> Result<Matcher,
 }
 
 /// The flags that say what is printed of a match.
-static SHOWN: [(&str, Show<'static>); 5] = [
+static SHOWN: [(&str, Show<'static>); 6] = [
     ("html", Show::Html),
     ("text", Show::Text),
     ("md", Show::Markdown),
+    ("commonmark", Show::CommonMark),
     ("count", Show::Count),
     ("csv", Show::Csv),
 ];

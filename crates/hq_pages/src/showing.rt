@@ -5,6 +5,8 @@ use crate::csv_rows::csv_of;
 use crate::faults::{Fault, shown};
 use crate::json::{shown_as, summary_json};
 use crate::options::{Printing, Show};
+use dom_commonmark::options::Options;
+use dom_commonmark::writer::{commonmark, commonmark_inside, is_block};
 use dom_query::{NodeMarkup, NodeRef, serialize_md};
 use std::alloc::Global;
 
@@ -27,7 +29,21 @@ pub fn answer_of(
     let Some(text) = text_of(node, printing)? else {
         return none_as(alloc, printing.json);
     };
+    if let Show::CommonMark = printing.show
+        && !printing.json
+    {
+        return Ok(Some(apart(text, !printing.inner && is_block(node))?));
+    }
     Ok(Some(shown_as(alloc, text, printing.json)?))
+}
+
+/// Returns the text of a match, with an empty line after it if the match is a block.
+fn apart(text: String, is_block: bool) -> Result<String, Fault> {
+    let mut text = text;
+    if is_block {
+        text.push('\n')?;
+    }
+    Ok(text)
 }
 
 /// Returns what is printed for a missing attribute: `null` in JSON, where each match has an answer,
@@ -47,10 +63,19 @@ pub fn text_of(node: &NodeRef<'_>, printing: Printing<'_>) -> Result<Option<Stri
         Show::Attr(name) => attr_of(alloc, node, name, printing.trims),
         Show::Text => Ok(Some(trimmed(alloc, node.text()?, printing.trims)?)),
         Show::Markdown => Ok(Some(markdown_of(alloc, node, printing.inner)?.0)),
+        Show::CommonMark => Ok(Some(commonmark_of(alloc, node, printing.inner)?)),
         Show::Csv => Ok(Some(csv_of(node)?)),
         _ if printing.inner => Ok(Some(node.inner_html()?)),
         _ => Ok(Some(node.html()?)),
     }
+}
+
+/// Returns a match as CommonMark, or what is inside it.
+pub fn commonmark_of(alloc: Global, node: &NodeRef<'_>, inner: bool) -> Result<String, Fault> {
+    if inner {
+        return Ok(commonmark_inside(alloc, node, &Options::new())?);
+    }
+    Ok(commonmark(alloc, node, &Options::new())?)
 }
 
 /// Returns what is printed of a match as Markdown. A block, such as a paragraph, is followed by an
