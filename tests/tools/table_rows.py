@@ -501,7 +501,7 @@ OPTION_ROWS = {
     "html": (["--html", "p"], "<p>1<b>2", "<p>1<b>2</b></p>\n"),
     "inner": (["--inner", "p"], "<p>1<b>2", "1<b>2</b>\n"),
     "text": (["--text", "p"], "<p>1<b>2", "12\n"),
-    "commonmark": (["--commonmark", "p"], "<p>1<b>2</b> *", "1**2** \\*\n\n"),
+    "commonmark": (["--commonmark", "p"], "<p>1<b>2</b>", "1**2**\n\n"),
     "md": (["--md", "p"], "<p>1<b>2", "1**2**\n\n"),
     "attr": (["--attr", "a", "p"], "<p a=1><p b=2>", "1\n"),
     "count": (["--count", "p"], "<p a=1><p b=2>", "2\n"),
