@@ -78,15 +78,27 @@ address-kept policy left none is =
 
 -- ---- the value that is left
 
+class-is-none : is_among (codes "class") address_names ≡ false
+unfolding address_names
+class-is-none = refl
+
+id-is-none : is_among (codes "id") address_names ≡ false
+unfolding address_names
+id-is-none = refl
+
 module _ (policy : Policy) (name left : List ℕ) (stays : cleaned_value policy name left ≡ Some left) where
   as-address : is_among name address_names ≡ true → cleaned_address policy left ≡ Some left
   as-address is = sym (ap (λ b. cond b (cleaned_address policy left) (cond (bytes_eq name (codes "class")) (cleaned_classes policy.classes left) (cond (bytes_eq name (codes "id")) (Some (prefixed policy.id_prefix left)) (Some left)))) is) ∙ stays
 
   pub as-classes : name ≡ codes "class" → HasAllowedClasses policy.classes left
-  as-classes is = classes-allowed policy.classes left (subst (λ (n : List ℕ). cleaned_value policy n left ≡ Some left) is stays)
+  as-classes is =
+      classes-allowed policy.classes left
+      (sym (ap (λ b. cond b (cleaned_address policy left) (cleaned_classes policy.classes left)) class-is-none) ∙ subst (λ (n : List ℕ). cleaned_value policy n left ≡ Some left) is stays)
 
   pub as-id : name ≡ codes "id" → starts_with nat_eq left policy.id_prefix ≡ true
-  as-id is = id-begins policy left (subst (λ (n : List ℕ). cleaned_value policy n left ≡ Some left) is stays)
+  as-id is =
+      id-begins policy left
+      (sym (ap (λ b. cond b (cleaned_address policy left) (Some (prefixed policy.id_prefix left))) id-is-none) ∙ subst (λ (n : List ℕ). cleaned_value policy n left ≡ Some left) is stays)
 
   pub value-allowed : (is_among name address_names ≡ true → LeadsWell policy left) → IsAllowedValue policy name left
   value-allowed wells = record { leads = wells; relative = λ is none. address-kept policy left none (as-address is); classes = as-classes; prefix = as-id }
