@@ -18,7 +18,7 @@ sys.dont_write_bytecode = True
 import edits  # noqa: E402
 import minutes  # noqa: E402
 
-FIRST = {"dom_nodes", "dom_links", "dom_trees", "page_tokens", "page_trees", "standard_laws", "dom_clean", "hq_pages", "c_state", "dom_query_c"}
+FIRST = {"dom_nodes", "dom_links", "dom_trees", "dom_article", "page_tokens", "page_trees", "standard_laws", "dom_clean", "hq_pages", "c_state", "dom_query_c"}
 
 
 def has(owner, call, *names):

@@ -1,2 +1,5 @@
+pub mod Best
 pub mod Hidden
 pub mod Pruned
+pub mod Sums
+pub mod Texts

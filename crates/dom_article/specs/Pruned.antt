@@ -1,9 +1,10 @@
 -- Which nodes of a page an article keeps.
-use Rattle.std.specs.Prelude.{ℕ, ◌≡◌, ◌⊎◌, Bool, true, false, List, Some, slice_index_or}
+use Rattle.std.specs.Prelude.{ℕ, ◌≡◌, ◌⊎◌, ◌&&◌, not, Bool, true, false, List, Some, slice_index_or, slice_set, if◌then◌else◌}
+use Rattle.std.specs.Option.{option_map_or}
 use Rattle.dom_links.specs.Forest.{Forest, parent}
 use Rattle.dom_links.specs.Lists.{is_member}
 use Rattle.dom_links.specs.Trees.{descendants_in_order}
-use Rattle.dom_article.specs.Hidden.{IsHidden}
+use Rattle.dom_article.specs.Hidden.{IsHidden, hidden_at}
 
 -- Whether node n is marked.
 abbrev pub marked : List Bool → ℕ → Bool
@@ -40,6 +41,15 @@ AreAmong marks others = (n : ℕ) → marked marks n ≡ true → marked others 
 -- The node has a marked parent.
 abbrev pub HasMarkedParent : Forest → List Bool → ℕ → Type 0
 HasMarkedParent forest marks n = (p : ℕ) × (parent forest n ≡ Some p) × (marked marks p ≡ true)
+
+-- Whether the node has a marked parent.
+abbrev pub is_below_marked : Forest → ℕ → List Bool → Bool
+is_below_marked forest n marks = option_map_or (marked marks) (parent forest n) false
+
+-- The marks with node n marked too, if it isn't hidden itself and its parent is marked.
+abbrev pub with_shown : Forest → ℕ → List Bool → List Bool
+with_shown forest n marks =
+    if not (hidden_at forest n) && is_below_marked forest n marks then slice_set marks n true else marks
 
 -- What an article keeps of a page: the tree below the root with subtrees left out, and nothing that
 -- is hidden.

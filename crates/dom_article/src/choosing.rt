@@ -1,7 +1,10 @@
 //! The choice of a round: the best block, the root of the article, and what joins it.
 
+ghost use Rattle.std.specs.Prelude.{◌≡◌};
+ghost use Rattle.dom_article.specs.Best.{IsBestOf, beats, is_candidate, may_be_best, score_at};
+
 use crate::kinds::Tag;
-use crate::page::Page;
+use crate::page::{Facts, Page};
 use crate::rounds::Round;
 use crate::sums::Sums;
 use crate::tables::{ENOUGH, JOIN, POINT, SHORTEST_RUN};
@@ -56,34 +59,56 @@ fn largest_main(page: &Page<'_>, round: &Round) -> Option<NodeId> {
 }
 
 /// Returns whether a node may be the best block.
-fn is_candidate(page: &Page<'_>, round: &Round, id: NodeId) -> bool {
+fn is_candidate(page: &Page<'_>, round: &Round, id: NodeId) -> bool
+    ensures { result ≡ is_candidate page.now round.now id }
+{
     if round.is_gone(id) {
         return false;
     }
-    let sums = round.at(id);
-    match page.tag(id) {
-        Tag::Body => !sums.is_inline,
+    may_be_best(page.at(id), round.at(id))
+}
+
+/// Returns whether a node that isn't gone may be the best block: any block but the document, `html`
+/// and leaves without a score; `body` always.
+fn may_be_best(facts: &Facts, sums: &Sums) -> bool
+    ensures { result ≡ may_be_best facts.now sums.now }
+{
+    if sums.is_inline {
+        return false;
+    }
+    match facts.kind.tag {
+        Tag::Body => true,
         Tag::Document | Tag::Html | Tag::Text => false,
-        _ => !sums.is_inline && (!sums.is_leaf || sums.score != 0),
+        _ => !sums.is_leaf || sums.score != 0,
     }
 }
 
 /// Returns the first of the candidates with the greatest score.
-fn first_greatest(page: &Page<'_>, round: &Round) -> Option<NodeId> {
+fn first_greatest(page: &Page<'_>, round: &Round) -> Option<NodeId>
+    ensures { IsBestOf (is_candidate page.now round.now) (score_at round.now)
+        page.now.order.items result }
+{
     let mut greatest: Option<NodeId> = None;
     for id in &page.order {
-        if !is_candidate(page, round, *id) {
-            continue;
-        }
-        let is_greater = match greatest {
-            Some(other) => round.at(*id).score > round.at(other).score,
-            None => true,
-        };
-        if is_greater {
+        if beats(page, round, &greatest, *id) {
             greatest = Some(*id);
         }
     }
     greatest
+}
+
+/// Returns whether a node is a candidate with a greater score than the greatest one so far.
+fn beats(page: &Page<'_>, round: &Round, greatest: &Option<NodeId>, id: NodeId) -> bool
+    ensures { result ≡ beats (is_candidate page.now round.now) (score_at round.now)
+        greatest.now id }
+{
+    if !is_candidate(page, round, id) {
+        return false;
+    }
+    match greatest {
+        Some(best) => round.at(*best).score < round.at(id).score,
+        None => true,
+    }
 }
 
 /// Returns the outermost one of a block and its ancestors below `body` that has two thirds of its

@@ -7,8 +7,8 @@ use dom_nodes::node_id::NodeId;
 use dom_trees::tree::Tree;
 
 /// Returns a document with a copy of the kept nodes of a tree: its only child is the copy of the
-/// root, and each other copy is a child of its parent's copy. Fails when memory or node ids run
-/// out.
+/// root, and each other copy is a child of its parent's copy. The document itself is the copy of a
+/// root that is a document or a fragment. Fails when memory or node ids run out.
 pub(crate) fn copy_kept(tree: &Tree, root: NodeId, kept: &[bool]) -> Result<Tree, EditFault> {
     let alloc = tree.allocator();
     let mut copy = Tree::new(alloc, NodeData::Document)?;
@@ -16,7 +16,9 @@ pub(crate) fn copy_kept(tree: &Tree, root: NodeId, kept: &[bool]) -> Result<Tree
         return Err(EditFault::Memory);
     };
     let top = copy.root_id();
-    copy_node(tree, root, top, &mut copy, &mut places)?;
+    if !is_top(tree, root) {
+        copy_node(tree, root, top, &mut copy, &mut places)?;
+    }
     for id in tree.descendant_ids_of_it(&root) {
         if !is_marked(kept, id) {
             continue;
@@ -33,6 +35,14 @@ pub(crate) fn copy_kept(tree: &Tree, root: NodeId, kept: &[bool]) -> Result<Tree
         }
     }
     Ok(copy)
+}
+
+/// Returns whether a node is a document or a fragment.
+fn is_top(tree: &Tree, id: NodeId) -> bool {
+    match tree.tree_node(&id) {
+        Some(node) => matches!(node.content, NodeData::Document | NodeData::Fragment),
+        None => false,
+    }
 }
 
 /// Copies a node to the end of the children of `place`.

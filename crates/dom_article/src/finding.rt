@@ -1,12 +1,13 @@
 //! The search for the article of a page.
 
-ghost use Rattle.std.specs.Prelude.{◌≡◌, IfOk, IfSome};
-ghost use Rattle.dom_article.specs.Pruned.{IsExtract, marked};
+ghost use Rattle.std.specs.Prelude.{◌≡◌, IfOk, MatchOption};
+ghost use Rattle.dom_article.specs.Pruned.{marked};
+ghost use Rattle.dom_article.specs.Texts.{IsArticle, ShowsNoText};
 
 use crate::choosing::{Choice, choose};
 use crate::copies::copy_kept;
 use crate::kinds::Tag;
-use crate::marking::{extract, is_marked};
+use crate::marking::{all_shown, extract, is_marked, keeps_text};
 use crate::metadata::{Known, Metadata, collapsed, metadata_of};
 use crate::page::Page;
 use crate::rounds::{Round, Rules};
@@ -33,8 +34,8 @@ pub struct Article {
 /// Returns the article of a page, or `None` if no text of the page is shown. Fails only when memory
 /// runs out.
 pub fn article_of(tree: &Tree) -> Result<Option<Article>, OutOfMemory>
-    ensures { IfOk result (λ found. IfSome found
-        (λ article. IsExtract tree.now article.root article.kept.items)) }
+    ensures { IfOk result (λ found. MatchOption found (ShowsNoText tree.now)
+        (λ article. IsArticle tree.now article.root article.kept.items)) }
 {
     article_of_known(tree, &Known::NOTHING)
 }
@@ -42,22 +43,52 @@ pub fn article_of(tree: &Tree) -> Result<Option<Article>, OutOfMemory>
 /// Returns the article of a page of which the caller knows more, or `None` if no text of the page
 /// is shown. Fails only when memory runs out.
 pub fn article_of_known(tree: &Tree, known: &Known<'_>) -> Result<Option<Article>, OutOfMemory>
-    ensures { IfOk result (λ found. IfSome found
-        (λ article. IsExtract tree.now article.root article.kept.items)) }
+    ensures { IfOk result (λ found. MatchOption found (ShowsNoText tree.now)
+        (λ article. IsArticle tree.now article.root article.kept.items)) }
 {
     let page = Page::new(tree)?;
     let metadata = metadata_of(&page, known)?;
-    let Some(mut found) = found_in(&page)? else {
+    if let Some(found) = found_for(&page, &metadata)? {
+        let kept = extract(tree, found.root, &found.around, &found.wanted)?;
+        if keeps_text(tree, &kept) {
+            return Ok(Some(Article {
+                metadata,
+                root: found.root,
+                sure: found.sure,
+                kept,
+            }));
+        }
+    }
+    let Some(kept) = whole(tree)? else {
         return Ok(None);
     };
-    found.leave_out_title(&page, &metadata)?;
-    let kept = extract(tree, found.root, &found.around, &found.wanted)?;
     Ok(Some(Article {
         metadata,
-        root: found.root,
-        sure: found.sure,
+        root: tree.root_id(),
+        sure: false,
         kept,
     }))
+}
+
+/// Returns the marks of all that is shown of a page, or `None` if no text of it is shown.
+fn whole(tree: &Tree) -> Result<Option<Vec<bool>>, OutOfMemory>
+    ensures { IfOk result (λ found. MatchOption found (ShowsNoText tree.now)
+        (λ kept. IsArticle tree.now 0 kept.items)) }
+{
+    let kept = all_shown(tree)?;
+    if !keeps_text(tree, &kept) {
+        return Ok(None);
+    }
+    Ok(Some(kept))
+}
+
+/// Returns what the rounds find, without the heading that says the title again.
+fn found_for(page: &Page<'_>, metadata: &Metadata) -> Result<Option<Found>, OutOfMemory> {
+    let Some(mut found) = found_in(page)? else {
+        return Ok(None);
+    };
+    found.leave_out_title(page, metadata)?;
+    Ok(Some(found))
 }
 
 /// What a round found.
@@ -209,7 +240,8 @@ impl Article {
     }
 
     /// Returns a document with a copy of the kept nodes, whose only child is the copy of the root.
-    /// `tree` is the tree of the page. Fails when memory or node ids run out.
+    /// If the root is the document of the page, it is the copy of that. `tree` is the tree of the
+    /// page. Fails when memory or node ids run out.
     pub fn copy(&self, tree: &Tree) -> Result<Tree, EditFault> {
         copy_kept(tree, self.root, &self.kept)
     }

@@ -7,6 +7,7 @@ mod copies;
 mod finding;
 mod hidden;
 mod kinds;
+pub mod laws;
 mod marking;
 mod metadata;
 mod page;

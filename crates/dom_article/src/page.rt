@@ -1,5 +1,9 @@
 //! What is known of each node of a page before it is judged in rounds.
 
+ghost use Rattle.std.specs.Prelude.{◌≡◌};
+ghost use Rattle.dom_article.specs.Best.{facts_at};
+
+use crate::hidden::{hides, is_fallback_class};
 use crate::kinds::{Kind, Kinds, Tag};
 use crate::tables::{HINT, ROLES};
 use crate::texts::TextFacts;
@@ -119,7 +123,9 @@ impl<'t> Page<'t> {
     }
 
     /// Returns what is known of a node.
-    pub(crate) fn at(&self, id: NodeId) -> &Facts {
+    pub(crate) fn at(&self, id: NodeId) -> &Facts
+        ensures { result.now ≡ facts_at self.now.facts.items id }
+    {
         match self.facts.get(id.value()) {
             Some(facts) => facts,
             None => &UNKNOWN,
@@ -263,37 +269,8 @@ impl<'a> Attributes<'a> {
         if self.hidden || self.aria_modal || hides(self.style) {
             return true;
         }
-        self.aria_hidden && !self.class.contains("fallback-image")
+        self.aria_hidden && !is_fallback_class(self.class)
     }
-}
-
-/// Returns whether a style says that the element isn't shown.
-fn hides(style: &str) -> bool {
-    if style.is_empty() {
-        return false;
-    }
-    has_declaration(style, b"display:none") || has_declaration(style, b"visibility:hidden")
-}
-
-/// Returns whether a style has these characters, where white space and case don't count.
-fn has_declaration(style: &str, wanted: &[u8]) -> bool {
-    let mut met = 0;
-    for byte in style.as_bytes() {
-        if byte.is_ascii_whitespace() {
-            continue;
-        }
-        let small = byte.to_ascii_lowercase();
-        if wanted.get(met).copied() != Some(small) {
-            met = 0;
-        }
-        if wanted.get(met).copied() == Some(small) {
-            met = met.saturating_add(1);
-        }
-        if met == wanted.len() {
-            return true;
-        }
-    }
-    false
 }
 
 /// Returns what is known of an element by itself.

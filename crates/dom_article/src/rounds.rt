@@ -1,5 +1,8 @@
 //! A round: which nodes are gone, and what is added up of the others.
 
+ghost use Rattle.std.specs.Prelude.{◌≡◌};
+ghost use Rattle.dom_article.specs.Best.{is_gone, sums_at};
+
 use crate::kinds::Tag;
 use crate::page::{Facts, Page};
 use crate::sums::{Run, Sums};
@@ -47,7 +50,9 @@ impl Round {
     }
 
     /// Returns whether a node is gone.
-    pub(crate) fn is_gone(&self, id: NodeId) -> bool {
+    pub(crate) fn is_gone(&self, id: NodeId) -> bool
+        ensures { result ≡ is_gone self.now id }
+    {
         match self.gone.get(id.value()) {
             Some(gone) => *gone,
             None => true,
@@ -55,7 +60,9 @@ impl Round {
     }
 
     /// Returns what was added up of a node.
-    pub(crate) fn at(&self, id: NodeId) -> &Sums {
+    pub(crate) fn at(&self, id: NodeId) -> &Sums
+        ensures { result.now ≡ sums_at self.now.sums.items id }
+    {
         match self.sums.get(id.value()) {
             Some(sums) => sums,
             None => &NOTHING,

@@ -1,5 +1,9 @@
 //! What is added up of a node, and of a run of texts.
 
+ghost use Rattle.std.specs.Prelude.{◌≡◌, ◌≤◌, ◌*◌, ◌/◌, ◌&&◌};
+ghost use Rattle.dom_article.specs.Sums.{AddsBlock, AddsInline, AddsRun, AddsToRun};
+ghost use Rattle.dom_article.specs.Sums.{is_of_links, is_paragraph, one_if, weight, weight_if};
+
 use crate::tables::{LINK_RUN, PARAGRAPH, POINT, SHORTEST_RUN};
 
 /// A longest sequence of inline children of a block, without a block between them and without two
@@ -26,7 +30,9 @@ impl Run {
     };
 
     /// Adds what an inline node has.
-    pub(crate) fn add(&mut self, sums: &Sums) {
+    pub(crate) fn add(&mut self, sums: &Sums)
+        ensures { AddsToRun self.old sums.now self.new }
+    {
         self.size = self.size.saturating_add(sums.size);
         self.link = self.link.saturating_add(sums.link);
         self.commas = self.commas.saturating_add(sums.commas);
@@ -37,45 +43,82 @@ impl Run {
     }
 
     /// Returns whether it is a paragraph: long, with few links, and no notice of a copyright.
-    pub(crate) fn is_paragraph(&self) -> bool {
-        self.size >= PARAGRAPH && self.link < self.size.div_ceil(4) && !self.copyright
+    pub(crate) fn is_paragraph(&self) -> bool
+        ensures { result ≡ is_paragraph self.now }
+    {
+        if self.copyright || self.size < PARAGRAPH {
+            return false;
+        }
+        (self.link as u64) * 4 < self.size as u64
+    }
+
+    /// Returns how many paragraphs it is, where runs count: one or none.
+    fn paragraphs(&self, counts: bool) -> u32
+        ensures { result ≡ one_if (counts && is_paragraph self.now) }
+    {
+        if !counts {
+            return 0;
+        }
+        one_if(self.is_paragraph())
     }
 
     /// Returns whether it is a run of links.
-    pub(crate) fn is_of_links(&self) -> bool {
-        self.size >= LINK_RUN && self.link >= self.size.saturating_sub(self.size / 5)
+    pub(crate) fn is_of_links(&self) -> bool
+        ensures { result ≡ is_of_links self.now }
+    {
+        if self.size < LINK_RUN {
+            return false;
+        }
+        (self.size as u64) * 4 <= (self.link as u64) * 5
     }
 
     /// Returns what it adds to the score of its block, in rounds that leave out bad blocks and in
     /// rounds that don't.
-    pub(crate) fn weight(&self, cleans: bool) -> u64 {
+    pub(crate) fn weight(&self, cleans: bool) -> u64
+        ensures { result ≡ weight cleans self.now }
+    {
         if self.copyright {
             return 0;
         }
         let size = self.size as u64;
         let commas = self.commas as u64;
-        let length = POINT.saturating_mul(size) / 80;
+        let length = POINT * size / 80;
         if !cleans {
-            let all = commas.saturating_add(1).saturating_mul(POINT);
-            return all.saturating_add(length);
+            return (commas + 1) * POINT + length;
         }
         if self.size < SHORTEST_RUN {
             return 0;
         }
-        let all = commas.saturating_add(2).saturating_mul(POINT);
-        let whole = all.saturating_add(length.min(3 * POINT));
+        let whole = (commas + 2) * POINT + length.min(3 * POINT);
         share(whole, self.size.saturating_sub(self.link), self.size)
+    }
+
+    /// Returns its weight, where runs weigh; otherwise 0.
+    fn weight_if(&self, weighs: bool, cleans: bool) -> u64
+        ensures { result ≡ weight_if weighs cleans self.now }
+    {
+        if weighs { self.weight(cleans) } else { 0 }
     }
 }
 
-/// Returns `whole * part / all`, rounded down, or 0 if `all` is 0.
-pub(crate) fn share(whole: u64, part: u32, all: u32) -> u64 {
+/// Returns one if it is so, otherwise 0.
+fn one_if(is_so: bool) -> u32
+    ensures { result ≡ one_if is_so }
+{
+    if is_so { 1 } else { 0 }
+}
+
+/// Returns `whole * part / all`, rounded down; 0 if `all` is 0.
+pub(crate) fn share(whole: u64, part: u32, all: u32) -> u64
+    requires { part ≤ all }
+    ensures is { result ≡ whole * part / all }
+    ensures small { result ≤ whole }
+{
     if all == 0 {
         return 0;
     }
     let (part, all) = (part as u64, all as u64);
-    let front = (whole / all).saturating_mul(part);
-    front.saturating_add((whole % all).saturating_mul(part) / all)
+    (whole / all) * part + (whole % all) * part / all
 }
 
 /// What is added up of a node and what is below it.
@@ -130,7 +173,9 @@ impl Sums {
     };
 
     /// Adds what an inline child of an inline node has.
-    pub(crate) fn add_inline(&mut self, below: &Sums) {
+    pub(crate) fn add_inline(&mut self, below: &Sums)
+        ensures { AddsInline self.old below.now self.new }
+    {
         self.size = self.size.saturating_add(below.size);
         self.link = self.link.saturating_add(below.link);
         self.commas = self.commas.saturating_add(below.commas);
@@ -142,7 +187,9 @@ impl Sums {
     }
 
     /// Adds what a child has that is a block and isn't bad.
-    pub(crate) fn add_block(&mut self, below: &Sums) {
+    pub(crate) fn add_block(&mut self, below: &Sums)
+        ensures { AddsBlock self.old below.now self.new }
+    {
         self.size = self.size.saturating_add(below.size);
         self.link = self.link.saturating_add(below.link);
         self.commas = self.commas.saturating_add(below.commas);
@@ -163,21 +210,18 @@ impl Sums {
     }
 
     /// Adds a run of the block. `weighs` says that its text counts, as it does outside of headings.
-    pub(crate) fn add_run(&mut self, run: &Run, weighs: bool, cleans: bool) {
+    pub(crate) fn add_run(&mut self, run: &Run, weighs: bool, cleans: bool)
+        ensures { AddsRun weighs cleans self.old run.now self.new }
+    {
         self.size = self.size.saturating_add(run.size);
         self.link = self.link.saturating_add(run.link);
         self.commas = self.commas.saturating_add(run.commas);
         self.ends = run.ends;
-        if run.is_of_links() {
-            self.link_runs = self.link_runs.saturating_add(1);
-        }
-        if !weighs {
-            return;
-        }
-        self.raw = self.raw.saturating_add(run.weight(cleans));
-        if run.is_paragraph() {
-            self.in_paragraphs = self.in_paragraphs.saturating_add(run.size);
-            self.paragraphs = self.paragraphs.saturating_add(1);
-        }
+        self.link_runs = self.link_runs.saturating_add(one_if(run.is_of_links()));
+        let paragraphs = run.paragraphs(weighs);
+        self.paragraphs = self.paragraphs.saturating_add(paragraphs);
+        let in_paragraphs = if paragraphs == 0 { 0 } else { run.size };
+        self.in_paragraphs = self.in_paragraphs.saturating_add(in_paragraphs);
+        self.raw = self.raw.saturating_add(run.weight_if(weighs, cleans));
     }
 }

@@ -1,5 +1,8 @@
 //! What counts of a text: its size, its commas, and how it ends.
 
+ghost use Rattle.std.specs.Prelude.{◌≡◌};
+ghost use Rattle.dom_article.specs.Texts.{is_blank, is_visible};
+
 /// What counts of a text.
 #[derive(Clone, Copy, Drop)]
 pub(crate) struct TextFacts {
@@ -67,12 +70,38 @@ impl TextFacts {
 
 /// Returns what a character adds to the size of a text.
 fn size_of(c: char) -> u32 {
+    if is_blank(c) {
+        return 0;
+    }
     match c {
-        '\0'..=' ' | '\u{85}' | '\u{a0}' | '\u{1680}' | '\u{2000}'..='\u{200b}' => 0,
-        '\u{2028}' | '\u{2029}' | '\u{202f}' | '\u{205f}' | '\u{3000}' | '\u{feff}' => 0,
         '\u{2e80}'..='\u{ffef}' => 2,
         _ => 1,
     }
+}
+
+/// Returns whether a text has a character that leaves a mark.
+pub(crate) fn is_visible(text: &str) -> bool
+    ensures { result ≡ is_visible text.now }
+{
+    text.chars().any(|c| !is_blank(c))
+}
+
+/// Returns whether a character leaves no mark: a control character, white space, or one without
+/// width.
+fn is_blank(c: char) -> bool
+    ensures { result ≡ is_blank c }
+{
+    let number = c as u32;
+    if number <= 0x20 || number == 0x85 || number == 0xa0 || number == 0x1680 {
+        return true;
+    }
+    if number >= 0x2000 && number <= 0x200b {
+        return true;
+    }
+    if number == 0x2028 || number == 0x2029 || number == 0x202f || number == 0x205f {
+        return true;
+    }
+    number == 0x3000 || number == 0xfeff
 }
 
 /// Returns whether the character ends a sentence.
