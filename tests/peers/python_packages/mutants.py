@@ -151,7 +151,7 @@ def shown(folder, mutant):
 def run(folder, part, of):
     copied = folder / f"part{part}"
     shutil.rmtree(copied, ignore_errors=True)
-    for name in ("python", "include", "tests/tools", "tests/rows/dq", "tests/rows/test_clean", "crates/dom_clean/src", "examples"):
+    for name in ("python", "include", "tests/tools", "tests/rows/dq", "tests/rows/test_calls/clean", "crates/dom_clean/src", "examples"):
         shutil.copytree(ROOT / name, copied / name, ignore=shutil.ignore_patterns("__pycache__"))
     shutil.copy(ROOT / "VERSION", copied)
     outcome = []
