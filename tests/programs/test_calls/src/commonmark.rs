@@ -43,7 +43,12 @@ fn page(rt: &HostRuntime, words: &[String]) -> Option<()> {
     }
     options.tables = !has(words, "contents");
     let markup = input(rt)?;
-    let page = parse_page(rt.alloc(), markup.as_str(), page_reading::Options::default()).ok()?;
+    let page = parse_page(
+        rt.alloc(),
+        markup.as_str(),
+        page_reading::Options::default(),
+    )
+    .ok()?;
     let text = commonmark(rt.alloc(), &page.root(), &options).ok()?;
     let out = text.as_str();
     print!(rt; "{out}").ok()
