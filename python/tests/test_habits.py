@@ -533,5 +533,36 @@ class Pieces(unittest.TestCase):
         gc.collect()
 
 
+class Whole(unittest.TestCase):
+    """Calls on a whole document, and arguments of another type."""
+
+    def test_bytes_and_texts(self):
+        with self.assertRaisesRegex(TypeError, r"bytes are wanted, not a str; write parse\(html\)"):
+            dom_query.parse_bytes("<p>")
+        for rule in ("relative", "link_rel", "id_prefix"):
+            with self.subTest(rule=rule), self.assertRaisesRegex(TypeError, f"{rule} is a str, and not 5"):
+                dom_query.Policy(**{rule: 5})
+
+    def test_a_whole_document_is_written(self):
+        page = dom_query.parse("<!doctype html><p>é")
+        whole = "<!DOCTYPE html><html><head></head><body><p>é</p></body></html>"
+        self.assertEqual((page.html, page.html_bytes()), (whole, whole.encode()))
+        written = io.BytesIO()
+        page.write_html(written)
+        self.assertEqual(written.getvalue(), whole.encode())
+
+    def test_a_document_is_closed_after_a_block(self):
+        with dom_query.parse("<p>") as page:
+            self.assertEqual(page.select_one("p").name, "p")
+        with self.assertRaises(dom_query.ClosedError):
+            page.select("p")
+
+    def test_every_exported_name_is_there(self):
+        for name in dom_query.__all__:
+            self.assertTrue(hasattr(dom_query, name), name)
+        for name in ("Node", "Document", "Policy", "Selector", "PageReader", "EditError", "parse", "clean"):
+            self.assertIn(name, dom_query.__all__)
+
+
 if __name__ == "__main__":
     unittest.main()
