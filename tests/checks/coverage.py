@@ -22,8 +22,8 @@ sys.path.insert(0, str(pathlib.Path(__file__).resolve().parents[1] / "tools"))
 from rows import PARTS, ROOT  # noqa: E402
 
 CRATES, TEST_PROGRAM = ROOT / "crates", ROOT / "tests" / "programs" / "test_calls" / "src"
-# The crates that are programs, with the library of `hq`.
-ROOTS = ("callers", "examples", "dq", "hq", "hq_pages")
+# The crates that are programs, the library of `hq`, and the examples.
+ROOTS = ("examples", "dq", "hq", "hq_pages")
 # Public functions that no program calls, with the reason. One that a program calls is a fault here.
 UNCALLED = {
     ("Tree", "move_allowed"): "its caller proves that the move is allowed, which only tree construction (page_trees) does",

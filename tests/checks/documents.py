@@ -6,8 +6,8 @@ A fenced block is checked by the words after its fence:
   built programs `hq` and `dq` on the PATH. It must end with status 0 (a line may end in `|| true` where it is meant to fail).
 - `sh build`: commands that build something, which aren't run here.
 - `text output`, or another word before `output`: what the `sh` block before it must print, on standard output and standard error.
-- `rust`: part of a file of crates/examples/src or crates/callers/src, line for line, apart from its indentation.
-- `text`: part of what the program `examples` prints.
+- `rust`: part of a file of crates/examples/src, line for line, apart from its indentation.
+- `text`: part of tests/programs/print_examples/stdout, which is what the program `print_examples` must print.
 - `python`: run by python3, where the Python package has its library (`python output` is compared like `text output`).
 - `c` and `c output`: built and run by tests/checks/c_and_python.py.
 - Any other word (`ebnf`, `toml`, `html`, `css`): shown, not checked.
@@ -26,7 +26,7 @@ sys.path.insert(0, str(pathlib.Path(__file__).resolve().parents[1] / "tools"))
 from rows import ROOT, built  # noqa: E402
 
 EXAMPLES = ROOT / "crates" / "examples"
-CALLERS = ROOT / "crates" / "callers"
+PRINTED = ROOT / "tests" / "programs" / "print_examples" / "stdout"
 SHOWN = {"ebnf", "shown", "toml", "html", "css", "json", "yaml", "make", "diff", "markdown", "antt", "contracts"}
 SECONDS = 120
 
@@ -106,9 +106,9 @@ def faults_of(page, sources, printed_by_examples, counted):
             elif words == ["python"]:
                 printed, fault = fault_of_run(block, words, folder)
             elif words[0] == "rust":
-                fault = None if any(is_part_of(block, text) for text in sources) else "no file of the quoted crates has this"
+                fault = None if any(is_part_of(block, text) for text in sources) else "no file of crates/examples/src has this"
             elif words == ["text"]:
-                fault = None if is_part_of(block, printed_by_examples) else "the program `examples` doesn't print this"
+                fault = None if is_part_of(block, printed_by_examples) else "the program `print_examples` doesn't print this"
             elif words[0] not in {"sh", "python", *SHOWN}:
                 fault = f"unknown word {words[0]!r} after the fence"
             else:
@@ -145,10 +145,11 @@ def broken_links(page, counted):
 
 def documents():
     """Checks all pages, and returns how many blocks and links are right and wrong."""
-    files = [file for crate in (EXAMPLES, CALLERS) for file in sorted((crate / "src").glob("*.rt"))]
-    sources = [file.read_text(encoding="utf-8") for file in files]
-    printed = (EXAMPLES / "stdout").read_text(encoding="utf-8")
-    counted, faults = [0], []
+    sources = [file.read_text(encoding="utf-8") for file in sorted((EXAMPLES / "src").rglob("*.rt"))]
+    printed = PRINTED.read_text(encoding="utf-8")
+    ran = subprocess.run([built("print_examples")], stdin=subprocess.DEVNULL, capture_output=True, timeout=SECONDS)
+    is_printed = ran.returncode == 0 and ran.stdout.decode("utf-8", "replace") == printed
+    counted, faults = [1], [] if is_printed else [f"print_examples doesn't print {PRINTED.relative_to(ROOT)}"]
     for page in dict.fromkeys(pages()):
         faults += faults_of(page, sources, printed, counted)
         faults += broken_links(page, counted)

@@ -4,7 +4,7 @@ It does this, in this order:
 
 1. It runs the gate, `rt ci` (through tests/tools/gate.py), which proves every crate and runs every program once. Beside it,
    tests/tools/edits.py tries the must-fail edits of each crate as soon as the gate has proved it, and tests/tools/programs.py builds
-   the test program, which is not proved.
+   the programs of tests/programs, which are not proved.
 2. It runs the built programs on rows. A row is a line of JSON in tests/rows/PROGRAM/*.jsonl (for a part of the test program, in
    tests/rows/test_calls/PART/*.jsonl), or in tests/html5lib/*.jsonl (html5lib's tests of tree construction, which are rows of the
    program `hq`).
@@ -13,8 +13,8 @@ It does this, in this order:
 4. Where nothing failed, it leaves a record of that for `./release` in out/gate-passed.json (tests/tools/passed.py).
 
 `check --rows` leaves out the gate and the record. `check --quick` leaves them out, too, and builds the programs without proofs: it needs nothing that
-was built before, and leaves out the library for C with the package for Python, which are built of what was proved, the programs
-of crates/examples, and the callers of tests/must-not-compile. `check --edits` tries the must-fail edits, too, that were refused before over the same files, and then
+was built before, and leaves out the library for C with the package for Python, which are built of what was proved, and the callers
+of tests/must-not-compile. `check --edits` tries the must-fail edits, too, that were refused before over the same files, and then
 writes tests/must-fail/refused.txt, where it finds them the next time. What an earlier run on this machine showed of the same files is kept; `check --anew`
 shows all of it again.
 

@@ -6,7 +6,7 @@ SECONDS = 60
 # The parts of the test program, of which its first argument chooses one; the rows of each are a folder of its name.
 PARTS = ("batch", "calls", "clean", "commonmark", "encodings", "queries", "times")
 # The programs that programs.py built unproved; the gate proved and built the others. `check --quick` adds to these.
-UNPROVED = {"test_calls"}
+UNPROVED = {"print_examples", "test_calls"}
 
 
 def built(name):

@@ -11,6 +11,7 @@ ghost use Rattle.c_state.specs.Neighbours.{IsFirst, along, neighbour};
 use crate::bytes::as_text;
 use crate::fault::Fault;
 use crate::state::State;
+use dom_index::selecting::select_ids;
 use dom_query::prelude::*;
 
 impl State {
@@ -31,8 +32,8 @@ impl State {
     {
         let root = self.node(root)?;
         let selectors = as_text(selectors)?;
-        let found = Selection::from(self.document.tree.get_unchecked(&root)).select(selectors)?;
-        let ids = found.ids()?;
+        let matcher = Matcher::new(self.document.tree.allocator(), selectors)?;
+        let ids = select_ids(&self.document.tree, &[root], &matcher)?;
         Ok(ids)
     }
 

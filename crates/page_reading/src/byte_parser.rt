@@ -5,8 +5,8 @@ ghost use Rattle.page_trees.specs.Shape.{IsPage};
 
 use crate::charset::ReadPage;
 use crate::page_decoder::PageDecoder;
-use dom_markup::document::Document;
-use page_trees::{BuiltTree, Options, PageFault, PageReader, make_page};
+use crate::reading::page_of;
+use page_trees::{Options, PageFault, PageReader};
 use std::alloc::Global;
 use text_decoding::Charset;
 
@@ -27,8 +27,6 @@ use text_decoding::Charset;
 pub struct PageByteParser {
     source: PageDecoder,
     reader: PageReader,
-    /// Why an earlier call failed.
-    fault: Option<PageFault>,
     replaced: usize,
 }
 
@@ -42,7 +40,6 @@ impl PageByteParser {
         Ok(PageByteParser {
             source: PageDecoder::new(alloc, charset),
             reader: PageReader::page(alloc, options)?,
-            fault: None,
             replaced: 0,
         })
     }
@@ -50,22 +47,17 @@ impl PageByteParser {
     /// Parses the next bytes of the page. Fails only with `Memory` or `TooManyNodes`; then nothing
     /// more is parsed, and each further call returns the same error.
     pub fn feed(&mut self, piece: &[u8]) -> Result<(), PageFault> {
-        if let Some(fault) = self.fault {
-            return Err(fault);
-        }
-        match self.parse(piece) {
-            Ok(()) => Ok(()),
-            Err(fault) => {
-                self.fault = Some(fault);
-                Err(fault)
+        self.reader.settled()?;
+        match self.source.feed(piece) {
+            Ok(text) => {
+                self.replaced = self.replaced.saturating_add(text.replaced());
+                self.reader.feed(text.as_str())
+            }
+            Err(_) => {
+                self.reader.fail(PageFault::Memory);
+                self.reader.settled()
             }
         }
-    }
-
-    fn parse(&mut self, piece: &[u8]) -> Result<(), PageFault> {
-        let text = self.source.feed(piece)?;
-        self.replaced = self.replaced.saturating_add(text.replaced);
-        self.reader.feed(text.text.as_str())
     }
 
     /// Returns the page after the last piece. Its document always has the shape of a page. Fails
@@ -73,10 +65,8 @@ impl PageByteParser {
     pub fn finish(self) -> Result<ReadPage, PageFault>
         ensures { IfOk result (λ read. IsPage read.document.tree) }
     {
-        if let Some(fault) = self.fault {
-            return Err(fault);
-        }
         let mut reader = self.reader;
+        reader.settled()?;
         let end = self.source.finish()?;
         reader.feed(end.text.text.as_str())?;
         let document = page_of(reader.finish()?)?;
@@ -87,17 +77,4 @@ impl PageByteParser {
             replaced: self.replaced.saturating_add(end.text.replaced),
         })
     }
-}
-
-/// Returns the document of a tree, in the shape of a page.
-fn page_of(built: BuiltTree) -> Result<Document, PageFault>
-    ensures { IfOk result (λ document. IsPage document.tree) }
-{
-    let mut tree = built.tree;
-    make_page(&mut tree)?;
-    Ok(Document {
-        tree,
-        errors: built.errors,
-        quirks_mode: built.quirks_mode,
-    })
 }

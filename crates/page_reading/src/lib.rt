@@ -9,6 +9,7 @@ mod charset;
 pub mod laws;
 mod page_decoder;
 mod reading;
+mod utf8_pieces;
 
 pub use byte_parser::PageByteParser;
 pub use charset::{ReadPage, read_page};

@@ -3,7 +3,8 @@
 use std::alloc::{AllocError, Global};
 use std::mem;
 use text_decoding::{
-    Charset, Confidence, Decoded, Decoder, Encoding, Fallback, SingleByte, declared_encoding,
+    Charset, Confidence, Decoded, DecodedText, Decoder, Encoding, Fallback, SingleByte,
+    declared_encoding,
 };
 
 /// How many bytes are held to find the encoding that they declare.
@@ -70,14 +71,15 @@ impl PageDecoder {
         }
     }
 
-    /// Returns the text of the next piece, as far as it can be told before the following ones.
-    /// After an error nothing is known of the decoder.
-    pub(crate) fn feed(&mut self, piece: &[u8]) -> Result<Decoded, AllocError> {
+    /// Returns the text of the next piece, as far as it can be told before the following ones. It
+    /// is lent where it is the piece itself. After an error nothing is known of the decoder.
+    pub(crate) fn feed<'b>(&mut self, piece: &'b [u8]) -> Result<DecodedText<'b>, AllocError> {
         if self.stage == Stage::Known {
-            return self.decoder.feed(piece);
+            return self.decoder.feed_lent(piece);
         }
         self.held.extend_from_slice(piece)?;
-        self.decode_held(false)
+        let text = self.decode_held(false)?;
+        Ok(DecodedText::Owned(text))
     }
 
     /// Returns the text of what is left at the end of the page, and the page's encoding.

@@ -11,17 +11,20 @@ ghost use Rattle.page_reading.specs.Parsers.{ReadsPage};
 ghost use Rattle.page_trees.specs.Shape.{IsPage};
 ghost use Rattle.standard_laws.specs.Pages.{IsParsedPage, IsWrittenPage};
 
+use crate::utf8_pieces::{Utf8Pieces, without_mark};
 use calm_pages::read_calm;
 use dom_markup::document::Document;
-use page_trees::{Context, Options, PageFault, PageReader, make_page, without_mark};
+use page_trees::{BuiltTree, Context, Options, PageFault, PageReader, make_page};
 use standard_laws::parsing::written_pages_are_parsed;
 use std::alloc::Global;
+use text_decoding::{Encoding, decode};
 
 /// A parser for a page or a fragment whose text comes in pieces.
 #[derive(Drop)]
 pub struct PageParser {
     reader: PageReader,
     is_fragment: bool,
+    bytes: Utf8Pieces,
 }
 
 /// Parses a page and returns its document, which always has the shape of a page. Malformed markup
@@ -95,7 +98,7 @@ pub fn parse_page_bytes(
     if let Ok(text) = str::from_utf8(source) {
         return parse_page(alloc, text, options);
     }
-    let text = String::from_utf8_lossy(alloc, source)?;
+    let text = decode(alloc, Encoding::Utf8, source)?;
     parse_page(alloc, text.as_str(), options)
 }
 
@@ -112,11 +115,20 @@ pub fn parse_page_fragment(
     parser.read_whole(source)
 }
 
-/// Returns the document in the shape of a page.
-fn page_of(document: Document) -> Result<Document, PageFault>
+/// Returns the document of a tree.
+fn document_of(built: BuiltTree) -> Document {
+    Document {
+        tree: built.tree,
+        errors: built.errors,
+        quirks_mode: built.quirks_mode,
+    }
+}
+
+/// Returns the document of a tree, in the shape of a page.
+pub(crate) fn page_of(built: BuiltTree) -> Result<Document, PageFault>
     ensures { IfOk result (λ page. IsPage page.tree) }
 {
-    let mut page = document;
+    let mut page = document_of(built);
     make_page(&mut page.tree)?;
     Ok(page)
 }
@@ -129,6 +141,7 @@ impl PageParser {
         Ok(PageParser {
             reader: PageReader::page(alloc, options)?,
             is_fragment: false,
+            bytes: Utf8Pieces::new(alloc),
         })
     }
 
@@ -142,6 +155,7 @@ impl PageParser {
         Ok(PageParser {
             reader: PageReader::fragment(alloc, context, options)?,
             is_fragment: true,
+            bytes: Utf8Pieces::new(alloc),
         })
     }
 
@@ -160,6 +174,7 @@ impl PageParser {
     pub fn feed(&mut self, piece: &str) -> Result<(), PageFault>
         ensures { ReadsPage self.old → ReadsPage self.new }
     {
+        self.end_bytes()?;
         self.reader.feed(piece)
     }
 
@@ -169,7 +184,33 @@ impl PageParser {
     pub fn feed_bytes(&mut self, piece: &[u8]) -> Result<(), PageFault>
         ensures { ReadsPage self.old → ReadsPage self.new }
     {
-        self.reader.feed_bytes(piece)
+        self.reader.settled()?;
+        match self.bytes.feed(piece) {
+            Ok(text) => {
+                let text = self.bytes.without_mark(text.as_str());
+                self.reader.feed(text)
+            }
+            Err(_) => self.fail_for_memory(),
+        }
+    }
+
+    /// Parses what is left of bytes, where they end within a character.
+    fn end_bytes(&mut self) -> Result<(), PageFault>
+        ensures { ReadsPage self.old → ReadsPage self.new }
+    {
+        match self.bytes.finish() {
+            Ok(left) => self.reader.feed(left.text.as_str()),
+            Err(_) => self.fail_for_memory(),
+        }
+    }
+
+    /// Parses nothing more, since memory ran out. Fails with the error of an earlier call, or with
+    /// `Memory`.
+    fn fail_for_memory(&mut self) -> Result<(), PageFault>
+        ensures { ReadsPage self.old → ReadsPage self.new }
+    {
+        self.reader.fail(PageFault::Memory);
+        self.reader.settled()
     }
 
     /// Returns the document after the last piece. Fails with the error of an earlier call, or with
@@ -177,15 +218,12 @@ impl PageParser {
     pub fn finish(self) -> Result<Document, PageFault>
         ensures { ReadsPage self → IfOk result (λ document. IsPage document.tree) }
     {
-        let built = self.reader.finish()?;
-        let document = Document {
-            tree: built.tree,
-            errors: built.errors,
-            quirks_mode: built.quirks_mode,
-        };
-        if self.is_fragment {
-            return Ok(document);
+        let mut parser = self;
+        parser.end_bytes()?;
+        let built = parser.reader.finish()?;
+        if parser.is_fragment {
+            return Ok(document_of(built));
         }
-        page_of(document)
+        page_of(built)
     }
 }

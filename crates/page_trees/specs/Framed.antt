@@ -1,5 +1,5 @@
 -- How a calm page starts and ends.
-use Rattle.std.specs.Prelude.{ℕ, ◌≡◌, ◌≤◌, ◌-◌, List, [], ◌∷◌, ◌&&◌, length, map, nat_le, take, drop, codes, if◌then◌else◌}
+use Rattle.std.specs.Prelude.{ℕ, ◌≡◌, ◌≤◌, ◌-◌, List, [], ◌∷◌, length, map, take, drop, codes}
 use Rattle.std.specs.Char.{to_ascii_lowercase}
 
 -- The text starts with a doctype and `<html` and ends with the end tags of `body` and `html`, in upper or lower case.
@@ -11,11 +11,3 @@ pub record IsFramed (page : List ℕ) : Type 0 where
 -- the UTF-8 byte order mark
 abbrev pub byte_order_mark : List ℕ
 byte_order_mark = 239 ∷ 187 ∷ 191 ∷ []
-
--- how many bytes a UTF-8 character has that starts with the byte; 1 for a byte that starts none
-abbrev pub utf8_length : ℕ → ℕ
-utf8_length first =
-    if nat_le 0xc2 first && nat_le first 0xdf then 2
-    else if nat_le 0xe0 first && nat_le first 0xef then 3
-    else if nat_le 0xf0 first && nat_le first 0xf4 then 4
-    else 1

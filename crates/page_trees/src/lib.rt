@@ -8,7 +8,6 @@
 mod adjusting;
 mod attributes;
 mod builder;
-mod bytes;
 mod chars;
 mod element_kinds;
 mod fault;
@@ -25,7 +24,6 @@ mod sets;
 mod shape;
 mod stack;
 
-pub use bytes::without_mark;
 pub use element_kinds::ElementCategory;
 pub use fault::PageFault;
 pub use growing::BuiltTree;

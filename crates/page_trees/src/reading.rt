@@ -5,7 +5,6 @@ ghost use Rattle.std.specs.Prelude.{◌≡◌};
 ghost use Rattle.page_trees.specs.Modes.{state_in, state_in_noscript};
 
 use crate::builder::{Mode, TreeBuilder};
-use crate::bytes::PendingBytes;
 use crate::fault::PageFault;
 use crate::growing::{BuiltTree, GrowingTree};
 use crate::name::Name;
@@ -50,13 +49,11 @@ pub enum Context<'a> {
     MathMl(&'a str),
 }
 
-/// The parser of a page or a fragment: the tokenizer, tree construction, and bytes that are
-/// pending.
+/// The parser of a page or a fragment: the tokenizer and tree construction.
 #[derive(Drop)]
 pub struct PageReader {
-    pub(crate) builder: TreeBuilder,
+    builder: TreeBuilder,
     tokens: Tokenizer,
-    pub(crate) waiting: PendingBytes,
 }
 
 impl PageReader {
@@ -85,7 +82,6 @@ impl PageReader {
         PageReader {
             builder: TreeBuilder::new(alloc, tree, options),
             tokens,
-            waiting: PendingBytes::new(alloc),
         }
     }
 
@@ -97,12 +93,20 @@ impl PageReader {
             .set_in_foreign(self.builder.is_current_foreign());
     }
 
-    /// Parses a piece of the text, after any pending bytes. Fails with the first fault: memory or
-    /// node ids ran out.
+    /// Parses a piece of the text. Fails with the first fault: memory or node ids ran out.
     pub fn feed(&mut self, piece: &str) -> Result<(), PageFault> {
-        self.builder.settled()?;
-        self.read_waiting();
+        self.settled()?;
         self.read(piece);
+        self.settled()
+    }
+
+    /// Stores why no text came, unless there was a fault before: nothing more is read.
+    pub fn fail(&mut self, fault: PageFault) {
+        self.builder.keep(Err(fault));
+    }
+
+    /// Fails with the first fault, if there was one.
+    pub fn settled(&self) -> Result<(), PageFault> {
         self.builder.settled()
     }
 
@@ -116,8 +120,7 @@ impl PageReader {
 
     /// Processes the end of the text.
     fn read_end(&mut self) -> Result<(), PageFault> {
-        self.builder.settled()?;
-        self.read_waiting();
+        self.settled()?;
         self.read_last()?;
         self.builder.end();
         self.builder.note_errors(&self.tokens.take_errors());
@@ -133,7 +136,7 @@ impl PageReader {
         Ok(())
     }
 
-    pub(crate) fn read(&mut self, piece: &str) {
+    fn read(&mut self, piece: &str) {
         let mut rest = piece;
         for _ in 0..piece.len() {
             rest = self.read_token(rest);

@@ -19,7 +19,7 @@ at_fresh : (state : Utf8State) (byte : ℕ) (rest : List ℕ) → state.needed �
 unfolding characters
 at_fresh state byte rest h = rw (eq-eqb state.needed 0 h) refl
 
-as_fresh : (state : Utf8State) (bytes : List ℕ) → state.needed ≡ 0 → characters state bytes ≡ characters fresh bytes
+pub as_fresh : (state : Utf8State) (bytes : List ℕ) → state.needed ≡ 0 → characters state bytes ≡ characters fresh bytes
 unfolding characters
 as_fresh state [] h = rw (eq-eqb state.needed 0 h) refl
 as_fresh state (b ∷ bs) h = rw (eq-eqb state.needed 0 h) refl

@@ -63,10 +63,20 @@ pub record Begins (decoded : Decoded) (whole : List (Option ℕ)) (rest : List (
   pub text : text_of whole ≡ string_bytes decoded.text ++ text_of rest
   pub replaced : errors_in whole ≡ decoded.replaced + errors_in rest
 
+-- no character has begun in the bytes that were read
+pub record IsBetweenCharacters (decoder : Decoder) : Type 0 where
+  pub utf8 : decoder.state.utf8.needed ≡ 0
+  pub waiting : decoder.waiting.items ≡ []
+
 -- the text and its number of replacements are those of the characters
 abbrev pub IsTextOf : DecodedText → List (Option ℕ) → Type 0
 IsTextOf (Lent text) characters = (text.now ≡ text_of characters) × (errors_in characters ≡ 0)
 IsTextOf (Owned decoded) characters = IsDecoded decoded characters
+
+-- the text, lent or not, stands before the rest
+abbrev pub BeginsWith : DecodedText → List (Option ℕ) → List (Option ℕ) → Type 0
+BeginsWith (Lent text) whole rest = (text_of whole ≡ text.now ++ text_of rest) × (errors_in whole ≡ errors_in rest)
+BeginsWith (Owned decoded) whole rest = Begins decoded whole rest
 
 -- the bytes are the UTF-8 of the text that they stand for
 abbrev pub IsItself : Encoding → List ℕ → Type 0

@@ -1,10 +1,12 @@
 //! Decoding bytes that come in pieces.
 
-ghost use Rattle.std.specs.Prelude.{◌≡◌, ◌+◌, [], ◌++◌, IfOk, List, OnErr, OnOk, string_bytes, ℕ};
+ghost use Rattle.std.specs.Prelude.{◌≡◌, ◌+◌, [], ◌++◌, IfOk, IfSome, List, OnErr, OnOk, string_bytes, true, ℕ};
 ghost use Rattle.decoded_text.specs.Characters.{IsCounted, IsDecoded};
-ghost use Rattle.text_decoding.specs.Decoding.{Begins, characters, characters_behind, characters_from, joined};
+ghost use Rattle.text_decoding.specs.Decoding.{Begins, BeginsWith, IsBetweenCharacters, characters, characters_behind, characters_from, joined};
+ghost use Rattle.text_decoding.specs.declared.whole.DecodedText.TheVariants.{Lent};
 
 use crate::state::{START, State, decode_into};
+use crate::whole::{DecodedText, lent_utf8};
 use decoded_text::Decoded;
 use encodings::Encoding;
 use std::alloc::{AllocError, Global};
@@ -62,6 +64,44 @@ impl Decoder {
         bytes.extend_from_slice(piece)?;
         let text = self.read(bytes.as_slice())?;
         Ok(text)
+    }
+
+    /// The text of the next piece, as `feed` gives it. It is lent where it is the piece itself: in
+    /// UTF-8, where the piece is UTF-8 without an error, and no character was cut before it.
+    ///
+    /// # Errors
+    ///
+    /// `AllocError` where memory is short. The decoder is then as it was before the call.
+    pub fn feed_lent<'b>(&mut self, piece: &'b [u8]) -> Result<DecodedText<'b>, AllocError>
+        ensures begins { (more : List ℕ) → IfOk result (λ text.
+            BeginsWith text (characters_behind self.old (piece.now ++ more))
+            (characters_behind self.new more)) }
+        ensures kept { OnErr result (self.new ≡ self.old) }
+    {
+        if let Some(text) = self.lent(piece) {
+            return Ok(DecodedText::Lent(text));
+        }
+        let text = self.feed(piece)?;
+        Ok(DecodedText::Owned(text))
+    }
+
+    /// The next piece as its text, where it is that itself.
+    fn lent<'b>(&self, piece: &'b [u8]) -> Option<&'b str>
+        ensures { (more : List ℕ) → IfSome result (λ text.
+            BeginsWith (Lent text) (characters_behind self.now (piece.now ++ more))
+            (characters_behind self.now more)) }
+    {
+        match self.encoding {
+            Encoding::Utf8 if self.is_between_characters() => lent_utf8(piece),
+            _ => None,
+        }
+    }
+
+    /// Whether no character of UTF-8 was begun.
+    fn is_between_characters(&self) -> bool
+        ensures { result ≡ true → IsBetweenCharacters self.now }
+    {
+        self.state.utf8.needed == 0 && self.waiting.as_slice().is_empty()
     }
 
     /// Decodes bytes after those that were decoded.

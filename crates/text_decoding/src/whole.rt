@@ -86,6 +86,7 @@ fn lent(encoding: Encoding, bytes: &[u8]) -> Option<&str>
 pub(crate) fn lent_utf8(bytes: &[u8]) -> Option<&str>
     ensures bytes { IfSome result (λ text. text.now ≡ bytes.now) }
     ensures itself { IfSome result (λ _. IsItself Utf8 bytes.now) }
+    ensures some { IfSome result (λ _. IsUtf8 bytes.now) }
     ensures none { IfNone result (IsUtf8 bytes.now → ⊥) }
 {
     match from_utf8(bytes) {

@@ -1,6 +1,5 @@
 //! Callers of the libraries whose contracts are proved from the contracts of what they call.
 //! docs/CALLING.md quotes them.
-#![tactic(auto)]
 
 pub mod keep_allowed;
 pub mod links;

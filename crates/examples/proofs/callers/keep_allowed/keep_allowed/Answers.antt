@@ -1,5 +1,5 @@
 use Rattle.dom_sanitize.specs.Clean.{lists_of}
-use Rattle.callers.proofs.keep_allowed.keep_allowed.Goals as goal
+use Rattle.examples.proofs.callers.keep_allowed.keep_allowed.Goals as goal
 
 -- the law, applied to the lists, the tree before and the tree after
 pub returns-clause-ok : goal.returns-clause-ok

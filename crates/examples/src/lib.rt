@@ -1,33 +1,33 @@
-//! What README.md and the pages of docs/ quote: parts of programs, and whole programs over
-//! `dom_query`. `examples` prints what each of them prints. The documents are compared with these
-//! files and with the output.
+//! What README.md and the pages of docs/ quote: parts of programs and whole programs over
+//! `dom_query`, and functions with contracts of their own (`callers`). `print_all` prints what each
+//! of the programs prints. The documents are compared with these files and with that output.
 #![tactic(auto)]
 
-mod article;
-mod changing;
-mod comments;
-mod copying;
-mod counts;
-mod fault;
-mod finding;
-mod links;
-mod many;
-mod mini;
-mod page;
-mod parens;
-mod reading;
-mod reducing;
-mod rewriter;
-mod selectors;
-mod table;
-mod texts;
-mod walking;
-mod writing;
+pub mod article;
+pub mod callers;
+pub mod changing;
+pub mod comments;
+pub mod copying;
+pub mod counts;
+pub mod fault;
+pub mod finding;
+pub mod links;
+pub mod many;
+pub mod mini;
+pub mod page;
+pub mod parens;
+pub mod reading;
+pub mod reducing;
+pub mod rewriter;
+pub mod selectors;
+pub mod table;
+pub mod texts;
+pub mod walking;
+pub mod writing;
 
 use crate::fault::Fault;
 use std::alloc::Global;
 use std::io::Write;
-use std::process::ExitCode;
 
 /// Prints what the parts about reading print.
 fn print_reading<W: Write>(alloc: Global, out: &mut W) -> Result<(), Fault> {
@@ -70,20 +70,12 @@ fn print_programs<W: Write>(alloc: Global, out: &mut W) -> Result<(), Fault> {
     parens::print_read(alloc, out)
 }
 
-/// Prints what all of them print. The program is run without names of files, so `print_counts` prints
-/// nothing here.
-fn print_all<W: Write>(rt: &HostRuntime, out: &mut W) -> Result<(), Fault> {
+/// Prints what all of them print. Where the program is run without names of files, `print_counts`
+/// prints nothing.
+pub fn print_all<W: Write>(rt: &HostRuntime, out: &mut W) -> Result<(), Fault> {
     print_reading(rt.alloc(), out)?;
     print_finding(rt.alloc(), out)?;
     print_changing(rt.alloc(), out)?;
     print_programs(rt.alloc(), out)?;
     counts::print_counts(rt, out)
-}
-
-fn main(rt: HostRuntime) -> ExitCode {
-    let mut out = rt.stdout();
-    match print_all(&rt, &mut out) {
-        Ok(()) => ExitCode::from(0),
-        Err(_) => ExitCode::from(1),
-    }
 }
