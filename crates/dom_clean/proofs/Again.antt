@@ -24,10 +24,11 @@ use Rattle.dom_markup.specs.ValueTrees.ValueTrees.{no_trees, text_node, comment_
 use Rattle.dom_markup.proofs.plain.PlainRows.{document-represents, document_rows, rows-size}
 use Rattle.page_trees.specs.ElementKinds.{kind_of}
 use Rattle.calm_pages.specs.Calm.{IsCalmPage, admits, are_calm, behind, behind_text, inside, may_hold_text}
+use Rattle.dom_sanitize.specs.Written.{followed_by, joined}
 use Rattle.dom_clean.specs.Again.{CleansOnce, IsLeftBy}
-use Rattle.dom_clean.specs.Cleaned.{body_of, cleaned, cleaned_below, cleaned_body, followed_by, held_by, in_body, left_of}
+use Rattle.dom_clean.specs.Cleaned.{body_of, cleaned, cleaned_below, cleaned_body, held_by, in_body, left_of}
 use Rattle.dom_clean.specs.Fates.{cleaned_attrs, element_fate, fate_of, is_dropped, may_stay, place_below, spellable, text_fate}
-use Rattle.dom_clean.specs.Joined.{AreTidy, IsWritable, joined}
+use Rattle.dom_clean.specs.Joined.{AreTidy, IsWritable}
 use Rattle.dom_clean.specs.Laws.{left_below, page_around, page_of}
 use Rattle.dom_clean.specs.Policy.{Policy, is_sound, keepable_names, may_keep}
 use Rattle.dom_clean.specs.Written.{text_of}

@@ -4,9 +4,9 @@ use Rattle.dom_links.specs.Forest.{Forest}
 use Rattle.dom_markup.specs.Numbered.{document_of}
 use Rattle.dom_markup.specs.ValueTrees.{Attribute, ValueTrees}
 use Rattle.dom_markup.specs.ValueTrees.ValueTrees.{no_trees, text_node, comment_node, doctype_node, element_node}
+use Rattle.dom_sanitize.specs.Written.{joined, with_text}
 use Rattle.dom_clean.specs.Again.{IsDocumentLeftBy}
 use Rattle.dom_clean.specs.Cleaned.{body_of, cleaned_below}
-use Rattle.dom_clean.specs.Joined.{joined, with_text}
 use Rattle.dom_clean.specs.Laws.{left_below, page_of}
 use Rattle.dom_clean.specs.Policy.{Policy, is_sound}
 use Rattle.dom_clean.proofs.Again.{body_again, cleans_once}

@@ -17,9 +17,9 @@ use Rattle.page_trees.specs.ElementKinds.{kind_of}
 use Rattle.page_trees.specs.declared.element_kinds.ElementCategory.{ElementCategory}
 use Rattle.page_trees.specs.declared.element_kinds.ElementCategory.TheVariants.{Pre}
 use Rattle.calm_pages.specs.Calm.{admits, behind_text, may_hold_text}
-use Rattle.dom_clean.specs.Cleaned.{after_lines, cleaned, followed_by, held_by, left_of, text_or, without_lines}
+use Rattle.dom_sanitize.specs.Written.{followed_by, joined, with_text}
+use Rattle.dom_clean.specs.Cleaned.{after_lines, cleaned, held_by, left_of, text_or, without_lines}
 use Rattle.dom_clean.specs.Fates.{fate_of, is_dropped, is_unseen, may_stay, place_below, spellable}
-use Rattle.dom_clean.specs.Joined.{joined, with_text}
 use Rattle.dom_clean.specs.Policy.{Policy}
 use Rattle.dom_clean.specs.declared.fates.Fate.{Fate}
 use Rattle.dom_clean.specs.declared.fates.Fate.TheVariants.{Stays, Unwrapped, Vanishes}

@@ -11,7 +11,8 @@ use Rattle.page_trees.specs.declared.element_kinds.ElementCategory.{ElementCateg
 use Rattle.page_trees.specs.declared.element_kinds.ElementCategory.TheVariants.{Html, Head, Verbatim, Pre, Table, ColumnGroup, RowGroup, TableRow}
 use Rattle.calm_pages.specs.Calm.{admits, are_calm, behind, behind_first, inside, may_hold_text}
 use Rattle.calm_pages.specs.declared.nesting.Scope.{Scope}
-use Rattle.dom_clean.specs.Joined.{AreTidy, joined, merges, with_text}
+use Rattle.dom_sanitize.specs.Written.{joined, with_text}
+use Rattle.dom_clean.specs.Joined.{AreTidy, merges}
 
 both_white : (a b : List ℕ) → list_all is_whitespace a ≡ true → list_all is_whitespace b ≡ true → list_all is_whitespace (a ++ b) ≡ true
 both_white a b p q = list_all-append is_whitespace a b ∙ and_from (list_all is_whitespace a) (list_all is_whitespace b) p q

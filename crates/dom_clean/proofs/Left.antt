@@ -18,7 +18,8 @@ use Rattle.page_trees.specs.ElementKinds.{may_hold}
 use Rattle.page_trees.specs.declared.element_kinds.ElementCategory.{ElementCategory}
 use Rattle.page_trees.specs.declared.element_kinds.ElementCategory.TheVariants.{Block, Pre}
 use Rattle.calm_pages.specs.declared.nesting.Scope.{Scope}
-use Rattle.dom_clean.specs.Cleaned.{after_lines, cleaned, followed_by, held_by, left_of, text_or, without_lines}
+use Rattle.dom_sanitize.specs.Written.{followed_by}
+use Rattle.dom_clean.specs.Cleaned.{after_lines, cleaned, held_by, left_of, text_or, without_lines}
 use Rattle.dom_clean.specs.Fates.{fate_of, is_dropped, may_stay, place_below, spellable}
 use Rattle.dom_clean.specs.declared.fates.Fate.{Fate}
 use Rattle.dom_clean.specs.declared.fates.Place.{Place}

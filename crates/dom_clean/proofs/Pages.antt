@@ -15,8 +15,9 @@ use Rattle.dom_markup.specs.ValueTrees.ValueTrees.{no_trees, text_node, comment_
 use Rattle.page_trees.specs.ElementKinds.{kind_of, names_of}
 use Rattle.page_trees.specs.Framed.{IsFramed}
 use Rattle.calm_pages.specs.Calm.{IsCalmDocument, are_calm, is_calm_text}
+use Rattle.dom_sanitize.specs.Written.{joined, with_text}
 use Rattle.dom_clean.specs.Cleaned.{cleaned_below, in_body}
-use Rattle.dom_clean.specs.Joined.{AreTidy, joined, with_text}
+use Rattle.dom_clean.specs.Joined.{AreTidy}
 use Rattle.dom_clean.specs.Laws.{AreAllowed, CleansSafely, IsSafe, left_below, page_around, page_of, utf8_meta}
 use Rattle.dom_clean.specs.Policy.{Policy, is_sound}
 use Rattle.dom_clean.specs.SafeText.{text_by}

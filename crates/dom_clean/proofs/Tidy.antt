@@ -23,12 +23,13 @@ use Rattle.page_trees.specs.ElementKinds.{kind_of}
 use Rattle.page_trees.specs.declared.element_kinds.ElementCategory.{ElementCategory}
 use Rattle.page_trees.specs.declared.element_kinds.ElementCategory.TheVariants.{Pre}
 use Rattle.calm_pages.specs.Calm.{admits, behind_text, may_hold_text}
-use Rattle.dom_clean.specs.Cleaned.{after_lines, cleaned, followed_by, held_by, left_of, text_or, without_lines}
+use Rattle.dom_sanitize.specs.Written.{followed_by, joined, with_text}
+use Rattle.dom_clean.specs.Cleaned.{after_lines, cleaned, held_by, left_of, text_or, without_lines}
 use Rattle.dom_clean.specs.declared.fates.Fate.{Fate}
 use Rattle.dom_clean.specs.declared.fates.Place.{Place}
 use Rattle.dom_clean.specs.declared.fates.Fate.TheVariants.{Stays, Unwrapped, Vanishes}
 use Rattle.dom_clean.specs.Fates.{fate_of, is_dropped, may_stay, place_below, spellable}
-use Rattle.dom_clean.specs.Joined.{AreTidy, AreTidyAttributes, IsMarkupName, IsWritable, joined, with_text}
+use Rattle.dom_clean.specs.Joined.{AreTidy, AreTidyAttributes, IsMarkupName, IsWritable}
 use Rattle.dom_clean.specs.Policy.{Policy, is_sound}
 use Rattle.dom_clean.specs.SafeText.{text_by}
 use Rattle.dom_clean.specs.Spelled.{AreQuiet, IsSpellable}

@@ -19,7 +19,7 @@ use Rattle.dom_markup.specs.ValueTrees.{ValueTrees}
 use Rattle.dom_markup.specs.ValueTrees.ValueTrees.{no_trees, text_node, comment_node, doctype_node, element_node}
 use Rattle.calm_pages.specs.Calm.{behind_text}
 use Rattle.dom_clean.specs.Ahead.{AreKnown, Writes, ahead_text, front_after, front_past, is_nil, is_pre, opening, row_text, row_weight, seen, weight, with_below, with_row}
-use Rattle.dom_clean.specs.Cleaned.{after_lines, cleaned, followed_by, held_by, in_body, left_of, text_or, without_lines}
+use Rattle.dom_clean.specs.Cleaned.{after_lines, cleaned, held_by, in_body, left_of, text_or, without_lines}
 use Rattle.dom_clean.specs.Fates.{cleaned_attrs, fate_of, place_below, spellable}
 use Rattle.dom_clean.specs.Policy.{Policy}
 use Rattle.dom_clean.proofs.Lines.{lines_before_tag, lines_escaped, lines_seen}
@@ -29,6 +29,7 @@ use Rattle.page_trees.specs.declared.element_kinds.ElementCategory.{ElementCateg
 use Rattle.page_trees.specs.declared.element_kinds.ElementCategory.TheVariants.{Pre}
 use Rattle.std.specs.Prelude.{codes}
 use Rattle.std.specs.Str.{IsUtf8}
+use Rattle.dom_sanitize.specs.Written.{followed_by}
 use Rattle.dom_clean.specs.Written.{start_of, text_of}
 use Rattle.dom_clean.specs.declared.fates.Fate.{Fate}
 use Rattle.dom_clean.specs.declared.fates.Fate.TheVariants.{Stays, Unwrapped, Vanishes}

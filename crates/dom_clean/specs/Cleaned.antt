@@ -11,6 +11,7 @@ use Rattle.dom_trees.specs.Views.{page_part}
 use Rattle.dom_markup.specs.Names.{void_names}
 use Rattle.dom_markup.specs.ValueTrees.{ValueTrees}
 use Rattle.dom_markup.specs.ValueTrees.ValueTrees.{no_trees, text_node, comment_node, doctype_node, element_node}
+use Rattle.dom_sanitize.specs.Written.{followed_by}
 use Rattle.page_trees.specs.ElementKinds.{kind_of}
 use Rattle.page_trees.specs.declared.element_kinds.ElementCategory.{ElementCategory}
 use Rattle.page_trees.specs.declared.element_kinds.ElementCategory.TheVariants.{Body, Html, Pre}
@@ -20,14 +21,6 @@ use Rattle.dom_clean.specs.declared.fates.Fate.{Fate}
 use Rattle.dom_clean.specs.declared.fates.Place.{Place}
 use Rattle.dom_clean.specs.declared.fates.Fate.TheVariants.{Stays, Unwrapped}
 use Rattle.dom_clean.specs.Policy.{Policy}
-
--- trees, and behind them others
-abbrev pub followed_by : ValueTrees → ValueTrees → ValueTrees
-followed_by no_trees others = others
-followed_by (text_node contents later) others = text_node contents (followed_by later others)
-followed_by (comment_node contents later) others = comment_node contents (followed_by later others)
-followed_by (doctype_node name public system later) others = doctype_node name public system (followed_by later others)
-followed_by (element_node name attributes children later) others = element_node name attributes children (followed_by later others)
 
 -- the text without the line feeds at its front
 abbrev pub after_lines : List ℕ → List ℕ

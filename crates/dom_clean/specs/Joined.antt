@@ -1,5 +1,5 @@
--- Texts side by side as one, and trees that can be written.
-use Rattle.std.specs.Prelude.{◌≡◌, ◌≢◌, ℕ, Bool, true, false, List, [], ◌∷◌, ◌++◌}
+-- Trees that can be written, in which texts side by side may be one.
+use Rattle.std.specs.Prelude.{◌≡◌, ◌≢◌, ℕ, Bool, true, false, List, [], ◌∷◌}
 use Rattle.std.specs.Str.{IsUtf8, chars}
 use Rattle.dom_nodes.specs.Words.{is_among}
 use Rattle.dom_markup.specs.Bytes.{folded}
@@ -12,19 +12,6 @@ use Rattle.page_trees.specs.ElementKinds.{kind_of}
 use Rattle.page_trees.specs.declared.element_kinds.ElementCategory.{ElementCategory}
 use Rattle.page_trees.specs.declared.element_kinds.ElementCategory.TheVariants.{Verbatim}
 use Rattle.dom_clean.specs.Spelled.{AreSpelled, Front, IsQuietName}
-
--- a text before trees, joined with a text that they begin with
-abbrev pub with_text : List ℕ → ValueTrees → ValueTrees
-with_text contents (text_node more later) = text_node (contents ++ more) later
-with_text contents trees = text_node contents trees
-
--- texts side by side are one
-abbrev pub joined : ValueTrees → ValueTrees
-joined no_trees = no_trees
-joined (text_node contents later) = with_text contents (joined later)
-joined (comment_node contents later) = comment_node contents (joined later)
-joined (doctype_node name public system later) = doctype_node name public system (joined later)
-joined (element_node name attributes children later) = element_node name attributes (joined children) (joined later)
 
 -- an element that may hold two texts may hold them as one
 abbrev pub merges : ElementCategory → Bool

@@ -7,12 +7,12 @@ use Rattle.dom_links.specs.Trees.{Trees}
 use Rattle.dom_markup.specs.ValueTrees.{Attribute, ValueTrees}
 use Rattle.dom_markup.specs.ValueTrees.ValueTrees.{no_trees, text_node, comment_node, doctype_node, element_node}
 use Rattle.calm_pages.specs.Calm.{IsCalmPage, are_calm, behind}
+use Rattle.dom_sanitize.specs.Written.{joined}
 use Rattle.url.specs.Parser.{parse_url}
 use Rattle.url.specs.Parts.{Parts}
 use Rattle.dom_clean.specs.Addresses.{HasSchemeOf, scheme_of}
 use Rattle.dom_clean.specs.Cleaned.{cleaned, cleaned_below}
 use Rattle.dom_clean.specs.Fates.{has_attribute}
-use Rattle.dom_clean.specs.Joined.{joined}
 use Rattle.dom_clean.specs.declared.fates.Place.{Place}
 use Rattle.dom_clean.specs.Policy.{Policy, address_names, link_names}
 use Rattle.dom_clean.specs.Policy.Relative.{kept}
