@@ -13,7 +13,7 @@ import time
 sys.dont_write_bytecode = True
 ROOT = pathlib.Path(__file__).resolve().parents[1]
 LOG = ROOT / "out" / "install.log"
-MOST = 9  # the minutes behind which a line says again that a proof is still going on
+MOST = 9  # the minutes after which a line says again that a proof is still going on
 
 
 def listed():
@@ -28,7 +28,7 @@ def named():
 
 
 def in_order(names, uses):
-    """The crates of these names and all that they stand on, each behind those that it uses."""
+    """The crates of these names and all that they stand on, each after those that it uses."""
     found = []
 
     def add(name):

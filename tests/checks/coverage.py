@@ -84,7 +84,7 @@ class Function:
 
 
 def end_of(text, at, opening="([{", closing=")]}"):
-    """Behind the bracket that closes the one there."""
+    """The place after the bracket that closes the one there."""
     depth = 0
     for place in range(at, len(text)):
         depth += text[place] in opening

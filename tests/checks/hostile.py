@@ -70,7 +70,7 @@ def variants(text):
 
 
 def asked(part, words, lines):
-    """What a part of the test program answers behind `bulk` to each line on standard input."""
+    """What a part of the test program answers after `bulk` to each line on standard input."""
     given = "".join(f"{line}\n" for line in lines).encode()
     ran = subprocess.run([*started(part), "bulk", *words], input=given, capture_output=True, timeout=SECONDS)
     answers = ran.stdout.decode(errors="replace").split("\n")[:-1]
@@ -195,7 +195,7 @@ def changed(nodes, number, link, value):
 
 
 def random_forest(dice):
-    """The nodes of a forest of 7: each goes behind others of a list, or begins a run; a fragment may be contents."""
+    """The nodes of a forest of 7: each goes after others of a list, or begins a run; a fragment may be contents."""
     kinds = ["document", *(dice.choice(["element", "element", "text", "fragment"]) for _ in range(6))]
     children, runs = {number: [] for number in range(7)}, [[0]]
     for number in range(1, 7):
@@ -341,7 +341,7 @@ def is_text(data):
 
 
 def pages():
-    """Has pages read whole, with their errors noted, in pieces of some sizes, and with a text behind their bytes; returns how many are one page
+    """Has pages read whole, with their errors noted, in pieces of some sizes, and with a text after their bytes; returns how many are one page
     by each way, and how many aren't. Noting errors, tags are read character by character; so, and in pieces, calm pages are read
     by tree construction. In pieces of one byte none of the fast ways for runs, tags and references is taken."""
     inputs = list(dict.fromkeys(page_inputs()))

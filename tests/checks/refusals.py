@@ -50,7 +50,7 @@ NAMED = {b"move", b"make", b"change", b"copy", b"sink-make", b"sink-put", b"sink
 REFUSAL = re.compile(rb"out of memory|^Memory( true)?\n|: -\n|^select: refused\n|^validate: false\n|^forest true false\n|^tests: \d+\n")
 # How a line ends of which a request is refused.
 REFUSED, UNREAD, ANSWERED, DONE = "refused", "unread", "answered", "done"
-# How many lines of a call are tried for that which makes most requests, and so many leaves behind it.
+# How many lines of a call are tried for that which makes most requests, and so many leaves after it.
 TRIED, LEAF, LEAVES = 6, b"<p></p>", 9
 # Calls that take no memory: no request is made, but for the words of the line.
 MOVES = "replace_with wrap_node remove_from_parent unwrap_node insert_siblings_before insert_siblings_after".split()
@@ -95,7 +95,7 @@ def counts(counter, words, markup, refuse=""):
 
 
 def refused_row(counter, case):
-    """Refuses each request of a row in turn, alone and with all behind it. Returns how many runs there were, how many of them
+    """Refuses each request of a row in turn, alone and with all after it. Returns how many runs there were, how many of them
     passed the refusal by, and what is wrong."""
     words, markup = [built("dq"), *words_of(case)], given(case, "markup")
     status, output, error, report = counts(counter, words, markup)
@@ -227,7 +227,7 @@ def chosen_line(counter, lines):
 
 
 def refused_line(counter, name, lines):
-    """Refuses each request of a line in turn, alone and with all behind it. Returns how many were refused, and what is wrong."""
+    """Refuses each request of a line in turn, alone and with all after it. Returns how many were refused, and what is wrong."""
     asked = chosen_line(counter, lines)
     faults, kinds = [] if asked.is_well else ["not done with ample memory"], []
     for number in asked.requests:

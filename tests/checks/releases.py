@@ -37,7 +37,7 @@ import symbols  # noqa: E402
 from kit import Stop  # noqa: E402
 
 VERSION = (ROOT / "VERSION").read_text(encoding="utf-8").strip()
-# Where the version stands: a file, and what comes before and behind it there.
+# Where the version stands: a file, and what comes before and after it there.
 PLACES = [
     ("crates/hq_pages/src/command.rt", r'const VERSION: &str = "(\S+) '),
     ("python/dom_query/__init__.py", r'(?m)^__version__ = "(.*)"'),

@@ -1,5 +1,5 @@
 """Parsing by the HTML Standard's tables (tests/standard/parsing.py), compared with the trees of tests/html5lib, which `hq --tree` prints.
-The rules begin with a doctype, so a page without one is compared with the same page behind a doctype. Left out are rows with other
+The rules begin with a doctype, so a page without one is compared with the same page after a doctype. Left out are rows with other
 options, and texts for which tree construction has no rule; how many are compared is checked, too."""
 import json
 import pathlib

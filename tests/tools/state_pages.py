@@ -1,7 +1,7 @@
 """Pages for every state of the tokenizer (13.2.5 of the HTML Standard), with each character that a state may name, and for every
 insertion mode with characters, comments, a doctype and the end of the page."""
 
-# A page's text up to each state, and the text behind the character, which ends what the state began.
+# A page's text up to each state, and the text after the character, which ends what the state began.
 RAW = {
     "RCDATA": ("<title>", "y</title>z<p>"),
     "RAWTEXT": ("<style>", "y</style>z<p>"),

@@ -27,7 +27,7 @@ RAW = "title style script textarea xmp iframe noembed noframes noscript".split()
 # Names that stand for all that a mode doesn't mention.
 SAMPLE = "a b body div frame frameset head html input li link p rt span svg td textarea title x-y".split()
 
-# For each insertion mode, for a `select` and for foreign content: what comes before a tag, and what comes behind it and shows the mode.
+# For each insertion mode, for a `select` and for foreign content: what comes before a tag, and what comes after it and shows the mode.
 MODES = {
     "initial": ("", "<p>z"),
     "before html": ("<!doctype html>", "<p>z"),
@@ -203,7 +203,7 @@ def node():
 
 
 def closed(name):
-    """The end tag behind an element whose content is text, which shows the mode behind it."""
+    """The end tag after an element whose content is text, which shows the mode after it."""
     return f"</{name}>" if name in RAW else ""
 
 
@@ -243,7 +243,7 @@ def fragment_pages(pages):
 
 
 def quirks_pages(pages, entries, whole=False):
-    """Each identifier of a doctype: as it is, and for `whole` in other case, with more behind it, with less, and with a system
+    """Each identifier of a doctype: as it is, and for `whole` in other case, with more after it, with less, and with a system
     identifier. In quirks mode a table doesn't close a paragraph."""
     for array, text in entries:
         if array not in ("QUIRKY", "QUIRKY_NAMES", "HTML_4", "XHTML"):

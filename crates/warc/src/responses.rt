@@ -129,14 +129,14 @@ fn joined_chunks(alloc: Global, body: &[u8]) -> Result<Vec<u8>, ResponseFault> {
     let mut joined = Vec::new(alloc);
     let mut rest = body;
     for _ in 0..body.len() {
-        let Some((chunk, behind)) = chunk_of(rest) else {
+        let Some((chunk, after)) = chunk_of(rest) else {
             return Err(ResponseFault::Chunks);
         };
         if chunk.is_empty() {
             return Ok(joined);
         }
         joined.extend_from_slice(chunk)?;
-        rest = behind;
+        rest = after;
     }
     Err(ResponseFault::Chunks)
 }
@@ -149,9 +149,9 @@ fn chunk_of(bytes: &[u8]) -> Option<(&[u8], &[u8])> {
     let size = usize::try_from(size).ok()?;
     let data = bytes.get(start..)?;
     let chunk = data.get(..size)?;
-    let behind = data.get(size..)?;
-    match behind.strip_prefix(b"\r\n") {
+    let after = data.get(size..)?;
+    match after.strip_prefix(b"\r\n") {
         Some(rest) => Some((chunk, rest)),
-        None => Some((chunk, behind)),
+        None => Some((chunk, after)),
     }
 }
