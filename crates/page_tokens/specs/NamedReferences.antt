@@ -1,5 +1,6 @@
 -- Named character references: how much of one was read, and what the longest matching name means.
-use Rattle.std.specs.Prelude.{◌≡◌, ℕ, ◌<◌, ◌≤◌, List, ◌∷◌, ◌++◌, MatchOption, length, take, Option, Some, None}
+use Rattle.std.specs.Prelude.{◌≡◌, ℕ, ◌<◌, ◌≤◌, List, [], ◌∷◌, ◌++◌, MatchOption, length, take, drop, Option, Some, None, unwrap_or}
+use Rattle.standard_tokens.specs.Machine.{longest_name}
 use Rattle.page_tokens.specs.declared.named_references.Names.{Names}
 use Rattle.page_tokens.specs.declared.named_references.Value.{Value}
 use Rattle.page_tokens.specs.NameTable.{name_at, value_at, IsFrontOf}
@@ -7,6 +8,14 @@ use Rattle.page_tokens.specs.NameTable.{name_at, value_at, IsFrontOf}
 -- the characters that were read
 abbrev pub read_of : Names → List ℕ
 read_of names = take names.place (name_at names.low)
+
+-- the longest name with which the text starts; it is empty if there is none
+abbrev pub longest_in : List ℕ → List ℕ
+longest_in text = unwrap_or (longest_name text) []
+
+-- the characters after that name
+abbrev pub after_name : List ℕ → List ℕ
+after_name text = drop (length (longest_in text)) text
 
 -- no name starts with the text
 abbrev pub BeginsNoName : List ℕ → Type 0
