@@ -11,6 +11,7 @@ pub mod RawEndTags
 pub mod Reading
 pub mod References
 pub mod Runs
+pub mod SameNames
 pub mod ScriptStates
 pub mod Standard
 pub mod StandardPages
