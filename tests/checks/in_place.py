@@ -19,7 +19,7 @@ NEW = "<!DOCTYPE html><html><head></head><body><p>old</p></body></html>"
 WORDS = ("--document", "-r", "script", "-i")
 # A page that takes long enough to be killed while it is written, and what is left of it.
 LONG = "".join(f"<p>{number}</p><script>x</script>" for number in range(60_000))
-KILLS, SEED, NOBODY = 20, 1, 65534
+KILLS, STOPS, SEED, NOBODY = 10, 5, 1, 65534
 
 
 def hq(*words, program=None, **how):
@@ -139,26 +139,45 @@ def full_disk(folder):
     yield "a full disk", got, ((2, "hq: write failed: File too large (os error 27)\n"), text, ["page.html"])
 
 
-def killed(folder):
-    """A run that is killed at any moment leaves the old page or the new one, whole."""
-    chance, room = random.Random(SEED), pathlib.Path(folder) / "killed"
+def long_page(folder, name):
+    """A long page in a folder of its own, what is left of it, and how long that takes."""
+    room = pathlib.Path(folder) / name
     room.mkdir()
     made = page(room, text=LONG)
-    hq(made)
-    new = made.read_text()
     begun = time.monotonic()
-    made.write_text(LONG)
     hq(made)
-    took = time.monotonic() - begun
-    whole = 0
-    for _ in range(KILLS):
-        made.write_text(LONG)
-        with subprocess.Popen([built("hq"), *WORDS, made], stderr=subprocess.DEVNULL) as ran:
-            time.sleep(chance.uniform(0.3, 1.0) * took)
-            ran.kill()
-            ran.wait()
-        whole += made.read_text() in (LONG, new)
-    yield "runs that were killed", whole, KILLS
+    return made, made.read_text(), time.monotonic() - begun
+
+
+def killed(folder):
+    """A run that a signal ends at any moment leaves the old page or the new one, whole."""
+    chance = random.Random(SEED)
+    made, new, took = long_page(folder, "killed")
+    for sent in (signal.SIGKILL, signal.SIGTERM, signal.SIGINT, signal.SIGHUP):
+        whole = 0
+        for _ in range(KILLS):
+            made.write_text(LONG)
+            with subprocess.Popen([built("hq"), *WORDS, made], stderr=subprocess.DEVNULL) as ran:
+                time.sleep(chance.uniform(0.3, 1.0) * took)
+                ran.send_signal(sent)
+                ran.wait()
+            whole += made.read_text() in (LONG, new)
+        yield f"runs that {sent.name} ended", whole, KILLS
+
+
+def stopped(folder):
+    """A run that is stopped and goes on, again and again, ends as any other."""
+    made, new, took = long_page(folder, "stopped")
+    made.write_text(LONG)
+    with subprocess.Popen([built("hq"), *WORDS, made], stderr=subprocess.PIPE, text=True) as ran:
+        for _ in range(STOPS):
+            time.sleep(took / STOPS)
+            ran.send_signal(signal.SIGSTOP)
+            time.sleep(took / STOPS)
+            ran.send_signal(signal.SIGCONT)
+        _, said = ran.communicate(timeout=SECONDS)
+    got = ran.returncode, said, made.read_text() == new, names(made.parent)
+    yield "a run that was stopped", got, (0, "", True, ["page.html"])
 
 
 def many(folder):
@@ -170,7 +189,7 @@ def many(folder):
     yield "2,000 files", (said, {it.read_text() for it in made}, len(names(room))), ((0, ""), {NEW}, 2_000)
 
 
-CASES = (modes, owners, symbolic_links, hard_links, left_files, other_kinds, refused_folder, full_disk, killed, many)
+CASES = (modes, owners, symbolic_links, hard_links, left_files, other_kinds, refused_folder, full_disk, killed, stopped, many)
 
 
 def in_place():

@@ -63,6 +63,7 @@ import passed as record  # noqa: E402
 import paths  # noqa: E402
 import pictures  # noqa: E402
 import programs  # noqa: E402
+import reading_files  # noqa: E402
 import reference  # noqa: E402
 import refusals  # noqa: E402
 import releases  # noqa: E402
@@ -159,7 +160,7 @@ def gate(clock):
         c_and_python.keep_of_gate()
     ended = time.monotonic()
     clock.note("the gate's proofs", proved_at - begun, None)
-    clock.note("the gate's runs behind them", ended - proved_at, None)
+    clock.note("the gate's runs after them", ended - proved_at, None)
     clock.note("the gate", ended - begun, used(of_gate))
     counted = re.fullmatch(r"(\d+) passed, (\d+) failed", last)
     passed, failed = (int(counted[1]), int(counted[2])) if counted else (0, 1)
@@ -328,7 +329,8 @@ def main():
         counts += [] if is_quick else [clock.timed("the callers that must not compile", refused_callers)]
         counts += clock.timed("the rows and checks", lambda: [each() for each in tables])
         counts += [it.result() for it in beside]
-    alone = [("streams that fail", streams.streams), ("files written in place", in_place.in_place), ("small address spaces", refusals.limited)]
+    alone = [("streams that fail", streams.streams), ("files that are read", reading_files.reading_files)]
+    alone += [("files written in place", in_place.in_place), ("small address spaces", refusals.limited)]
     alone += [("deep and wide trees", depth.depth), ("the growth of the work", growth.growth)]
     counts += [clock.timed(part, each) for part, each in alone]
     clock.note("all", time.monotonic() - clock.begun, used())
