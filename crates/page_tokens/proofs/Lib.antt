@@ -1,5 +1,6 @@
 mod AmbiguousFollows
 mod AmbiguousSteps
+mod AnyState
 mod AttrFollows
 mod AttrNames
 mod AttrValues
@@ -14,12 +15,18 @@ mod DoctypeFollows
 mod DoctypeSteps
 mod EndTagSteps
 mod Lowered
+mod MarkEnds
 mod NameLemmas
 mod NumberFollows
 mod NumberSteps
+mod PageEnds
+mod PageStops
+mod PageTexts
+mod Placed
 mod RawEndTags
 mod RawTexts
 mod ReferenceEnds
+mod ReferenceStops
 mod RepeatedAttributes
 mod RunSteps
 mod ScriptFollows

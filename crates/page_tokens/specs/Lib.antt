@@ -7,6 +7,7 @@ pub mod Drafts
 pub mod NameTable
 pub mod NamedReferences
 pub mod Numbers
+pub mod PageEnds
 pub mod RawEndTags
 pub mod Reading
 pub mod References

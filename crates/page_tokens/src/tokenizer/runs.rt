@@ -1,6 +1,7 @@
 //! The calls that read a page, and the runs of characters that a state copies unchanged.
 
 ghost use Rattle.std.specs.Prelude.{◌≡◌, ◌<◌, ◌≤◌, true, false, IfOk, IfSome, OnOk, length};
+ghost use Rattle.std.specs.Prelude.{◌++◌, [], None, encode_utf8};
 ghost use Rattle.std.specs.Str.{IsCharBoundary};
 ghost use Rattle.page_tokens.specs.Runs.{ends_text, ends_tag_name, tag_name_len_of, IsRun};
 
@@ -229,7 +230,9 @@ pub fn run_len(run: Run, text: &str) -> usize
 /// Splits off the first character.
 #[inline(always)]
 fn split_char(text: &str) -> Option<(char, &str)>
-    ensures { IfSome result (λ found. length found.1.now < length text.now) }
+    ensures none { result ≡ None → text.now ≡ [] }
+    ensures less { IfSome result (λ found. length found.1.now < length text.now) }
+    ensures cut { IfSome result (λ found. text.now ≡ encode_utf8 found.0 ++ found.1.now) }
 {
     let mut chars = text.chars();
     let c = chars.next()?;
@@ -239,6 +242,7 @@ fn split_char(text: &str) -> Option<(char, &str)>
 impl Tokenizer {
     ghost use Rattle.page_tokens.specs.Reading.{IsInText, AddsText};
     ghost use Rattle.page_tokens.specs.Reading.{ReadsNoToken, ReadsRun, ReadsWhole};
+    ghost use Rattle.page_tokens.specs.StandardPages.{BeginsNoName, ReadsAsStandard};
     ghost use Rattle.page_tokens.specs.Tags.{ReadsPlainTag, TakesPlainTag};
 
     /// Reads a part of a page that contains [`MARKS`] at its end or not at all;
@@ -393,7 +397,10 @@ impl Tokenizer {
 
     /// Reads one character.
     #[inline(never)]
-    fn read_char<'a>(&mut self, text: &'a str, kind: &mut Option<TokenKind>) -> Rest<'a> {
+    fn read_char<'a>(&mut self, text: &'a str, kind: &mut Option<TokenKind>) -> Rest<'a>
+        ensures { kind.old ≡ None → BeginsNoName self.old text.now →
+            ReadsAsStandard self.old self.new text.now kind.old kind.new result }
+    {
         let Some((c, after)) = split_char(text) else {
             return Ok(text);
         };
