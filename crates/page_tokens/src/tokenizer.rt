@@ -8,6 +8,7 @@ mod doctypes;
 mod draft;
 mod end_of_file;
 mod errors;
+mod lanes;
 mod named;
 mod plain;
 mod raw_end_tags;

@@ -150,7 +150,8 @@ impl Tokenizer {
     ghost use Rattle.page_tokens.specs.declared.tokenizer.named.Match.{Match};
 
     pub(super) fn is_in_reference(&self) -> bool
-        ensures { self.now.reference ≡ Reference.None → result ≡ false }
+        ensures none { self.now.reference ≡ Reference.None → result ≡ false }
+        ensures outside { result ≡ false → self.now.reference ≡ Reference.None }
     {
         !matches!(self.reference, Reference::None)
     }
