@@ -64,7 +64,7 @@ letter_reads old new c is letter puts m ahead rest stands = go here.outside.plac
         let outside : Outside made n = record {
           back = here.outside.back;
           last_start = here.outside.last_start;
-          place = inr (record { value = value.value; named = value.named; is = value_more old.tag new.tag m.tag (c ∷ []) value.named value.is gains.1; allows = value.allows; held = value.held });
+          place = inr (record { reads = value.reads; value = value.value; named = value.named; is = value_more old.tag new.tag m.tag (c ∷ []) value.named value.is gains.1; allows = value.allows; held = value.held });
         } in
         let stands_on : StandsInReference made [] n = stands_in made [] n outside (sym (ap (λ k. state_in k old.state) is)) (subst (λ k. ReferenceHeld k made [] n) (sym is) refl) in
         record {

@@ -28,7 +28,7 @@ joined_text a b c cs ds first second =
 
 -- ---- outside of references
 
-outside : (old new : Tokenizer) (read : List ℕ) (told : Option TokenKind) → old.reference ≡ reference.None → FollowsStandard old new read told → FollowsAnywhere old new read told
+pub outside : (old new : Tokenizer) (read : List ℕ) (told : Option TokenKind) → old.reference ≡ reference.None → FollowsStandard old new read told → FollowsAnywhere old new read told
 outside old new read told none follows = record { memory = follows.memory; leaves = follows.leaves; reads = λ m ahead rest holds. go m ahead rest holds }
   where
     go : (m : Machine) (ahead rest : List ℕ) → Holds old ahead m → Behind old new read told m ahead rest

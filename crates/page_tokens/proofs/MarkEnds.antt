@@ -144,26 +144,30 @@ in_system b m (a ∷ ahead) (suc n) is =
     (run_out b m (a ∷ ahead) (quirky m.doctype) (lower_themselves (a ∷ ahead) (take (suc n) (codes "system")) is.2 (high_taken (suc n) (codes "system") (keyword_high id.System)))))
     (malformed_stops b m (quirky m.doctype))
 
+-- nothing is read ahead
+with_nothing : (m : Machine) (ahead : List ℕ) (b : Bool) (tokens : List StandardToken) → ahead ≡ [] → Stopping b m [] [] [] tokens → Stopping b m ahead [] [] tokens
+with_nothing m ahead b tokens nothing ends = subst (λ t. Stopping b m t [] [] tokens) (sym nothing) ends
+
 doctype_stops : (inner : DoctypeState) (b : Bool) (m : Machine) (ahead : List ℕ) → IsAhead inner ahead → Stopping b (at inner m) ahead [] [] (ADoctype (ended_there inner m.doctype) ∷ [])
 unfolding step taken entries
-doctype_stops doctype.Begin b m ahead is = subst (λ t. Stopping b (at doctype.Begin m) t [] [] (ADoctype (ended_there doctype.Begin m.doctype) ∷ [])) (sym is) (record { machine = at doctype.Begin m; goes = stays; stops = refl; emits = refl })
-doctype_stops doctype.BeforeName b m ahead is = subst (λ t. Stopping b (at doctype.BeforeName m) t [] [] (ADoctype (ended_there doctype.BeforeName m.doctype) ∷ [])) (sym is) (record { machine = at doctype.BeforeName m; goes = stays; stops = refl; emits = refl })
-doctype_stops doctype.Name b m ahead is = subst (λ t. Stopping b (at doctype.Name m) t [] [] (ADoctype (ended_there doctype.Name m.doctype) ∷ [])) (sym is) (record { machine = at doctype.Name m; goes = stays; stops = refl; emits = refl })
-doctype_stops doctype.AfterName b m ahead is = subst (λ t. Stopping b (at doctype.AfterName m) t [] [] (ADoctype (ended_there doctype.AfterName m.doctype) ∷ [])) (sym is) (record { machine = at doctype.AfterName m; goes = stays; stops = refl; emits = refl })
+doctype_stops doctype.Begin b m ahead is = with_nothing _ ahead b _ is (record { machine = at doctype.Begin m; goes = stays; stops = refl; emits = refl })
+doctype_stops doctype.BeforeName b m ahead is = with_nothing _ ahead b _ is (record { machine = at doctype.BeforeName m; goes = stays; stops = refl; emits = refl })
+doctype_stops doctype.Name b m ahead is = with_nothing _ ahead b _ is (record { machine = at doctype.Name m; goes = stays; stops = refl; emits = refl })
+doctype_stops doctype.AfterName b m ahead is = with_nothing _ ahead b _ is (record { machine = at doctype.AfterName m; goes = stays; stops = refl; emits = refl })
 doctype_stops (doctype.Keyword id.Public n) b m ahead is = in_public b m ahead n is
 doctype_stops (doctype.Keyword id.System n) b m ahead is = in_system b m ahead n is
-doctype_stops (doctype.AfterKeyword id.Public) b m ahead is = subst (λ t. Stopping b (at (doctype.AfterKeyword id.Public) m) t [] [] (ADoctype (ended_there (doctype.AfterKeyword id.Public) m.doctype) ∷ [])) (sym is) (record { machine = at (doctype.AfterKeyword id.Public) m; goes = stays; stops = refl; emits = refl })
-doctype_stops (doctype.AfterKeyword id.System) b m ahead is = subst (λ t. Stopping b (at (doctype.AfterKeyword id.System) m) t [] [] (ADoctype (ended_there (doctype.AfterKeyword id.System) m.doctype) ∷ [])) (sym is) (record { machine = at (doctype.AfterKeyword id.System) m; goes = stays; stops = refl; emits = refl })
-doctype_stops (doctype.BeforeId id.Public) b m ahead is = subst (λ t. Stopping b (at (doctype.BeforeId id.Public) m) t [] [] (ADoctype (ended_there (doctype.BeforeId id.Public) m.doctype) ∷ [])) (sym is) (record { machine = at (doctype.BeforeId id.Public) m; goes = stays; stops = refl; emits = refl })
-doctype_stops (doctype.BeforeId id.System) b m ahead is = subst (λ t. Stopping b (at (doctype.BeforeId id.System) m) t [] [] (ADoctype (ended_there (doctype.BeforeId id.System) m.doctype) ∷ [])) (sym is) (record { machine = at (doctype.BeforeId id.System) m; goes = stays; stops = refl; emits = refl })
-doctype_stops (doctype.Quoted id.Public quote.Double) b m ahead is = subst (λ t. Stopping b (at (doctype.Quoted id.Public quote.Double) m) t [] [] (ADoctype (ended_there (doctype.Quoted id.Public quote.Double) m.doctype) ∷ [])) (sym is) (record { machine = at (doctype.Quoted id.Public quote.Double) m; goes = stays; stops = refl; emits = refl })
-doctype_stops (doctype.Quoted id.Public quote.Single) b m ahead is = subst (λ t. Stopping b (at (doctype.Quoted id.Public quote.Single) m) t [] [] (ADoctype (ended_there (doctype.Quoted id.Public quote.Single) m.doctype) ∷ [])) (sym is) (record { machine = at (doctype.Quoted id.Public quote.Single) m; goes = stays; stops = refl; emits = refl })
-doctype_stops (doctype.Quoted id.System quote.Double) b m ahead is = subst (λ t. Stopping b (at (doctype.Quoted id.System quote.Double) m) t [] [] (ADoctype (ended_there (doctype.Quoted id.System quote.Double) m.doctype) ∷ [])) (sym is) (record { machine = at (doctype.Quoted id.System quote.Double) m; goes = stays; stops = refl; emits = refl })
-doctype_stops (doctype.Quoted id.System quote.Single) b m ahead is = subst (λ t. Stopping b (at (doctype.Quoted id.System quote.Single) m) t [] [] (ADoctype (ended_there (doctype.Quoted id.System quote.Single) m.doctype) ∷ [])) (sym is) (record { machine = at (doctype.Quoted id.System quote.Single) m; goes = stays; stops = refl; emits = refl })
-doctype_stops (doctype.AfterId id.Public) b m ahead is = subst (λ t. Stopping b (at (doctype.AfterId id.Public) m) t [] [] (ADoctype (ended_there (doctype.AfterId id.Public) m.doctype) ∷ [])) (sym is) (record { machine = at (doctype.AfterId id.Public) m; goes = stays; stops = refl; emits = refl })
-doctype_stops (doctype.AfterId id.System) b m ahead is = subst (λ t. Stopping b (at (doctype.AfterId id.System) m) t [] [] (ADoctype (ended_there (doctype.AfterId id.System) m.doctype) ∷ [])) (sym is) (record { machine = at (doctype.AfterId id.System) m; goes = stays; stops = refl; emits = refl })
-doctype_stops doctype.BetweenIds b m ahead is = subst (λ t. Stopping b (at doctype.BetweenIds m) t [] [] (ADoctype (ended_there doctype.BetweenIds m.doctype) ∷ [])) (sym is) (record { machine = at doctype.BetweenIds m; goes = stays; stops = refl; emits = refl })
-doctype_stops doctype.Bogus b m ahead is = subst (λ t. Stopping b (at doctype.Bogus m) t [] [] (ADoctype (ended_there doctype.Bogus m.doctype) ∷ [])) (sym is) (record { machine = at doctype.Bogus m; goes = stays; stops = refl; emits = refl })
+doctype_stops (doctype.AfterKeyword id.Public) b m ahead is = with_nothing _ ahead b _ is (record { machine = at (doctype.AfterKeyword id.Public) m; goes = stays; stops = refl; emits = refl })
+doctype_stops (doctype.AfterKeyword id.System) b m ahead is = with_nothing _ ahead b _ is (record { machine = at (doctype.AfterKeyword id.System) m; goes = stays; stops = refl; emits = refl })
+doctype_stops (doctype.BeforeId id.Public) b m ahead is = with_nothing _ ahead b _ is (record { machine = at (doctype.BeforeId id.Public) m; goes = stays; stops = refl; emits = refl })
+doctype_stops (doctype.BeforeId id.System) b m ahead is = with_nothing _ ahead b _ is (record { machine = at (doctype.BeforeId id.System) m; goes = stays; stops = refl; emits = refl })
+doctype_stops (doctype.Quoted id.Public quote.Double) b m ahead is = with_nothing _ ahead b _ is (record { machine = at (doctype.Quoted id.Public quote.Double) m; goes = stays; stops = refl; emits = refl })
+doctype_stops (doctype.Quoted id.Public quote.Single) b m ahead is = with_nothing _ ahead b _ is (record { machine = at (doctype.Quoted id.Public quote.Single) m; goes = stays; stops = refl; emits = refl })
+doctype_stops (doctype.Quoted id.System quote.Double) b m ahead is = with_nothing _ ahead b _ is (record { machine = at (doctype.Quoted id.System quote.Double) m; goes = stays; stops = refl; emits = refl })
+doctype_stops (doctype.Quoted id.System quote.Single) b m ahead is = with_nothing _ ahead b _ is (record { machine = at (doctype.Quoted id.System quote.Single) m; goes = stays; stops = refl; emits = refl })
+doctype_stops (doctype.AfterId id.Public) b m ahead is = with_nothing _ ahead b _ is (record { machine = at (doctype.AfterId id.Public) m; goes = stays; stops = refl; emits = refl })
+doctype_stops (doctype.AfterId id.System) b m ahead is = with_nothing _ ahead b _ is (record { machine = at (doctype.AfterId id.System) m; goes = stays; stops = refl; emits = refl })
+doctype_stops doctype.BetweenIds b m ahead is = with_nothing _ ahead b _ is (record { machine = at doctype.BetweenIds m; goes = stays; stops = refl; emits = refl })
+doctype_stops doctype.Bogus b m ahead is = with_nothing _ ahead b _ is (record { machine = at doctype.Bogus m; goes = stays; stops = refl; emits = refl })
 
 missing : {A : Type 0} (text : Option (String A)) → text ≡ None → MaySpell text None
 missing text e = subst (λ t. MaySpell t None) (sym e) tt

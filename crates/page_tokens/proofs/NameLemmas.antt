@@ -1,13 +1,12 @@
 -- The names that begin with a text stand side by side, and so do those of them with one next character.
 use Rattle.std.proofs.Common.{◌≡◌, ℕ, zero, suc, ◌+◌, ◌<◌, ◌≤◌, ◌⊎◌, ◌↔◌, true, List, [], ◌∷◌, ◌++◌, take, length, refl, sym, ap, ap₂, subst, ◌∙◌, arith, inl, inr, length-take-le, take_all, le_of_suc-le-suc, suc-le-suc, zero-le, le_refl, le_of_eq, le_trans, lt_of_le_of_lt, lt_of_lt_of_le, nat_lt}
-use Rattle.std.proofs.Common.{nat_le, false, get_or, leb-true, leb-false, le-leb, ltb-true, zero-lt-suc, Option, None, Some}
+use Rattle.std.proofs.Common.{nat_le, false, get_or, leb-true, leb-false, le-leb, ltb-true, zero-lt-suc}
 use Rattle.std.proofs.lemmas.Bool.{cases_lt, and_parts}
 use Rattle.std.proofs.lemmas.Bool.Decides.{nat_tests}
 use Rattle.std.proofs.lemmas.List.{length_push}
-use Rattle.page_tokens.specs.NameTable.{name_at, rank_at, value_at, IsFrontOf, AreNames, ArePartedAt}
-use Rattle.page_tokens.specs.declared.named_references.Value.{Value}
-use Rattle.page_tokens.specs.NamedReferences.{BeginsNoName, IsLongest, IsNoName, IsValueOf}
-use Rattle.page_tokens.proofs.SortedNames.{rises, rises-later, are_bytes, name_at-once, name_at-rises, name_at-some, name_at-bytes}
+use Rattle.page_tokens.specs.NameTable.{name_at, rank_at, IsFrontOf, AreNames, ArePartedAt}
+use Rattle.page_tokens.specs.NamedReferences.{BeginsNoName, IsNoName}
+use Rattle.page_tokens.proofs.SortedNames.{rises, rises-later, are_bytes, name_at-rises, name_at-bytes}
 
 -- ---- fronts and the character behind them
 
@@ -239,10 +238,10 @@ read_no_name low high place names more i known whole =
     lt_from_ne : (n m : ℕ) → n ≤ m → (m ≡ n → ⊥) → n < m
     lt_from_ne n m le ne = elim (cases_lt n m) [ inl less ↦ less | inr past ↦ let same : m ≡ n = omega arith in absurd (ne same) ]
 
--- ---- the longest name that a text begins with
+-- ---- fronts of what was read and more
 
 -- a front of what was read and more is one of what was read, or goes on with the next character
-front_cases : (name read : List ℕ) (c : ℕ) (rest : List ℕ) → IsFrontOf name (read ++ c ∷ rest) → IsFrontOf name read ⊎ IsFrontOf (read ++ c ∷ []) name
+pub front_cases : (name read : List ℕ) (c : ℕ) (rest : List ℕ) → IsFrontOf name (read ++ c ∷ rest) → IsFrontOf name read ⊎ IsFrontOf (read ++ c ∷ []) name
 front_cases [] read c rest h = inl refl
 front_cases (x ∷ name) [] c rest h = let same : x ≡ c = cc in inr (ap (λ (y : ℕ). y ∷ []) same)
 front_cases (x ∷ name) (r ∷ read) c rest h =
@@ -253,7 +252,7 @@ front_cases (x ∷ name) (r ∷ read) c rest h =
       | inr goes_on ↦ inr (ap₂ (λ (y : ℕ) (ys : List ℕ). y ∷ ys) (sym first) goes_on)
     ]
 
-front-longer : (name read rest : List ℕ) → IsFrontOf name read → IsFrontOf name (read ++ rest)
+pub front-longer : (name read rest : List ℕ) → IsFrontOf name read → IsFrontOf name (read ++ rest)
 front-longer [] read rest h = refl
 front-longer (x ∷ name) [] rest h = cc
 front-longer (x ∷ name) (r ∷ read) rest h =
@@ -261,77 +260,13 @@ front-longer (x ∷ name) (r ∷ read) rest h =
     let later : IsFrontOf name read = cc in
     ap₂ (λ (y : ℕ) (ys : List ℕ). y ∷ ys) first (front-longer name read rest later)
 
-front-length : (front text : List ℕ) → IsFrontOf front text → length front ≤ length text
+pub front-length : (front text : List ℕ) → IsFrontOf front text → length front ≤ length text
 front-length [] text h = zero-le
 front-length (x ∷ front) [] h = cc
 front-length (x ∷ front) (y ∷ text) h = let later : IsFrontOf front text = cc in suc-le-suc (front-length front text later)
 
-fronts-same : (a b : List ℕ) → IsFrontOf a b → IsFrontOf b a → a ≡ b
+pub fronts-same : (a b : List ℕ) → IsFrontOf a b → IsFrontOf b a → a ≡ b
 fronts-same a b h k = sym h ∙ take_all (length a) b (front-length b a k)
-
--- what the longest name stands for is the same of a text that begins with the same names
-longest-same : (read text : List ℕ) (value : Option Value) → ((i : ℕ) → i < 2231 → IsFrontOf (name_at i) read ↔ IsFrontOf (name_at i) text) →
-    IsLongest read value → IsLongest text value
-longest-same read text value same h = record {
-  some = λ i best. h.some i (record {
-    known = best.known;
-    front = (same i best.known).1 best.front;
-    longest = λ j known front. best.longest j known ((same j known).0 front);
-  });
-  none = λ no. h.none (λ i known front. no i known ((same i known).0 front));
-}
-
-pub longest_of_nothing : (read : List ℕ) → read ≡ [] → IsLongest read None
-longest_of_nothing read empty =
-    let no : (i : ℕ) → i < 2231 → IsFrontOf (name_at i) read → ⊥ = λ i known front.
-    let some = name_at-some i known in
-    let none : length (name_at i) ≤ 0 = subst (λ (t : List ℕ). length (name_at i) ≤ length t) empty (front-length (name_at i) read front) in
-    absurd (omega arith) in
-    record {
-      some = λ i best. absurd (no i best.known best.front);
-      none = λ _. refl;
-    }
-
--- what was read is a name: it is the longest
-pub longest_whole : (read : List ℕ) (value : Value) → IsValueOf read value → IsLongest read (Some value)
-longest_whole read value h =
-    let whole : IsFrontOf (name_at h.number) read = rw h.name (take_all (length read) read (le_refl _)) in
-    record {
-      some = λ i best.
-          let long : length read ≤ length (name_at i) = subst (λ (t : List ℕ). length t ≤ length (name_at i)) h.name (best.longest h.number h.known whole) in
-          let is : name_at i ≡ read = sym best.front ∙ take_all (length (name_at i)) read long in
-          ap (λ (v : Value). Some v) (h.stands_for ∙ ap value_at (name_at-once h.number i h.known best.known (h.name ∙ sym is)));
-      none = λ no. absurd (no h.number h.known whole);
-    }
-
--- with one more character what was read is no name: the longest one stays
-pub longest_stays : (read more : List ℕ) (c : ℕ) (value : Option Value) → more ≡ read ++ c ∷ [] → IsNoName more → IsLongest read value → IsLongest more value
-longest_stays read more c value is none h =
-    longest-same read more value
-    (λ i known. (
-      (λ front. subst (λ (t : List ℕ). IsFrontOf (name_at i) t) (sym is) (front-longer (name_at i) read (c ∷ []) front)),
-      (λ front.
-          let long : IsFrontOf (name_at i) (read ++ c ∷ []) = subst (λ (t : List ℕ). IsFrontOf (name_at i) t) is front in
-          elim (front_cases (name_at i) read c [] long) [
-            | inl short ↦ short
-            | inr goes_on ↦ absurd (none i known (fronts-same (name_at i) (read ++ c ∷ []) long goes_on ∙ sym is))
-          ]),
-    ))
-    h
-
--- no name goes on with the character: whatever follows, the longest one is that of what was read
-pub longest_ends : (read : List ℕ) (c : ℕ) (value : Option Value) → BeginsNoName (read ++ c ∷ []) → IsLongest read value → (rest : List ℕ) → IsLongest (read ++ c ∷ rest) value
-longest_ends read c value none h rest =
-    longest-same read (read ++ c ∷ rest) value
-    (λ i known. (
-      front-longer (name_at i) read (c ∷ rest),
-      (λ front.
-          elim (front_cases (name_at i) read c rest front) [
-            | inl short ↦ short
-            | inr goes_on ↦ absurd (none i known goes_on)
-          ]),
-    ))
-    h
 
 rank-most : (place : ℕ) (text : List ℕ) → are_bytes text ≡ true → rank_at place text ≤ 256
 rank-most place [] h = zero-le

@@ -37,7 +37,7 @@ ampersand_ends : (b : Bool) (m : Machine) → Goes b (at_state m there.Character
 unfolding taken entries
 ampersand_ends b m = by_entry (at_state m there.CharacterReference) [] (taking (SetEmpty Buffer ∷ Add Buffer (These (codes "&")) ∷ Flush ∷ []) ReconsumeBack []) refl refl
 
-letters_end : (b : Bool) (m : Machine) → Goes b (at_state m there.AmbiguousAmpersand) [] [] (at_state m m.return_state) []
+pub letters_end : (b : Bool) (m : Machine) → Goes b (at_state m there.AmbiguousAmpersand) [] [] (at_state m m.return_state) []
 unfolding taken entries
 letters_end b m = by_entry (at_state m there.AmbiguousAmpersand) [] (taking [] ReconsumeBack []) refl refl
 

@@ -4,6 +4,8 @@ pub mod Comments
 pub mod Declarations
 pub mod DoctypeSteps
 pub mod Drafts
+pub mod FastPaths
+pub mod Lanes
 pub mod NameTable
 pub mod NamedReferences
 pub mod Numbers
@@ -11,7 +13,9 @@ pub mod PageEnds
 pub mod RawEndTags
 pub mod Reading
 pub mod References
+pub mod RunEnds
 pub mod Runs
+pub mod SameNames
 pub mod ScriptStates
 pub mod Standard
 pub mod StandardPages

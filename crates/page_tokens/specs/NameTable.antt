@@ -1,6 +1,7 @@
 -- The table of named character references: its names, and which of them start with a given text.
 use Rattle.std.specs.Prelude.{◌≡◌, ℕ, zero, suc, ◌+◌, ◌<◌, ◌≤◌, ◌↔◌, List, [], ◌∷◌, length, take, slice_index, slice_range, Option, None}
 use Rattle.std.specs.Prelude.{Some}
+use Rattle.std.specs.Option.{option_map_or}
 use Rattle.page_tokens.specs.declared.named_references.Value.{Value}
 use Rattle.page_tokens.specs.declared.named_references.table.TheConstants.{LETTERS, STARTS, FIRSTS, SECONDS}
 
@@ -16,6 +17,10 @@ second_of (suc n) = Some (suc n)
 -- the characters that the name at an index means
 unfoldable pub value_at : ℕ → Value
 value_at i = record { first = slice_index FIRSTS i; second = second_of (slice_index SECONDS i) }
+
+-- the one or two characters of a value
+abbrev pub characters_of : Value → List ℕ
+characters_of value = value.first ∷ option_map_or (λ c. c ∷ []) value.second []
 
 -- the text starts with `front`
 abbrev pub IsFrontOf : List ℕ → List ℕ → Type 0

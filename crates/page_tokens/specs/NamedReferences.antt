@@ -1,8 +1,10 @@
 -- Named character references: how much of one was read, and what the longest matching name means.
-use Rattle.std.specs.Prelude.{◌≡◌, ℕ, ◌<◌, ◌≤◌, List, ◌∷◌, ◌++◌, MatchOption, length, take, Option, Some, None}
+use Rattle.std.specs.Prelude.{◌≡◌, ℕ, ◌<◌, Bool, not, List, [], ◌∷◌, ◌++◌, MatchOption, length, take, drop, Option, unwrap_or}
+use Rattle.std.specs.Option.{option_map}
+use Rattle.standard_tokens.specs.Machine.{ends_open, longest_name, value_of}
 use Rattle.page_tokens.specs.declared.named_references.Names.{Names}
 use Rattle.page_tokens.specs.declared.named_references.Value.{Value}
-use Rattle.page_tokens.specs.NameTable.{name_at, value_at, IsFrontOf}
+use Rattle.page_tokens.specs.NameTable.{characters_of, name_at, value_at, IsFrontOf}
 
 -- the characters that were read
 abbrev pub read_of : Names → List ℕ
@@ -27,18 +29,20 @@ pub record IsValueOf (text : List ℕ) (value : Value) : Type 0 where
 abbrev pub IsNoName : List ℕ → Type 0
 IsNoName text = (i : ℕ) → i < 2231 → name_at i ≡ text → ⊥
 
--- of the names with which the text starts, the one at this index is the longest
-pub record IsLongestName (text : List ℕ) (number : ℕ) : Type 0 where
-  pub known : number < 2231
-  pub front : IsFrontOf (name_at number) text
-  pub longest : (i : ℕ) → i < 2231 → IsFrontOf (name_at i) text → length (name_at i) ≤ length (name_at number)
+-- the longest name with which the text starts; it is empty if there is none
+abbrev pub longest_in : List ℕ → List ℕ
+longest_in text = unwrap_or (longest_name text) []
 
--- the value of the longest name with which the text starts, or `None` if it starts with no name
-pub record IsLongest (text : List ℕ) (value : Option Value) : Type 0 where
-  pub some : (i : ℕ) → IsLongestName text i → value ≡ Some (value_at i)
-  pub none : ((i : ℕ) → i < 2231 → IsFrontOf (name_at i) text → ⊥) → value ≡ None
+-- the characters after that name
+abbrev pub after_name : List ℕ → List ℕ
+after_name text = drop (length (longest_in text)) text
 
--- After what was read comes the character `c`. Then the value is that of the longest name with which the text starts, whatever
--- follows.
-abbrev pub IsSettled : List ℕ → ℕ → Option Value → Type 0
-IsSettled read c value = (rest : List ℕ) → IsLongest (read ++ c ∷ rest) value
+-- `value` is what the longest name with which the text starts means, or `None` if it starts with no name. The name ends in a semicolon if
+-- `closed`.
+pub record IsLongest (text : List ℕ) (value : Option Value) (closed : Bool) : Type 0 where
+  pub means : option_map characters_of value ≡ option_map value_of (longest_name text)
+  pub ends : closed ≡ not (ends_open (longest_in text))
+
+-- After what was read comes the character `c`. Then the longest name is one of what was read, whatever follows.
+abbrev pub IsSettled : List ℕ → ℕ → Type 0
+IsSettled read c = (rest : List ℕ) → longest_name (read ++ c ∷ rest) ≡ longest_name read

@@ -1,12 +1,8 @@
 -- What a tokenizer has read so far.
-use Rattle.std.specs.Prelude.{◌≡◌, ℕ, false, List, [], ◌∷◌, ◌++◌, ◌⊎◌, MatchOption, Option, None, Result, IfOk, string_bytes}
+use Rattle.std.specs.Prelude.{◌≡◌, ℕ, false, List, [], ◌++◌, Option, None, Result, IfOk, string_bytes}
 use Rattle.std.specs.Borrow.{Bor}
-use Rattle.page_tokens.specs.declared.named_references.Value.{Value}
 use Rattle.page_tokens.specs.declared.tokenizer.Tokenizer.{Tokenizer}
-use Rattle.page_tokens.specs.declared.tokenizer.named.Match.{Match}
-use Rattle.page_tokens.specs.declared.tokenizer.references.Reference.{Reference}
-use Rattle.page_tokens.specs.declared.tokenizer.references.Reference.TheVariants.{None as NoReference, Named}
-use Rattle.page_tokens.specs.NamedReferences.{read_of, IsSettled}
+use Rattle.page_tokens.specs.declared.tokenizer.references.Reference.TheVariants.{None as NoReference}
 use Rattle.page_tokens.specs.Runs.{IsRun}
 use Rattle.page_tokens.specs.declared.tokenizer.state.State.TheVariants.{Data}
 
@@ -40,28 +36,3 @@ ReadsWhole old new text result = IfOk result (λ rest. (rest.now ≡ []) × Adds
 abbrev pub ReadsRun : {T E : Type 0} → Tokenizer → Tokenizer → List ℕ → Option T → Option T → Result (Bor (List ℕ)) E → Type 0
 ReadsRun old new text before after result =
     IsInText old → old.errors ≡ None → IsRun text → IfOk result (λ rest. (rest.now ≡ []) × (after ≡ before) × AddsText old new text)
-
--- these characters of a name were read in the reference
-pub record IsInName (reference : Reference) (read : List ℕ) : Type 0 where
-  pub found : Match
-  pub named : reference ≡ Named found
-  pub read_is : read_of found.names ≡ read
-
--- no name is read in the reference
-abbrev pub IsNoName : Reference → Type 0
-IsNoName (Named found) = ⊥
-IsNoName _ = Unit {0}
-
--- These characters of a name were read, and the character `c` comes. Either a name continues with it, or the value is that of the
--- longest name with which the text starts, whatever follows.
-abbrev pub IsNameRead : List ℕ → Option Value → ℕ → Reference → Type 0
-IsNameRead read value c new = IsInName new (read ++ c ∷ []) ⊎ (IsNoName new × IsSettled read c value)
-
--- `IsNameRead` after the characters that a match has read
-abbrev pub IsReadBehind : Match → ℕ → Reference → Type 0
-IsReadBehind found = IsNameRead (read_of found.names) found.value
-
--- the match is extended by one character, or its value is final
-abbrev pub MatchesOn : Match → ℕ → Option Match → Type 0
-MatchesOn found c result =
-    MatchOption result (IsSettled (read_of found.names) c found.value) (λ more. read_of more.names ≡ read_of found.names ++ c ∷ [])

@@ -1,14 +1,20 @@
 -- How a character reference is read (13.2.5.72 to 13.2.5.80).
-use Rattle.std.specs.Prelude.{◌≡◌, ℕ, ◌+◌, ◌*◌, min, Bool, true, false, cond, List, [], ◌∷◌, ◌++◌, map, Option, None, Some, string_bytes}
+use Rattle.std.specs.Prelude.{◌≡◌, ℕ, ◌+◌, ◌*◌, min, Bool, true, false, not, cond, ◌==◌, ◌&&◌, ◌||◌, List, [], ◌∷◌, ◌++◌, map, Option}
+use Rattle.std.specs.Prelude.{None, Some, MatchOption, encode_utf8, string_bytes}
 use Rattle.std.specs.Char.{is_ascii_alphanumeric}
+use Rattle.std.specs.Option.{option_map_or}
 use Rattle.std.specs.Str.{encode_utf8_all}
-use Rattle.standard_tokens.specs.Machine.{Machine, is_value}
+use Rattle.standard_tokens.specs.Machine.{Machine, goes_on, is_value, longest_name}
 use Rattle.standard_tokens.specs.Tokens.{AChar}
 use Rattle.page_tokens.specs.Changes.{Gains}
+use Rattle.page_tokens.specs.NameTable.{characters_of}
+use Rattle.page_tokens.specs.NamedReferences.{read_of, IsSettled}
 use Rattle.page_tokens.specs.Reading.{text_of}
 use Rattle.page_tokens.specs.Standard.{Behind, Goes, Leaves, Stands, StandsInReference}
 use Rattle.page_tokens.specs.StandardStates.{state_of}
+use Rattle.page_tokens.specs.declared.named_references.Value.{Value}
 use Rattle.page_tokens.specs.declared.tokenizer.Tokenizer.{Tokenizer}
+use Rattle.page_tokens.specs.declared.tokenizer.named.Match.{Match}
 use Rattle.page_tokens.specs.declared.tokenizer.references.Reference.{Reference}
 use Rattle.page_tokens.specs.declared.tokenizer.references.Reference.TheVariants as reference
 use Rattle.page_tokens.specs.declared.tokenizer.state.Place.{Place}
@@ -89,8 +95,46 @@ DigitsFollow (reference.Hex number) c = Unit {0}
 DigitsFollow (reference.Decimal number) c = Unit {0}
 DigitsFollow _ c = ⊥
 
--- no name is being read, and none begins with the character
-abbrev pub ReadsNoName : Reference → ℕ → Type 0
-ReadsNoName reference.Begun c = is_ascii_alphanumeric c ≡ false
-ReadsNoName (reference.Named found) c = ⊥
-ReadsNoName _ c = Unit {0}
+-- ---- names
+
+-- The match is extended by a character: the longest name is now all that was read, or else the one before.
+pub record IsExtended (found : Match) (c : ℕ) (more : Match) : Type 0 where
+  pub read : read_of more.names ≡ read_of found.names ++ c ∷ []
+  pub longest : longest_name (read_of more.names) ≡ cond more.is_whole (Some (read_of more.names)) (longest_name (read_of found.names))
+
+-- the match is extended by a character, or no name goes on with it
+abbrev pub MatchesOn : Match → ℕ → Option Match → Type 0
+MatchesOn found c result = MatchOption result (IsSettled (read_of found.names) c) (IsExtended found c)
+
+-- the name goes on with a character; if all that was read is a name, nothing was read after it yet
+pub record NameGoesOn (old new : Tokenizer) (found : Match) (c : ℕ) : Type 0 where
+  pub memory : old.refused ≡ false
+  pub only : new ≡ record old { reference = reference.Named found; written = new.written; behind = new.behind; refused = new.refused }
+  pub written : string_bytes new.written ≡ string_bytes old.written ++ encode_utf8 c
+  pub behind : string_bytes new.behind ≡ cond found.is_whole [] (string_bytes old.behind ++ encode_utf8 c)
+
+-- a letter, a digit or `=`
+abbrev pub is_of_word : ℕ → Bool
+is_of_word c = c == 61 || is_ascii_alphanumeric c
+
+-- In the value of an attribute one of these follows the longest name; `next` is the character after what was read.
+abbrev pub is_part_of_word : Tokenizer → Option ℕ → Bool
+is_part_of_word t next = is_value (state_of t.state) && goes_on (string_bytes t.behind ++ option_map_or (λ c. c ∷ []) next [])
+
+-- what the longest name means, and what was read after it
+abbrev pub meant_by : Value → Tokenizer → List ℕ
+meant_by value t = encode_utf8_all (characters_of value) ++ string_bytes t.behind
+
+-- what takes the place of a name that ends, of which the longest name has this value, or there is none
+abbrev pub put_for : Option Value → Bool → Tokenizer → List ℕ
+put_for None part t = string_bytes t.written
+put_for (Some value) part t = cond part (string_bytes t.written) (meant_by value t)
+
+abbrev pub replaced_by : Match → Option ℕ → Tokenizer → List ℕ
+replaced_by found next t = put_for found.value (not found.closed && is_part_of_word t next) t
+
+-- the buffer of the reference has these bytes in place of those before
+pub record Rewrites (old new : Tokenizer) (bytes : List ℕ) : Type 0 where
+  pub memory : old.refused ≡ false
+  pub only : new ≡ record old { written = new.written; errors = new.errors; refused = new.refused }
+  pub written : string_bytes new.written ≡ bytes

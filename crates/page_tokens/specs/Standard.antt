@@ -32,7 +32,7 @@ use Rattle.page_tokens.specs.declared.tokenizer.state.Seen.TheVariants as seen
 use Rattle.page_tokens.specs.declared.tokenizer.state.State.{State}
 use Rattle.page_tokens.specs.declared.tokenizer.state.State.TheVariants as state
 use Rattle.page_tokens.specs.declared.tokenizer.state.TagState.TheVariants as tag
-use Rattle.page_tokens.specs.NamedReferences.{read_of}
+use Rattle.page_tokens.specs.NamedReferences.{after_name, read_of}
 use Rattle.page_tokens.specs.Reading.{text_of}
 use Rattle.page_tokens.specs.StandardStates.{state_of, state_in}
 
@@ -167,7 +167,7 @@ abbrev pub ReferenceHeld : Reference → Tokenizer → List ℕ → Machine → 
 ReferenceHeld reference.None t ahead m = ⊥
 ReferenceHeld reference.Begun t ahead m = (ahead ≡ []) × (string_bytes t.written ≡ codes "&")
 ReferenceHeld (reference.Named found) t ahead m = (ahead ≡ read_of found.names) × (m.buffer ≡ codes "&")
-    × Spells t.written (m.buffer ++ ahead)
+    × Spells t.written (m.buffer ++ ahead) × Spells t.behind (after_name ahead)
 ReferenceHeld reference.Ambiguous t ahead m = ahead ≡ []
 ReferenceHeld reference.Number t ahead m = (ahead ≡ []) × Spells t.written m.buffer
 ReferenceHeld reference.HexStart t ahead m = (ahead ≡ []) × Spells t.written m.buffer × (m.code ≡ 0)

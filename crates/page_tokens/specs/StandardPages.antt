@@ -1,6 +1,6 @@
 -- How the calls of the tokenizer read a page, in pieces cut anywhere: what the public functions promise once every state follows the
 -- standard.
-use Rattle.std.specs.Prelude.{◌≡◌, ℕ, ◌==◌, Bool, true, false, cond, List, [], ◌∷◌, ◌++◌, map, Option, None, Some, Result, IfOk, encode_utf8}
+use Rattle.std.specs.Prelude.{◌≡◌, ℕ, ◌==◌, Bool, true, false, cond, List, [], ◌∷◌, ◌++◌, map, Option, None, Some, Result, IfOk}
 use Rattle.std.specs.Borrow.{Bor}
 use Rattle.std.specs.Str.{encode_utf8_all}
 use Rattle.standard_tokens.specs.Machine.{Machine, at_state, normalized, normalized_behind, start, start_in}
@@ -10,7 +10,6 @@ use Rattle.standard_tokens.specs.Tokens.{Token as StandardToken, AChar}
 use Rattle.page_tokens.specs.declared.token.TokenKind.{TokenKind}
 use Rattle.page_tokens.specs.declared.tokenizer.Tokenizer.{Tokenizer}
 use Rattle.page_tokens.specs.Reading.{text_of}
-use Rattle.page_tokens.specs.References.{ReadsNoName}
 use Rattle.page_tokens.specs.declared.tokenizer.state.State.{State}
 use Rattle.page_tokens.specs.declared.tokenizer.state.State.TheVariants as state
 use Rattle.page_tokens.specs.Standard.{Behind, Goes, Holds, Leaves, Stands, Told}
@@ -73,10 +72,6 @@ pub record ReadsUpTo (old new : Tokenizer) (text rest : List ℕ) (before after 
 abbrev pub ReadsAsStandard : {E : Type 0} → Tokenizer → Tokenizer → List ℕ → Option TokenKind → Option TokenKind →
     Result (Bor (List ℕ)) E → Type 0
 ReadsAsStandard old new text before after result = IfOk result (λ rest. new.refused ≡ false → ReadsUpTo old new text rest.now before after)
-
--- no name of a reference is being read, and none begins with the first character of the text
-abbrev pub BeginsNoName : Tokenizer → List ℕ → Type 0
-BeginsNoName t text = (c : ℕ) (rest : List ℕ) → text ≡ encode_utf8 c ++ rest → ReadsNoName t.reference (line_end_of c)
 
 -- ---- between the calls that read
 

@@ -20,7 +20,7 @@ pub record TextGoesOn (old new : Tokenizer) (next : State) (more : List ℕ) : T
 
 -- a character reference begins at an `&`
 pub record BeginsReference (old new : Tokenizer) : Type 0 where
-  pub only : new ≡ record old { reference = reference.Begun; written = new.written; behind = new.behind }
+  pub only : new ≡ record old { reference = reference.Begun; written = new.written }
   pub written : string_bytes new.written ≡ codes "&"
 
 -- the state in which such a text is read

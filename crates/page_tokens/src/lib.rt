@@ -6,6 +6,7 @@
 
 pub mod attribute;
 mod attributes;
+pub mod laws;
 pub mod named_references;
 pub mod parse_error;
 pub mod token;

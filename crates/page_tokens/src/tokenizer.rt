@@ -8,6 +8,7 @@ mod doctypes;
 mod draft;
 mod end_of_file;
 mod errors;
+mod lanes;
 mod named;
 mod plain;
 mod raw_end_tags;
@@ -116,10 +117,9 @@ fn push(text: &mut String, c: char) -> Progress
 impl Tokenizer {
     ghost use Rattle.std.specs.Option.{option_copied};
     ghost use Rattle.page_tokens.specs.Reading.{IsInText, text_of};
-    ghost use Rattle.page_tokens.specs.References.{ReadsNoName};
     ghost use Rattle.page_tokens.specs.Standard.{Follows};
-    ghost use Rattle.page_tokens.specs.StandardPages.{BeginsPage, IsTextState, KeepsPlace, Switches};
-    ghost use Rattle.page_tokens.specs.StandardPages.{FollowsText, ReadsAnywhere};
+    ghost use Rattle.page_tokens.specs.StandardPages.{BeginsPage, FollowsText, IsTextState};
+    ghost use Rattle.page_tokens.specs.StandardPages.{KeepsPlace, ReadsAnywhere, Switches};
     ghost use Rattle.page_tokens.specs.Tags.{TakesTag};
     ghost use Rattle.page_tokens.specs.TextStates.{raw_state_of};
 
@@ -247,8 +247,7 @@ impl Tokenizer {
     /// Processes a character of a page. A carriage return, with or without a line feed after it,
     /// becomes one line feed.
     fn step(&mut self, letter: char) -> Progress
-        ensures { ReadsNoName self.old.reference (line_end_of letter) →
-            FollowsText self.old self.new (letter ∷ []) result }
+        ensures { FollowsText self.old self.new (letter ∷ []) result }
     {
         if self.ends_line_end(letter) {
             self.after_return = false;
@@ -267,8 +266,7 @@ impl Tokenizer {
 
     /// Processes a character, in a character reference or outside of one.
     fn take(&mut self, c: char) -> Progress
-        ensures { ReadsNoName self.old.reference c →
-            ReadsAnywhere self.old self.new (c ∷ []) result }
+        ensures { ReadsAnywhere self.old self.new (c ∷ []) result }
     {
         if !self.is_in_reference() {
             return self.read(c);

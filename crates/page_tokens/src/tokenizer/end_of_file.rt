@@ -34,7 +34,7 @@ fn error_at_end(state: State) -> Option<ParseError>
 }
 
 impl Tokenizer {
-    ghost use Rattle.page_tokens.specs.Reading.{IsInText, IsNoName, ReadsNoToken};
+    ghost use Rattle.page_tokens.specs.Reading.{IsInText, ReadsNoToken};
     ghost use Rattle.page_tokens.specs.PageEnds.{EndsAsStandard, EndsMark};
     ghost use Rattle.page_tokens.specs.PageEnds.{ended_doctype_of, left_of};
     ghost use Rattle.page_tokens.specs.TextStates.{TextGoesOn};
@@ -54,7 +54,7 @@ impl Tokenizer {
     /// runs out.
     pub fn end_kind(&mut self) -> Result<Option<TokenKind>, AllocError>
         ensures text { IsInText self.old → ReadsNoToken self.old self.new [] result }
-        ensures stops { IsNoName self.old.reference → EndsAsStandard self.old self.new result }
+        ensures stops { EndsAsStandard self.old self.new result }
     {
         self.end_reference();
         self.report(error_at_end(self.state));

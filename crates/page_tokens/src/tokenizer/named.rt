@@ -14,11 +14,11 @@ pub struct Match {
     pub is_whole: bool,
     /// Whether that name ends in a semicolon.
     pub closed: bool,
-    ghost longest: { IsLongest (read_of names) value },
+    ghost longest: { IsLongest (read_of names) value closed },
 }
 
 impl Match {
-    ghost use Rattle.page_tokens.specs.Reading.{MatchesOn};
+    ghost use Rattle.page_tokens.specs.References.{MatchesOn};
 
     /// Returns a match that has read nothing.
     pub fn new() -> Match
@@ -55,7 +55,7 @@ impl Match {
                 names,
                 value: self.value,
                 is_whole: false,
-                closed: false,
+                closed: self.closed,
             }),
         }
     }

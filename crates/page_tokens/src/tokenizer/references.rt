@@ -1,12 +1,13 @@
 //! The character reference states (13.2.5.72 to 13.2.5.80).
 
-ghost use Rattle.std.specs.Prelude.{◌≡◌, ◌≤◌, ◌+◌, ◌*◌, ◌==◌, [], IfOk, OnOk, true, false, min};
-ghost use Rattle.std.specs.Prelude.{None, encode_utf8, string_bytes};
-ghost use Rattle.std.specs.Char.{is_ascii_alphanumeric};
+ghost use Rattle.std.specs.Prelude.{◌≡◌, ◌≤◌, ◌+◌, ◌*◌, ◌++◌, ◌==◌, ◌&&◌, IfOk, OnOk, true, false};
+ghost use Rattle.std.specs.Prelude.{None, cond, encode_utf8, min, not, string_bytes};
+ghost use Rattle.std.specs.Str.{encode_utf8_all};
 ghost use Rattle.standard_tokens.specs.Machine.{is_value};
+ghost use Rattle.page_tokens.specs.NameTable.{characters_of};
 ghost use Rattle.page_tokens.specs.Numbers.{character_of};
 ghost use Rattle.page_tokens.specs.StandardStates.{state_of};
-ghost use Rattle.page_tokens.specs.References.{base_of, number_of, with_digit_of};
+ghost use Rattle.page_tokens.specs.References.{base_of, is_of_word, number_of, with_digit_of};
 
 use super::errors::is_noncharacter;
 use super::named::Match;
@@ -130,8 +131,18 @@ fn ambiguous_error(c: char) -> Option<ParseError> {
     }
 }
 
+/// Returns whether the character is `=`, a letter or a digit.
+fn is_of_word(c: char) -> bool
+    ensures { result ≡ is_of_word c }
+{
+    c == '=' || c.is_ascii_alphanumeric()
+}
+
 /// Replaces the text by what a name means and the characters after the name.
-fn put_value(text: &mut String, value: Value, behind: &str) -> Result<(), AllocError> {
+fn put_value(text: &mut String, value: Value, behind: &str) -> Result<(), AllocError>
+    ensures { OnOk result
+        (string_bytes text.new ≡ encode_utf8_all (characters_of value) ++ behind.now) }
+{
     text.clear();
     text.push(value.first)?;
     if let Some(second) = value.second {
@@ -141,14 +152,13 @@ fn put_value(text: &mut String, value: Value, behind: &str) -> Result<(), AllocE
 }
 
 impl Tokenizer {
-    ghost use Rattle.page_tokens.specs.NamedReferences.{read_of};
+    ghost use Rattle.page_tokens.specs.NamedReferences.{IsSettled, read_of};
     ghost use Rattle.page_tokens.specs.PageEnds.{EndsInReference};
-    ghost use Rattle.page_tokens.specs.Reading.{IsInName, IsNameRead, IsNoName, IsReadBehind};
     ghost use Rattle.page_tokens.specs.References.{DigitsFollow, EndsReference};
-    ghost use Rattle.page_tokens.specs.References.{FollowsInReference, Puts};
-    ghost use Rattle.page_tokens.specs.References.{ReadsNoName, WritesOn};
+    ghost use Rattle.page_tokens.specs.References.{FollowsInReference, NameGoesOn, Puts};
+    ghost use Rattle.page_tokens.specs.References.{Rewrites, WritesOn, is_part_of_word};
+    ghost use Rattle.page_tokens.specs.References.{meant_by, replaced_by};
     ghost use Rattle.page_tokens.specs.TextStates.{BeginsReference};
-    ghost use Rattle.page_tokens.specs.declared.tokenizer.named.Match.{Match};
 
     pub(super) fn is_in_reference(&self) -> bool
         ensures none { self.now.reference ≡ Reference.None → result ≡ false }
@@ -163,7 +173,6 @@ impl Tokenizer {
     {
         self.reference = Reference::Begun;
         self.written.clear();
-        self.behind.clear();
         push(&mut self.written, '&')
     }
 
@@ -178,12 +187,7 @@ impl Tokenizer {
 
     /// Processes a character in a reference, and returns whether it is part of the reference.
     pub(super) fn reference(&mut self, c: char) -> bool
-        ensures begins { self.old.reference ≡ Reference.Begun → is_ascii_alphanumeric c ≡ true →
-            IsNameRead [] None c self.new.reference }
-        ensures goes_on { (found : Match) → self.old.reference ≡ Reference.Named found →
-            IsReadBehind found c self.new.reference }
-        ensures follows { ReadsNoName self.old.reference c →
-            FollowsInReference self.old self.new c result }
+        ensures { FollowsInReference self.old self.new c result }
     {
         match self.reference {
             Reference::None => false,
@@ -196,12 +200,11 @@ impl Tokenizer {
     }
 
     fn reference_begins(&mut self, c: char) -> bool
-        ensures name { is_ascii_alphanumeric c ≡ true →
-            IsNameRead [] None c self.new.reference }
-        ensures follows { self.old.reference ≡ Reference.Begun → is_ascii_alphanumeric c ≡ false →
+        ensures { self.old.reference ≡ Reference.Begun →
             FollowsInReference self.old self.new c result }
     {
         if c.is_ascii_alphanumeric() {
+            self.behind.clear();
             return self.named(Match::new(), c);
         }
         if c == '#' {
@@ -296,8 +299,10 @@ impl Tokenizer {
         false
     }
 
+    /// Processes a character after those of the match.
     fn named(&mut self, found: Match, c: char) -> bool
-        ensures { IsReadBehind found c self.new.reference }
+        ensures { FollowsInReference (record self.old { reference = Reference.Named found })
+            self.new c result }
     {
         match found.with(c) {
             Some(more) => self.name_goes_on(more, c),
@@ -307,7 +312,7 @@ impl Tokenizer {
 
     fn name_goes_on(&mut self, found: Match, c: char) -> bool
         ensures is { result ≡ true }
-        ensures name { IsInName self.new.reference (read_of found.names) }
+        ensures on { self.new.refused ≡ false → NameGoesOn self.old self.new found c }
     {
         let put = self.written.push(c);
         self.keep(put);
@@ -322,7 +327,9 @@ impl Tokenizer {
     }
 
     fn name_ends(&mut self, found: Match, c: char) -> bool
-        ensures { IsNoName self.new.reference }
+        ensures { IsSettled (read_of found.names) c →
+            FollowsInReference (record self.old { reference = Reference.Named found })
+            self.new c result }
     {
         self.put_named(found, Some(c));
         if found.value.is_some() {
@@ -334,8 +341,7 @@ impl Tokenizer {
 
     /// Processes the characters after an ampersand that begin no name; they are text.
     fn ambiguous(&mut self, c: char) -> bool
-        ensures name { self.old.reference ≡ Reference.Ambiguous → IsNoName self.new.reference }
-        ensures follows { self.old.reference ≡ Reference.Ambiguous →
+        ensures { self.old.reference ≡ Reference.Ambiguous →
             FollowsInReference self.old self.new c result }
     {
         if c.is_ascii_alphanumeric() {
@@ -363,28 +369,55 @@ impl Tokenizer {
 
     /// Returns whether, in an attribute value, a letter, a digit or `=` follows the longest name. A
     /// name without a semicolon is then no reference.
-    fn is_part_of_word(&self, next: Option<char>) -> bool {
+    fn is_part_of_word(&self, next: Option<char>) -> bool
+        ensures { result ≡ is_part_of_word self.now next }
+    {
         if !self.is_in_value() {
             return false;
         }
-        match self.behind.as_str().chars().next().or(next) {
-            Some(c) => c == '=' || c.is_ascii_alphanumeric(),
+        if let Some(byte) = self.behind.as_str().as_bytes().first() {
+            return is_of_word(char::from(*byte));
+        }
+        match next {
+            Some(c) => is_of_word(c),
             None => false,
         }
     }
 
+    /// Replaces what was written by what the longest name means and the characters after it.
+    fn write_value(&mut self, value: Value)
+        ensures { self.new.refused ≡ false →
+            Rewrites self.old self.new (meant_by value self.old) }
+    {
+        let put = put_value(&mut self.written, value, self.behind.as_str());
+        self.keep(put);
+    }
+
+    /// Replaces what was written likewise, unless it is part of a word.
+    fn write_meaning(&mut self, value: Value, closed: bool, next: Option<char>)
+        ensures { self.new.refused ≡ false → Rewrites self.old self.new
+            (cond (not closed && is_part_of_word self.old next)
+            (string_bytes self.old.written) (meant_by value self.old)) }
+    {
+        if closed {
+            self.write_value(value);
+            return;
+        }
+        if self.is_part_of_word(next) {
+            return;
+        }
+        self.error(ParseError::MissingSemicolonAfterCharacterReference);
+        self.write_value(value);
+    }
+
     /// Appends what the longest name means, and the characters after it.
     fn put_named(&mut self, found: Match, next: Option<char>)
-        ensures { self.new.reference ≡ Reference.None }
+        ensures none { self.new.reference ≡ Reference.None }
+        ensures put { self.new.refused ≡ false →
+            EndsReference self.old self.new (replaced_by found next self.old) }
     {
-        if let Some(value) = found.value
-            && (found.closed || !self.is_part_of_word(next))
-        {
-            if !found.closed {
-                self.error(ParseError::MissingSemicolonAfterCharacterReference);
-            }
-            let put = put_value(&mut self.written, value, self.behind.as_str());
-            self.keep(put);
+        if let Some(value) = found.value {
+            self.write_meaning(value, found.closed, next);
         }
         self.put_written();
     }
@@ -392,8 +425,7 @@ impl Tokenizer {
     /// Ends a reference at the end of the page.
     pub(super) fn end_reference(&mut self)
         ensures none { self.old.reference ≡ Reference.None → self.new ≡ self.old }
-        ensures ends { IsNoName self.old.reference → self.new.refused ≡ false →
-            EndsInReference self.old self.new }
+        ensures ends { self.new.refused ≡ false → EndsInReference self.old self.new }
     {
         match self.reference {
             Reference::None => {}
