@@ -49,7 +49,7 @@ longer [] ys h = absurd (omega (arith, h))
 longer (x ∷ xs) ys h = omega arith
 
 -- an attribute that is being read
-holds_attr : (kept : List TagAttr) (name value : List ℕ) (one : Attr) (older : List Attr) → 0 < length name → map to_ascii_lowercase name ≡ encode_utf8_all one.name → value ≡ encode_utf8_all one.value →
+pub holds_attr : (kept : List TagAttr) (name value : List ℕ) (one : Attr) (older : List Attr) → 0 < length name → map to_ascii_lowercase name ≡ encode_utf8_all one.name → value ≡ encode_utf8_all one.value →
     AreAttrs kept (distinct (reverse older)) → HoldsAttrs kept name value (one ∷ older)
 holds_attr kept [] value one older some name_is value_is are = absurd (omega (arith, some))
 holds_attr kept (b ∷ name) value one older some name_is value_is are = (name_is, value_is, are)
@@ -144,7 +144,7 @@ begins_arm old done mid new bytes (Err e) done_is none some mid_is remembers gai
 -- ---- a letter of a name
 
 -- the attribute that is being read, and the standard's
-record Open (draft : TagDraft) (one : StandardTag) : Type 0 where
+pub record Open (draft : TagDraft) (one : StandardTag) : Type 0 where
   pub attr : Attr
   pub older : List Attr
   pub are : one.attrs ≡ attr ∷ older
@@ -152,7 +152,7 @@ record Open (draft : TagDraft) (one : StandardTag) : Type 0 where
   pub value : string_bytes draft.attr_value ≡ encode_utf8_all attr.value
   pub kept : AreAttrs draft.attrs.kept.items (distinct (reverse older))
 
-open_attr : (draft : TagDraft) (one : StandardTag) → 0 < length (string_bytes draft.attr_name) → IsDraft draft one → Open draft one
+pub open_attr : (draft : TagDraft) (one : StandardTag) → 0 < length (string_bytes draft.attr_name) → IsDraft draft one → Open draft one
 open_attr draft one some is =
     let u : (attr : Attr) × (older : List Attr) × (one.attrs ≡ attr ∷ older) × (map to_ascii_lowercase (string_bytes draft.attr_name) ≡ encode_utf8_all attr.name)
     × (string_bytes draft.attr_value ≡ encode_utf8_all attr.value) × AreAttrs draft.attrs.kept.items (distinct (reverse older)) =

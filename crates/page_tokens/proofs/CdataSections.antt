@@ -33,7 +33,7 @@ Comes inner c (its.Then next) = Only (state.Cdata inner) c next × HoldsNothing 
 Comes inner c its.Bracket = Over (state.Cdata inner) (state.Cdata cdata.End) c (c ∷ [])
 Comes inner c its.Text = Over (state.Cdata inner) (state.Cdata cdata.Section) c (brackets_of inner ++ c ∷ [])
 
-section_over : (c : ℕ) → (93 == c) ≡ false → Over (state.Cdata cdata.Section) (state.Cdata cdata.Section) c (c ∷ [])
+pub section_over : (c : ℕ) → (93 == c) ≡ false → Over (state.Cdata cdata.Section) (state.Cdata cdata.Section) c (c ∷ [])
 unfolding taken entries
 section_over c h93 b m rest = by_entry (at_state m there.CDATASection) (c ∷ rest) (taking (Emit Current ∷ []) Stay (c ∷ [])) (rw h93 refl) refl
 

@@ -56,6 +56,7 @@ comment_end old new inner is only m ahead stands =
     record {
       machine = stopping.machine;
       characters = [];
+      last = [];
       tokens = AComment m.comment ∷ [];
       goes = subst (λ text. Goes b m text [] stopping.machine []) (sym at.nothing) (subst (λ k. Goes b k [] [] stopping.machine []) at.machine stopping.goes);
       stops = stopping.stops;

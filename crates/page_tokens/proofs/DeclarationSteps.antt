@@ -26,13 +26,13 @@ opening m = at_state m there.MarkupDeclarationOpen
 
 -- ---- the entries of the markup declaration open state
 
-abbrev dashes : List ℕ → Bool
+abbrev pub dashes : List ℕ → Bool
 dashes text = starts_with eqb text (codes "--")
 
-abbrev doctypes : List ℕ → Bool
+abbrev pub doctypes : List ℕ → Bool
 doctypes text = starts_with same_case_less text (codes "DOCTYPE")
 
-abbrev cdatas : List ℕ → Bool
+abbrev pub cdatas : List ℕ → Bool
 cdatas text = starts_with eqb text (codes "[CDATA[")
 
 doctype_taken : (b : Bool) (m : Machine) (text : List ℕ) → dashes text ≡ false → doctypes text ≡ true → taken b m text (entries there.MarkupDeclarationOpen) ≡ taking [] (Switch there.DOCTYPEState) (take 7 text)
@@ -48,7 +48,7 @@ no_cdata_taken : (m : Machine) (text : List ℕ) → dashes text ≡ false → d
 unfolding taken entries
 no_cdata_taken m text one two three = rw (one, two, three) refl
 
-bogus_taken : (b : Bool) (m : Machine) (text : List ℕ) → dashes text ≡ false → doctypes text ≡ false → cdatas text ≡ false →
+pub bogus_taken : (b : Bool) (m : Machine) (text : List ℕ) → dashes text ≡ false → doctypes text ≡ false → cdatas text ≡ false →
     taken b m text (entries there.MarkupDeclarationOpen) ≡ taking (NewComment ∷ []) (Reconsume there.BogusComment) (take 1 text)
 unfolding taken entries
 bogus_taken b m text one two three = rw (one, two, three) refl
@@ -141,7 +141,7 @@ lower_themselves [] xs is all = tt
 lower_themselves (a ∷ ahead) [] is all = absurd (cc)
 lower_themselves (a ∷ ahead) (x ∷ xs) is all = (itself a (is_lower a x (cc) all.0), lower_themselves ahead xs (cc) all.1)
 
-letters_high : High (codes "doctype")
+pub letters_high : High (codes "doctype")
 letters_high = (omega arith, (omega arith, (omega arith, (omega arith, (omega arith, (omega arith, (omega arith, tt)))))))
 
 -- the first letter
@@ -192,20 +192,20 @@ in_doctype b m ahead rest n c is = go (letter_is (codes "doctype") n (to_ascii_l
     go false h = bogus b m ahead rest c (d_first ahead n is.0 is.2 c rest).0 (fails to_ascii_lowercase (codes "DOCTYPE") ahead n c rest is.2 is.1 h) (d_first ahead n is.0 is.2 c rest).1
         (lower_themselves ahead (take n (codes "doctype")) is.2 (high_taken n (codes "doctype") letters_high))
 
-themselves_taken : (n : ℕ) (xs : List ℕ) → AllThemselves xs → AllThemselves (take n xs)
+pub themselves_taken : (n : ℕ) (xs : List ℕ) → AllThemselves xs → AllThemselves (take n xs)
 themselves_taken zero xs all = tt
 themselves_taken (suc n) [] all = tt
 themselves_taken (suc n) (x ∷ xs) all = (all.0, themselves_taken n xs all.1)
 
-cdata_themselves : AllThemselves (codes "[CDATA[")
+pub cdata_themselves : AllThemselves (codes "[CDATA[")
 cdata_themselves =
     let one : (c : ℕ) → (62 == c) ≡ false → (0 == c) ≡ false → Itself c = λ c a b. record { no_end = a; no_null = b } in
     (one 91 refl refl, (one 67 refl refl, (one 68 refl refl, (one 65 refl refl, (one 84 refl refl, (one 65 refl refl, (one 91 refl refl, tt)))))))
 
-abbrev same : ℕ → ℕ
+abbrev pub same : ℕ → ℕ
 same x = x
 
-map_same : (xs : List ℕ) → map same xs ≡ xs
+pub map_same : (xs : List ℕ) → map same xs ≡ xs
 map_same [] = refl
 map_same (x ∷ xs) = ap (λ t. x ∷ t) (map_same xs)
 

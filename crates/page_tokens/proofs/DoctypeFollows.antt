@@ -227,12 +227,12 @@ with_name : (one new : Doctype) (other : StandardDoctype) (name : Option (List �
 with_name one new other name only is spells =
     subst (λ d. IsDoctype d (record other { name = name })) (sym only) (record { name = spells; public_id = is.public_id; system_id = is.system_id; force_quirks = is.force_quirks })
 
-with_public : (one new : Doctype) (other : StandardDoctype) (text : Option (List ℕ)) → new ≡ record one { public_id = new.public_id } → IsDoctype one other → MaySpell new.public_id text →
+pub with_public : (one new : Doctype) (other : StandardDoctype) (text : Option (List ℕ)) → new ≡ record one { public_id = new.public_id } → IsDoctype one other → MaySpell new.public_id text →
     IsDoctype new (record other { public_id = text })
 with_public one new other text only is spells =
     subst (λ d. IsDoctype d (record other { public_id = text })) (sym only) (record { name = is.name; public_id = spells; system_id = is.system_id; force_quirks = is.force_quirks })
 
-with_system : (one new : Doctype) (other : StandardDoctype) (text : Option (List ℕ)) → new ≡ record one { system_id = new.system_id } → IsDoctype one other → MaySpell new.system_id text →
+pub with_system : (one new : Doctype) (other : StandardDoctype) (text : Option (List ℕ)) → new ≡ record one { system_id = new.system_id } → IsDoctype one other → MaySpell new.system_id text →
     IsDoctype new (record other { system_id = text })
 with_system one new other text only is spells =
     subst (λ d. IsDoctype d (record other { system_id = text })) (sym only) (record { name = is.name; public_id = is.public_id; system_id = spells; force_quirks = is.force_quirks })

@@ -379,17 +379,17 @@ in_bogus b m rest c =
 -- ---- the keywords
 
 -- the machine behind the name
-abbrev behind_name : Machine → Machine
+abbrev pub behind_name : Machine → Machine
 behind_name m = at_state m there.AfterDOCTYPEName
 
-abbrev publics : List ℕ → Bool
+abbrev pub publics : List ℕ → Bool
 publics text = starts_with same_case_less text (codes "PUBLIC")
 
-abbrev systems : List ℕ → Bool
+abbrev pub systems : List ℕ → Bool
 systems text = starts_with same_case_less text (codes "SYSTEM")
 
 -- the first character is no white space and no `>`
-record IsFirst (a : ℕ) : Type 0 where
+pub record IsFirst (a : ℕ) : Type 0 where
   pub tab : (9 == a) ≡ false
   pub line_feed : (10 == a) ≡ false
   pub form_feed : (12 == a) ≡ false
@@ -405,7 +405,7 @@ system_taken : (b : Bool) (m : Machine) (a : ℕ) (text : List ℕ) → IsFirst 
 unfolding taken entries
 system_taken b m a text s public is = rw (s.tab, s.line_feed, s.form_feed, s.space, s.greater, public, is) refl
 
-no_keyword_taken : (b : Bool) (m : Machine) (a : ℕ) (text : List ℕ) → IsFirst a → publics (a ∷ text) ≡ false → systems (a ∷ text) ≡ false →
+pub no_keyword_taken : (b : Bool) (m : Machine) (a : ℕ) (text : List ℕ) → IsFirst a → publics (a ∷ text) ≡ false → systems (a ∷ text) ≡ false →
     taken b m (a ∷ text) (entries there.AfterDOCTYPEName) ≡ taking (ForceQuirks ∷ []) (Reconsume there.BogusDOCTYPE) (a ∷ [])
 unfolding taken entries
 no_keyword_taken b m a text s one other = rw (s.tab, s.line_feed, s.form_feed, s.space, s.greater, one, other) refl
@@ -442,16 +442,16 @@ after_name b m rest c =
     (no_keyword_taken b (at doctype.AfterName m) c rest (first_of c s h62) (rw (no_p c h112 h80) refl) (rw (no_s c h115 h83) refl)) refl) (bogus b m rest c (record m.doctype { force_quirks = true }) h62)))))))
 
 -- letters of a malformed doctype
-bogus_run : (b : Bool) (m : Machine) (front rest : List ℕ) (one : StandardDoctype) → AllThemselves front → Goes b (holding m there.BogusDOCTYPE one) (front ++ rest) [] (holding m there.BogusDOCTYPE one) rest
+pub bogus_run : (b : Bool) (m : Machine) (front rest : List ℕ) (one : StandardDoctype) → AllThemselves front → Goes b (holding m there.BogusDOCTYPE one) (front ++ rest) [] (holding m there.BogusDOCTYPE one) rest
 bogus_run b m [] rest one all = stays
 bogus_run b m (c ∷ front) rest one all = then_on (bogus b m (front ++ rest) c one all.0.no_end) (bogus_run b m front rest one all.1)
 
 -- the letter that is first
-abbrev first_letter : Id → ℕ
+abbrev pub first_letter : Id → ℕ
 first_letter id.Public = 112
 first_letter id.System = 115
 
-first_is : (which : Id) (a : ℕ) → to_ascii_lowercase a ≡ first_letter which → IsFirst a
+pub first_is : (which : Id) (a : ℕ) → to_ascii_lowercase a ≡ first_letter which → IsFirst a
 first_is id.Public a is = record { tab = no9 a is; line_feed = no10 a is; form_feed = no12 a is; space = no32 a is; greater = no62 a is }
   where
     no9 : (a : ℕ) → to_ascii_lowercase a ≡ 112 → (9 == a) ≡ false
@@ -486,13 +486,13 @@ first_is id.System a is = record { tab = no9 a is; line_feed = no10 a is; form_f
     no62 a is = grind arith
 
 -- the other keyword does not begin with it
-no_system : (a : ℕ) (text : List ℕ) → to_ascii_lowercase a ≡ 112 → systems (a ∷ text) ≡ false
+pub no_system : (a : ℕ) (text : List ℕ) → to_ascii_lowercase a ≡ 112 → systems (a ∷ text) ≡ false
 no_system a text is = rw (other a is) refl
   where
     other : (a : ℕ) → to_ascii_lowercase a ≡ 112 → (115 == to_ascii_lowercase a) ≡ false
     other a is = grind arith
 
-no_public : (a : ℕ) (text : List ℕ) → to_ascii_lowercase a ≡ 115 → publics (a ∷ text) ≡ false
+pub no_public : (a : ℕ) (text : List ℕ) → to_ascii_lowercase a ≡ 115 → publics (a ∷ text) ≡ false
 no_public a text is = rw (other a is) refl
   where
     other : (a : ℕ) → to_ascii_lowercase a ≡ 115 → (112 == to_ascii_lowercase a) ≡ false
@@ -518,7 +518,7 @@ whole id.System b m (a ∷ front) rest same =
     (by_entry (behind_name m) (a ∷ (front ++ rest)) (taking [] (Switch there.AfterDOCTYPESystemKeyword) (a ∷ front))
     (system_taken b (behind_name m) a (front ++ rest) (first_is id.System a low) (no_public a (front ++ rest) low) (begins to_ascii_lowercase (codes "SYSTEM") (a ∷ front) rest same) ∙ ap (taking [] (Switch there.AfterDOCTYPESystemKeyword)) cut) refl)
 
-letters_high : (which : Id) → High (keyword_of which)
+pub letters_high : (which : Id) → High (keyword_of which)
 letters_high id.Public = (omega arith, (omega arith, (omega arith, (omega arith, (omega arith, (omega arith, tt))))))
 letters_high id.System = (omega arith, (omega arith, (omega arith, (omega arith, (omega arith, (omega arith, tt))))))
 

@@ -14,7 +14,7 @@ high_stays b h = grind arith
 low_stays_low : (c : ℕ) → c < 128 → to_ascii_lowercase c < 128
 low_stays_low c h = grind arith
 
-map_append : (f : ℕ → ℕ) (xs ys : List ℕ) → map f (xs ++ ys) ≡ map f xs ++ map f ys
+pub map_append : (f : ℕ → ℕ) (xs ys : List ℕ) → map f (xs ++ ys) ≡ map f xs ++ map f ys
 map_append f [] ys = refl
 map_append f (x ∷ xs) ys = ap (λ t. f x ∷ t) (map_append f xs ys)
 

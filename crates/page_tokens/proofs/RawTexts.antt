@@ -26,7 +26,7 @@ use Rattle.page_tokens.proofs.TextFollows.{Over, OnlyErrors, begins_reference, c
 
 -- ---- the data state
 
-data_over : (c : ℕ) → (38 == c) ≡ false → (60 == c) ≡ false → Over state.Data state.Data c (c ∷ [])
+pub data_over : (c : ℕ) → (38 == c) ≡ false → (60 == c) ≡ false → Over state.Data state.Data c (c ∷ [])
 unfolding taken entries
 data_over c h38 h60 b m rest =
     by_bool (λ e x. Goes b (at_state m there.Data) (e ∷ rest) (AChar e ∷ []) (at_state m there.Data) rest) c 0
@@ -80,28 +80,28 @@ end_tag_begins_arm old new which c (Ok told) is reads at only told_is = λ none.
     (end_tag_begins old new which told is (subst (IsReadRaw which) at reads) only told_is none)
 end_tag_begins_arm old new which c (Err e) is reads at only told_is = tt
 
-rcdata_over : (c : ℕ) → (38 == c) ≡ false → (60 == c) ≡ false → Over state.Rcdata state.Rcdata c (shown_of c ∷ [])
+pub rcdata_over : (c : ℕ) → (38 == c) ≡ false → (60 == c) ≡ false → Over state.Rcdata state.Rcdata c (shown_of c ∷ [])
 unfolding taken entries
 rcdata_over c h38 h60 b m rest =
     by_bool (λ e x. Goes b (at_state m there.RCDATA) (e ∷ rest) (AChar (cond x 0xfffd e) ∷ []) (at_state m there.RCDATA) rest) c 0
     (by_entry (at_state m there.RCDATA) (0 ∷ rest) (taking (Emit replacement ∷ []) Stay (0 ∷ [])) refl refl)
     (λ h0. by_entry (at_state m there.RCDATA) (c ∷ rest) (taking (Emit Current ∷ []) Stay (c ∷ [])) (rw (h38, h60, h0) refl) refl)
 
-rawtext_over : (c : ℕ) → (60 == c) ≡ false → Over state.Rawtext state.Rawtext c (shown_of c ∷ [])
+pub rawtext_over : (c : ℕ) → (60 == c) ≡ false → Over state.Rawtext state.Rawtext c (shown_of c ∷ [])
 unfolding taken entries
 rawtext_over c h60 b m rest =
     by_bool (λ e x. Goes b (at_state m there.RAWTEXT) (e ∷ rest) (AChar (cond x 0xfffd e) ∷ []) (at_state m there.RAWTEXT) rest) c 0
     (by_entry (at_state m there.RAWTEXT) (0 ∷ rest) (taking (Emit replacement ∷ []) Stay (0 ∷ [])) refl refl)
     (λ h0. by_entry (at_state m there.RAWTEXT) (c ∷ rest) (taking (Emit Current ∷ []) Stay (c ∷ [])) (rw (h60, h0) refl) refl)
 
-script_over : (c : ℕ) → (60 == c) ≡ false → Over state.Script state.Script c (shown_of c ∷ [])
+pub script_over : (c : ℕ) → (60 == c) ≡ false → Over state.Script state.Script c (shown_of c ∷ [])
 unfolding taken entries
 script_over c h60 b m rest =
     by_bool (λ e x. Goes b (at_state m there.ScriptData) (e ∷ rest) (AChar (cond x 0xfffd e) ∷ []) (at_state m there.ScriptData) rest) c 0
     (by_entry (at_state m there.ScriptData) (0 ∷ rest) (taking (Emit replacement ∷ []) Stay (0 ∷ [])) refl refl)
     (λ h0. by_entry (at_state m there.ScriptData) (c ∷ rest) (taking (Emit Current ∷ []) Stay (c ∷ [])) (rw (h60, h0) refl) refl)
 
-plaintext_over : (c : ℕ) → Over state.Plaintext state.Plaintext c (shown_of c ∷ [])
+pub plaintext_over : (c : ℕ) → Over state.Plaintext state.Plaintext c (shown_of c ∷ [])
 unfolding taken entries
 plaintext_over c b m rest =
     by_bool (λ e x. Goes b (at_state m there.PLAINTEXT) (e ∷ rest) (AChar (cond x 0xfffd e) ∷ []) (at_state m there.PLAINTEXT) rest) c 0

@@ -23,6 +23,13 @@ fails f (w ∷ word) (a ∷ ahead) zero c rest is within other = absurd (cc)
 fails f (w ∷ word) (a ∷ ahead) (suc n) c rest is within other =
     and_false (f w == f a) _ (fails f word ahead n c rest (cc) (omega (arith, within)) other)
 
+-- the same where the text ends
+pub begun_fails : (f : ℕ → ℕ) (word ahead : List ℕ) (n : ℕ) → map f ahead ≡ take n (map f word) → n < length word → pointwise (Same f) word (take (length word) ahead) ≡ false
+begun_fails f [] ahead n is within = absurd (omega (arith, within))
+begun_fails f (w ∷ word) [] n is within = refl
+begun_fails f (w ∷ word) (a ∷ ahead) zero is within = absurd (cc)
+begun_fails f (w ∷ word) (a ∷ ahead) (suc n) is within = and_false (f w == f a) _ (begun_fails f word ahead n (cc) (omega (arith, within)))
+
 -- the word begins the text
 pub begins : (f : ℕ → ℕ) (word front rest : List ℕ) → map f front ≡ map f word → pointwise (Same f) word (take (length word) (front ++ rest)) ≡ true
 begins f [] front rest is = refl

@@ -4,12 +4,16 @@ pub mod Comments
 pub mod Declarations
 pub mod DoctypeSteps
 pub mod Drafts
+pub mod FastPaths
+pub mod Lanes
 pub mod NameTable
 pub mod NamedReferences
 pub mod Numbers
+pub mod PageEnds
 pub mod RawEndTags
 pub mod Reading
 pub mod References
+pub mod RunEnds
 pub mod Runs
 pub mod SameNames
 pub mod ScriptStates

@@ -239,15 +239,16 @@ Follows old new read result = IfOk result (λ told. new.refused ≡ false → Fo
 
 -- ---- the end of the page
 
--- Nothing follows: the machine goes to where it stops, and emits the token that ends and the end of the file.
+-- Nothing follows: the machine goes to where it stops, and emits the last characters, the token that ends and the end of the file.
 pub record Stops (old new : Tokenizer) (told : Option TokenKind) (m : Machine) (ahead : List ℕ) : Type 0 where
   pub machine : Machine
   pub characters : List ℕ
+  pub last : List ℕ
   pub tokens : List StandardToken
   pub goes : Goes old.in_foreign m ahead (map AChar characters) machine []
   pub stops : (step old.in_foreign machine []).stopped ≡ true
-  pub emits : (step old.in_foreign machine []).tokens ≡ tokens ++ AnEof ∷ []
-  pub text : text_of new ≡ text_of old ++ encode_utf8_all characters
+  pub emits : (step old.in_foreign machine []).tokens ≡ map AChar last ++ tokens ++ AnEof ∷ []
+  pub text : text_of new ≡ text_of old ++ encode_utf8_all (characters ++ last)
   pub ends : Told told new tokens
 
 abbrev pub StopsAsStandard : Tokenizer → Tokenizer → Option TokenKind → Type 0

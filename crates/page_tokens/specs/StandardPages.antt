@@ -1,18 +1,37 @@
 -- How the calls of the tokenizer read a page, in pieces cut anywhere: what the public functions promise once every state follows the
 -- standard.
-use Rattle.std.specs.Prelude.{◌≡◌, ℕ, Bool, true, false, List, [], ◌∷◌, ◌++◌, map, Option, None, Some, Result, IfOk}
+use Rattle.std.specs.Prelude.{◌≡◌, ℕ, ◌==◌, Bool, true, false, cond, List, [], ◌∷◌, ◌++◌, map, Option, None, Some, Result, IfOk}
 use Rattle.std.specs.Borrow.{Bor}
 use Rattle.std.specs.Str.{encode_utf8_all}
-use Rattle.standard_tokens.specs.Machine.{Machine, Step, normalized, normalized_behind, start_in, step}
-use Rattle.standard_tokens.specs.Reading.{Feedback, Reader, Reads, answered, reader}
+use Rattle.standard_tokens.specs.Machine.{Machine, at_state, normalized, normalized_behind, start, start_in}
+use Rattle.standard_tokens.specs.Reading.{Feedback, Reads, reader}
 use Rattle.standard_tokens.specs.States.{State as StandardState}
 use Rattle.standard_tokens.specs.Tokens.{Token as StandardToken, AChar}
 use Rattle.page_tokens.specs.declared.token.TokenKind.{TokenKind}
 use Rattle.page_tokens.specs.declared.tokenizer.Tokenizer.{Tokenizer}
 use Rattle.page_tokens.specs.Reading.{text_of}
-use Rattle.page_tokens.specs.Standard.{Goes, Holds, Told}
+use Rattle.page_tokens.specs.declared.tokenizer.state.State.{State}
+use Rattle.page_tokens.specs.declared.tokenizer.state.State.TheVariants as state
+use Rattle.page_tokens.specs.Standard.{Behind, Goes, Holds, Leaves, Stands, Told}
+use Rattle.page_tokens.specs.StandardStates.{state_of}
 
--- ---- a call
+-- ---- a character
+
+-- The call reads these characters as the standard does, in a reference or outside of one.
+pub record FollowsAnywhere (old new : Tokenizer) (read : List ℕ) (told : Option TokenKind) : Type 0 where
+  pub memory : old.refused ≡ false
+  pub leaves : Leaves old new
+  pub reads : (m : Machine) (ahead rest : List ℕ) → Holds old ahead m → Behind old new read told m ahead rest
+
+-- the same, unless memory runs out
+abbrev pub ReadsAnywhere : {E : Type 0} → Tokenizer → Tokenizer → List ℕ → Result (Option TokenKind) E → Type 0
+ReadsAnywhere old new read result = IfOk result (λ told. new.refused ≡ false → FollowsAnywhere old new read told)
+
+-- a carriage return is a line feed
+abbrev pub line_end_of : ℕ → ℕ
+line_end_of c = cond (c == 13) 10 c
+
+-- ---- a text
 
 -- Behind a call that reads characters as they stand in the page: a carriage return, with or without a line feed, is one line feed.
 pub record BehindText (old new : Tokenizer) (read : List ℕ) (told : Option TokenKind) (m : Machine) (ahead rest : List ℕ) : Type 0 where
@@ -28,34 +47,57 @@ pub record BehindText (old new : Tokenizer) (read : List ℕ) (told : Option Tok
 
 -- The call reads these characters as the standard does, whatever follows, and leaves the flag for foreign content as it was.
 pub record ReadsText (old new : Tokenizer) (read : List ℕ) (told : Option TokenKind) : Type 0 where
+  pub memory : old.refused ≡ false
   pub in_foreign : new.in_foreign ≡ old.in_foreign
   pub reads : (m : Machine) (ahead rest : List ℕ) → Holds old ahead m → BehindText old new read told m ahead rest
 
--- `read_kind`: it reads the text up to the rest. If no token ends, it reads all of it, and the variable for the kind keeps its value.
+-- the same, unless memory runs out
+abbrev pub FollowsText : {E : Type 0} → Tokenizer → Tokenizer → List ℕ → Result (Option TokenKind) E → Type 0
+FollowsText old new read result = IfOk result (λ told. new.refused ≡ false → ReadsText old new read told)
+
+-- the kind of the token that ends, or else the kind before
+abbrev pub told_or : Option TokenKind → Option TokenKind → Option TokenKind
+told_or None before = before
+told_or (Some kind) before = Some kind
+
+-- A call reads the text up to the rest. No token ends there but at most one at the end, whose kind is then stored.
 pub record ReadsUpTo (old new : Tokenizer) (text rest : List ℕ) (before after : Option TokenKind) : Type 0 where
   pub read : List ℕ
   pub told : Option TokenKind
   pub cut : text ≡ encode_utf8_all read ++ rest
   pub reads : ReadsText old new read told
-  pub none : told ≡ None → (rest ≡ []) × (after ≡ before)
-  pub some : (kind : TokenKind) → told ≡ Some kind → after ≡ Some kind
+  pub kind : after ≡ told_or told before
 
+-- the same, unless memory runs out
 abbrev pub ReadsAsStandard : {E : Type 0} → Tokenizer → Tokenizer → List ℕ → Option TokenKind → Option TokenKind →
     Result (Bor (List ℕ)) E → Type 0
-ReadsAsStandard old new text before after result = IfOk result (λ rest. ReadsUpTo old new text rest.now before after)
+ReadsAsStandard old new text before after result = IfOk result (λ rest. new.refused ≡ false → ReadsUpTo old new text rest.now before after)
 
--- ---- the end of the page
+-- ---- between the calls that read
 
--- From here on nothing is left to read: the machine goes to where it stops.
-pub record StopsAt (old new : Tokenizer) (told : Option TokenKind) (m : Machine) (ahead : List ℕ) : Type 0 where
-  pub machine : Machine
-  pub characters : List ℕ
-  pub tokens : List StandardToken
-  pub last : List StandardToken
-  pub goes : Goes old.in_foreign m ahead (map AChar characters ++ tokens) machine []
-  pub stops : (step old.in_foreign machine []).stopped ≡ true
-  pub emits : (step old.in_foreign machine []).tokens ≡ last
-  pub text : text_of new ≡ text_of old ++ encode_utf8_all characters
+-- the tokenizer stands at the beginning of a page
+pub record BeginsPage (t : Tokenizer) : Type 0 where
+  pub memory : t.refused ≡ false
+  pub after_return : t.after_return ≡ false
+  pub in_foreign : t.in_foreign ≡ false
+  pub holds : Holds t [] start
+
+-- the machine that stands where the one tokenizer stands stands where the other stands
+abbrev pub KeepsPlace : Tokenizer → Tokenizer → Type 0
+KeepsPlace old new = (m : Machine) (ahead : List ℕ) → Holds old ahead m → Holds new ahead m
+
+-- the states in which tree construction has the content of an element read
+abbrev pub IsTextState : State → Type 0
+IsTextState state.Data = Unit {0}
+IsTextState state.Rcdata = Unit {0}
+IsTextState state.Rawtext = Unit {0}
+IsTextState state.Script = Unit {0}
+IsTextState state.Plaintext = Unit {0}
+IsTextState _ = ⊥
+
+-- behind a token, when tree construction has switched the state of both
+abbrev pub Switches : State → Tokenizer → Tokenizer → Type 0
+Switches to old new = (m : Machine) → Stands old [] m → Stands new [] (at_state m (state_of to))
 
 -- ---- a page
 

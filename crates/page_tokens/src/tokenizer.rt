@@ -8,6 +8,7 @@ mod doctypes;
 mod draft;
 mod end_of_file;
 mod errors;
+mod lanes;
 mod named;
 mod plain;
 mod raw_end_tags;
@@ -18,9 +19,10 @@ mod state;
 mod tags;
 mod text;
 
-ghost use Rattle.std.specs.Prelude.{◌≡◌, ◌∷◌, ◌++◌, [], IfOk, OnOk, None, string_bytes};
+ghost use Rattle.std.specs.Prelude.{◌≡◌, ◌==◌, ◌&&◌, ◌∷◌, ◌++◌, [], IfOk, OnOk, None, string_bytes};
 ghost use Rattle.std.specs.Prelude.{encode_utf8};
 ghost use Rattle.page_tokens.specs.Runs.{is_space_of};
+ghost use Rattle.page_tokens.specs.StandardPages.{line_end_of};
 
 use crate::parse_error::ErrorAt;
 use crate::token::{Doctype, Tag, Token, TokenKind};
@@ -82,6 +84,16 @@ fn is_space(c: char) -> bool
     matches!(c, '\t' | '\n' | '\u{c}' | ' ')
 }
 
+/// Returns the character as which this one is read: a line feed for a carriage return.
+fn line_end(letter: char) -> char
+    ensures { result ≡ line_end_of letter }
+{
+    match letter {
+        '\r' => '\n',
+        _ => letter,
+    }
+}
+
 /// The text that is left to read. An error means that memory ran out.
 type Rest<'a> = Result<&'a str, AllocError>;
 
@@ -106,6 +118,8 @@ impl Tokenizer {
     ghost use Rattle.std.specs.Option.{option_copied};
     ghost use Rattle.page_tokens.specs.Reading.{IsInText, text_of};
     ghost use Rattle.page_tokens.specs.Standard.{Follows};
+    ghost use Rattle.page_tokens.specs.StandardPages.{BeginsPage, FollowsText, IsTextState};
+    ghost use Rattle.page_tokens.specs.StandardPages.{KeepsPlace, ReadsAnywhere, Switches};
     ghost use Rattle.page_tokens.specs.Tags.{TakesTag};
     ghost use Rattle.page_tokens.specs.TextStates.{raw_state_of};
 
@@ -113,6 +127,7 @@ impl Tokenizer {
     pub fn new(alloc: Global) -> Tokenizer
         ensures start { IsInText result }
         ensures empty { text_of result ≡ [] }
+        ensures page { BeginsPage result }
     {
         Tokenizer {
             alloc,
@@ -146,13 +161,17 @@ impl Tokenizer {
     pub fn take_text(&mut self) -> String
         ensures taken { string_bytes result ≡ text_of self.old }
         ensures left { text_of self.new ≡ [] }
+        ensures only { self.new ≡ record self.old { text = self.new.text } }
+        ensures place { KeepsPlace self.old self.new }
     {
         mem::replace(&mut self.text, String::new(self.alloc))
     }
 
     /// Drops the characters before the next token, and keeps their memory for later ones.
     pub fn clear_text(&mut self)
-        ensures { text_of self.new ≡ [] }
+        ensures left { text_of self.new ≡ [] }
+        ensures only { self.new ≡ record self.old { text = self.new.text } }
+        ensures place { KeepsPlace self.old self.new }
     {
         self.text.clear();
     }
@@ -210,7 +229,8 @@ impl Tokenizer {
 
     /// Sets the state in which the text after a start tag is read, as tree construction requires.
     pub fn switch_to(&mut self, state: State)
-        ensures { self.new ≡ record self.old { state = state } }
+        ensures only { self.new ≡ record self.old { state = state } }
+        ensures place { IsTextState state → Switches state self.old self.new }
     {
         self.state = state;
     }
@@ -218,28 +238,49 @@ impl Tokenizer {
     /// Sets whether the adjusted current node is an element outside the HTML namespace, in which
     /// `<![CDATA[` starts a CDATA section.
     pub fn set_in_foreign(&mut self, in_foreign: bool)
-        ensures { self.new ≡ record self.old { in_foreign = in_foreign } }
+        ensures only { self.new ≡ record self.old { in_foreign = in_foreign } }
+        ensures place { KeepsPlace self.old self.new }
     {
         self.in_foreign = in_foreign;
     }
 
-    /// Processes a character. A carriage return, with or without a line feed after it, becomes one
-    /// line feed.
-    fn step(&mut self, letter: char) -> Progress {
-        let follows = self.after_return;
-        self.after_return = letter == '\r';
-        if follows && letter == '\n' {
+    /// Processes a character of a page. A carriage return, with or without a line feed after it,
+    /// becomes one line feed.
+    fn step(&mut self, letter: char) -> Progress
+        ensures { FollowsText self.old self.new (letter ∷ []) result }
+    {
+        if self.ends_line_end(letter) {
+            self.after_return = false;
             return Ok(None);
         }
-        let c = if letter == '\r' { '\n' } else { letter };
-        if self.is_in_reference() && self.reference(c) {
+        self.after_return = letter == '\r';
+        self.take(line_end(letter))
+    }
+
+    /// Returns whether this is the line feed of a line end whose carriage return was read before.
+    fn ends_line_end(&self, letter: char) -> bool
+        ensures { result ≡ (self.now.after_return && letter == 10) }
+    {
+        self.after_return && letter == '\n'
+    }
+
+    /// Processes a character, in a character reference or outside of one.
+    fn take(&mut self, c: char) -> Progress
+        ensures { ReadsAnywhere self.old self.new (c ∷ []) result }
+    {
+        if !self.is_in_reference() {
+            return self.read(c);
+        }
+        if self.reference(c) {
             return Ok(None);
         }
         self.read(c)
     }
 
     /// Processes a character outside a character reference, by the state.
-    fn read(&mut self, c: char) -> Progress {
+    fn read(&mut self, c: char) -> Progress
+        ensures { Follows self.old self.new (c ∷ []) result }
+    {
         match self.state {
             State::Data => self.in_data(c),
             State::Rcdata => self.in_rcdata(c),

@@ -4,6 +4,7 @@ ghost use Rattle.std.specs.Prelude.{◌≡◌, ◌∷◌, [], IfOk, OnOk, None, 
 ghost use Rattle.page_tokens.specs.DoctypeSteps.{AddsTo, after_name_of, before_id_of, broken};
 ghost use Rattle.page_tokens.specs.DoctypeSteps.{doctype_step_of, ends_or_of, keyword_step_of};
 ghost use Rattle.page_tokens.specs.DoctypeSteps.{quoted_step_of, spaced_of};
+ghost use Rattle.page_tokens.specs.FastPaths.{Appends};
 ghost use Rattle.page_tokens.specs.Standard.{keyword_of};
 
 use super::declarations::goes_on;
@@ -248,8 +249,22 @@ fn push_to(alloc: Global, text: &mut Option<String>, c: char) -> Progress
     }
 }
 
+/// Appends a run of characters to a text. Where there is none, the run becomes one.
+fn append_to(alloc: Global, text: &mut Option<String>, run: &str) -> Result<(), AllocError>
+    ensures { OnOk result (Appends text.old text.new run.now) }
+{
+    match text {
+        Some(text) => append(text, run),
+        None => {
+            *text = Some(String::from_str(alloc, run)?);
+            Ok(())
+        }
+    }
+}
+
 impl Tokenizer {
     ghost use Rattle.page_tokens.specs.Changes.{Remembers};
+    ghost use Rattle.page_tokens.specs.FastPaths.{AppendsToId};
     ghost use Rattle.page_tokens.specs.DoctypeSteps.{AddsToId, AddsToName, BeginsId, BeginsName};
     ghost use Rattle.page_tokens.specs.Standard.{Follows};
 
@@ -325,14 +340,12 @@ impl Tokenizer {
     }
 
     /// Appends a run of characters to an identifier.
-    pub(super) fn push_id(&mut self, id: Id, run: &str) -> Result<(), AllocError> {
-        let text = match id {
-            Id::Public => &mut self.doctype.public_id,
-            Id::System => &mut self.doctype.system_id,
-        };
-        match text {
-            Some(text) => append(text, run),
-            None => Ok(()),
+    pub(super) fn push_id(&mut self, id: Id, run: &str) -> Result<(), AllocError>
+        ensures { OnOk result (AppendsToId id self.old self.new run.now) }
+    {
+        match id {
+            Id::Public => append_to(self.alloc, &mut self.doctype.public_id, run),
+            Id::System => append_to(self.alloc, &mut self.doctype.system_id, run),
         }
     }
 

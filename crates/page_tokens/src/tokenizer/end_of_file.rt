@@ -1,6 +1,6 @@
 //! The end of the page.
 
-ghost use Rattle.std.specs.Prelude.{◌≡◌, [], None, Some};
+ghost use Rattle.std.specs.Prelude.{◌≡◌, [], None, Some, false, string_bytes};
 ghost use Rattle.page_tokens.specs.declared.tokenizer.state.State.TheVariants.{Data};
 
 use super::state::{CommentState, DoctypeState, Raw, ScriptState, TagState};
@@ -35,8 +35,9 @@ fn error_at_end(state: State) -> Option<ParseError>
 
 impl Tokenizer {
     ghost use Rattle.page_tokens.specs.Reading.{IsInText, ReadsNoToken};
-    ghost use Rattle.page_tokens.specs.Standard.{StopsAsStandard};
-    ghost use Rattle.page_tokens.specs.declared.tokenizer.state.CommentState.{CommentState};
+    ghost use Rattle.page_tokens.specs.PageEnds.{EndsAsStandard, EndsMark};
+    ghost use Rattle.page_tokens.specs.PageEnds.{ended_doctype_of, left_of};
+    ghost use Rattle.page_tokens.specs.TextStates.{TextGoesOn};
 
     /// Ends the page and returns the comment or doctype that ends with it, if there is one. An
     /// unfinished tag is dropped; the beginning of other markup becomes text. Fails only when
@@ -53,11 +54,10 @@ impl Tokenizer {
     /// runs out.
     pub fn end_kind(&mut self) -> Result<Option<TokenKind>, AllocError>
         ensures text { IsInText self.old → ReadsNoToken self.old self.new [] result }
+        ensures stops { EndsAsStandard self.old self.new result }
     {
         self.end_reference();
-        if let Some(error) = error_at_end(self.state) {
-            self.error(error);
-        }
+        self.report(error_at_end(self.state));
         let kind = self.end_of_mark();
         self.settled(kind)
     }
@@ -65,21 +65,12 @@ impl Tokenizer {
     /// Ends an unfinished comment or doctype; the beginning of other markup becomes text.
     fn end_of_mark(&mut self) -> Option<TokenKind>
         ensures text { self.old.state ≡ Data → (result ≡ None) × (self.new ≡ self.old) }
-        ensures comment { (inner : CommentState) → self.old.state ≡ State.Comment inner →
-            (result ≡ Some TokenKind.Comment) × StopsAsStandard self.old self.new result }
+        ensures stops { self.new.refused ≡ false → EndsMark self.old self.new result }
     {
         match self.state {
-            State::Declaration(_) | State::Comment(_) => {
-                self.state = State::Data;
-                Some(TokenKind::Comment)
-            }
-            State::Doctype(state) => {
-                if !matches!(state, DoctypeState::Bogus) {
-                    self.doctype.force_quirks = true;
-                }
-                self.state = State::Data;
-                Some(TokenKind::Doctype)
-            }
+            State::Declaration(_) => self.end_comment(),
+            State::Comment(_) => self.end_comment(),
+            State::Doctype(state) => self.end_doctype(state),
             _ => {
                 self.end_text();
                 None
@@ -87,9 +78,35 @@ impl Tokenizer {
         }
     }
 
+    fn end_comment(&mut self) -> Option<TokenKind>
+        ensures is { result ≡ Some TokenKind.Comment }
+        ensures only { self.new ≡ record self.old { state = Data } }
+    {
+        self.state = State::Data;
+        Some(TokenKind::Comment)
+    }
+
+    /// Ends an unfinished doctype. It is one for quirks mode, unless an error in it was found.
+    fn end_doctype(&mut self, state: DoctypeState) -> Option<TokenKind>
+        ensures is { result ≡ Some TokenKind.Doctype }
+        ensures only { self.new ≡ record self.old {
+          state = Data;
+          doctype = ended_doctype_of state self.old.doctype;
+        } }
+    {
+        self.state = State::Data;
+        match state {
+            DoctypeState::Bogus => {}
+            _ => self.doctype.force_quirks = true,
+        }
+        Some(TokenKind::Doctype)
+    }
+
     /// Appends the beginning of markup to the text; a tag is dropped.
     fn end_text(&mut self)
-        ensures { self.old.state ≡ Data → self.new ≡ self.old }
+        ensures text { self.old.state ≡ Data → self.new ≡ self.old }
+        ensures puts { self.new.refused ≡ false → TextGoesOn self.old self.new self.old.state
+            (left_of self.old.state (string_bytes self.old.tag.name)) }
     {
         match self.state {
             State::Cdata(state) => self.put_text(brackets(state)),

@@ -90,7 +90,8 @@ impl Tokenizer {
 
     /// Returns `made`, or an error if memory ran out.
     pub(super) fn settled(&self, made: Option<TokenKind>) -> Progress
-        ensures { IfOk result (λ kind. kind ≡ made) }
+        ensures is { IfOk result (λ kind. kind ≡ made) }
+        ensures memory { IfOk result (λ kind. self.now.refused ≡ false) }
     {
         if self.refused {
             return Err(AllocError);

@@ -61,6 +61,7 @@ fn end_tag_step(appropriate: bool, c: char) -> EndTagStep
 }
 
 impl Tokenizer {
+    ghost use Rattle.page_tokens.specs.PageEnds.{end_tag_left_of};
     ghost use Rattle.page_tokens.specs.RawEndTags.{AddsNameLetter, BeginsEndTag};
     ghost use Rattle.page_tokens.specs.Standard.{Follows};
     ghost use Rattle.page_tokens.specs.TextStates.{TextGoesOn};
@@ -166,7 +167,10 @@ impl Tokenizer {
     }
 
     /// Appends the beginning of what was no end tag to the text.
-    pub(super) fn put_end_tag(&mut self, state: EndTagState) {
+    pub(super) fn put_end_tag(&mut self, state: EndTagState)
+        ensures { self.new.refused ≡ false → TextGoesOn self.old self.new self.old.state
+            (end_tag_left_of state (string_bytes self.old.tag.name)) }
+    {
         match state {
             EndTagState::LessThan => self.put_text("<"),
             EndTagState::Open => self.put_text("</"),

@@ -153,6 +153,7 @@ fn put_value(text: &mut String, value: Value, behind: &str) -> Result<(), AllocE
 
 impl Tokenizer {
     ghost use Rattle.page_tokens.specs.NamedReferences.{IsSettled, read_of};
+    ghost use Rattle.page_tokens.specs.PageEnds.{EndsInReference};
     ghost use Rattle.page_tokens.specs.References.{DigitsFollow, EndsReference};
     ghost use Rattle.page_tokens.specs.References.{FollowsInReference, NameGoesOn, Puts};
     ghost use Rattle.page_tokens.specs.References.{Rewrites, WritesOn, is_part_of_word};
@@ -160,7 +161,8 @@ impl Tokenizer {
     ghost use Rattle.page_tokens.specs.TextStates.{BeginsReference};
 
     pub(super) fn is_in_reference(&self) -> bool
-        ensures { self.now.reference ≡ Reference.None → result ≡ false }
+        ensures none { self.now.reference ≡ Reference.None → result ≡ false }
+        ensures outside { result ≡ false → self.now.reference ≡ Reference.None }
     {
         !matches!(self.reference, Reference::None)
     }
@@ -422,14 +424,25 @@ impl Tokenizer {
 
     /// Ends a reference at the end of the page.
     pub(super) fn end_reference(&mut self)
-        ensures { self.old.reference ≡ Reference.None → self.new ≡ self.old }
+        ensures none { self.old.reference ≡ Reference.None → self.new ≡ self.old }
+        ensures ends { self.new.refused ≡ false → EndsInReference self.old self.new }
     {
         match self.reference {
-            Reference::None | Reference::Ambiguous => {}
-            Reference::Named(found) => self.put_named(found, None),
+            Reference::None => {}
             Reference::Begun => self.put_written(),
-            _ => {
-                self.digit('\0');
+            Reference::Named(found) => self.put_named(found, None),
+            Reference::Ambiguous => self.reference = Reference::None,
+            Reference::Number => {
+                self.without_digits();
+            }
+            Reference::HexStart => {
+                self.without_digits();
+            }
+            Reference::Hex(number) => {
+                self.numbered(number, '\0');
+            }
+            Reference::Decimal(number) => {
+                self.numbered(number, '\0');
             }
         }
     }

@@ -1,9 +1,13 @@
 //! The calls that read a page, and the runs of characters that a state copies unchanged.
 
-ghost use Rattle.std.specs.Prelude.{◌≡◌, ◌<◌, ◌≤◌, true, false, IfOk, IfSome, OnOk, length};
+ghost use Rattle.std.specs.Prelude.{◌≡◌, ◌<◌, ◌≤◌, ◌++◌, ℕ, [], true, false, IfOk, IfSome, OnOk};
+ghost use Rattle.std.specs.Prelude.{None, encode_utf8, length, slice_index_or};
 ghost use Rattle.std.specs.Str.{IsCharBoundary};
 ghost use Rattle.page_tokens.specs.Runs.{ends_text, ends_tag_name, tag_name_len_of, IsRun};
+ghost use Rattle.page_tokens.specs.RunEnds.{ends_attr_name, ends_value, ends_unquoted_value};
+ghost use Rattle.page_tokens.specs.RunEnds.{ends_run, run_in, run_len_of};
 
+use super::lanes::skip;
 use super::plain::first_byte;
 use super::state::{
     AttrState, CdataState, CommentState, DoctypeState, DoubleState, Id, Quote, ScriptState, Seen,
@@ -12,7 +16,6 @@ use super::state::{
 use super::{Progress, Rest, State, Step, Tokenizer, append};
 use crate::token::{Token, TokenKind};
 use std::alloc::AllocError;
-use std::simd::prelude::*;
 
 /// The character that can end a token. A page can be split after each of them.
 pub const MARKS: char = '>';
@@ -36,7 +39,8 @@ pub enum Run {
 
 /// Returns which characters the state copies unchanged, if it copies any.
 fn run_of(state: State) -> Option<Run>
-    ensures { state ≡ State.Data → result ≡ Some Run.Text }
+    ensures data { state ≡ State.Data → result ≡ Some Run.Text }
+    ensures is { result ≡ run_in state }
 {
     match state {
         State::Data | State::Rcdata => Some(Run::Text),
@@ -77,7 +81,8 @@ fn ends_tag_name(byte: u8) -> bool
 /// Returns whether a byte ends an attribute name, or is a parse error in one.
 #[inline(always)]
 fn ends_attr_name(byte: u8) -> bool
-    ensures { result ≡ true → byte < 128 }
+    ensures ascii { result ≡ true → byte < 128 }
+    ensures value { result ≡ ends_attr_name byte }
 {
     byte <= b'>' && (ends_tag_name(byte) || matches!(byte, b'"' | b'\'' | b'<' | b'='))
 }
@@ -85,14 +90,17 @@ fn ends_attr_name(byte: u8) -> bool
 /// Returns whether a byte ends a run in a double-quoted value.
 #[inline(always)]
 fn ends_value(byte: u8) -> bool
-    ensures { result ≡ true → byte < 128 }
+    ensures ascii { result ≡ true → byte < 128 }
+    ensures value { result ≡ ends_value Quote.Double byte }
 {
     matches!(byte, 0 | b'\r' | b'&' | b'"')
 }
 
 /// Returns whether a byte ends an unquoted value, starts a reference, or is a parse error there.
 #[inline(always)]
-fn ends_unquoted_value(byte: u8) -> bool {
+fn ends_unquoted_value(byte: u8) -> bool
+    ensures { result ≡ ends_unquoted_value byte }
+{
     byte <= b'`'
         && (matches!(byte, 0 | b'\t' | b'\n' | 0xc | b'\r' | b' ' | b'&' | b'>')
             || matches!(byte, b'"' | b'\'' | b'<' | b'=' | b'`'))
@@ -103,7 +111,7 @@ impl Run {
     #[inline(always)]
     fn ends_at(self, byte: u8) -> bool
         ensures ascii { result ≡ true → byte < 128 }
-        ensures text { self ≡ Run.Text → result ≡ ends_text byte }
+        ensures value { result ≡ ends_run self byte }
     {
         if byte >= 128 {
             return false;
@@ -126,31 +134,10 @@ impl Run {
     }
 }
 
-/// Returns how many bytes come before the first of the four. The last bytes, fewer than sixteen,
-/// are not searched, so the result can be less.
-#[inline(always)]
-fn skip(bytes: &[u8], ends: [u8; 4]) -> usize {
-    let (blocks, _) = bytes.as_chunks::<16>();
-    let mut count: usize = 0;
-    for block in blocks {
-        let lanes = u8x16::from_array(*block);
-        let marks = lanes.simd_eq(u8x16::splat(ends[0]))
-            | lanes.simd_eq(u8x16::splat(ends[1]))
-            | lanes.simd_eq(u8x16::splat(ends[2]))
-            | lanes.simd_eq(u8x16::splat(ends[3]));
-        let marks = marks.to_bitmask();
-        if marks != 0 {
-            return count.saturating_add(marks.trailing_zeros() as usize);
-        }
-        count = count.saturating_add(16);
-    }
-    count
-}
-
 /// Returns how many bytes come before the first that ends a run of text.
 fn text_len(text: &str) -> usize
     ensures boundary { IsCharBoundary text.now result }
-    ensures text { IsRun text.now → result ≡ length text.now }
+    ensures len { result ≡ run_len_of Run.Text text.now }
 {
     let bytes = text.as_bytes();
     for index in skip(bytes, *b"\0\r&<")..bytes.len() {
@@ -177,10 +164,12 @@ pub fn tag_name_len(text: &str) -> usize
 
 /// Returns how many bytes come before the first that ends an attribute name.
 pub fn attr_name_len(text: &str) -> usize
-    ensures { IsCharBoundary text.now result }
+    ensures boundary { IsCharBoundary text.now result }
+    ensures len { result ≡ run_len_of Run.AttrName text.now }
 {
-    for (index, byte) in text.as_bytes().iter().enumerate() {
-        if ends_attr_name(*byte) {
+    let bytes = text.as_bytes();
+    for index in 0..bytes.len() {
+        if ends_attr_name(bytes[index]) {
             return index;
         }
     }
@@ -189,7 +178,8 @@ pub fn attr_name_len(text: &str) -> usize
 
 /// Returns how many bytes come before the first that ends a run in a double-quoted value.
 pub fn value_len(text: &str) -> usize
-    ensures { IsCharBoundary text.now result }
+    ensures boundary { IsCharBoundary text.now result }
+    ensures len { result ≡ run_len_of (Run.AttrValue Quote.Double) text.now }
 {
     let bytes = text.as_bytes();
     for index in skip(bytes, *b"\0\r&\"")..bytes.len() {
@@ -200,9 +190,24 @@ pub fn value_len(text: &str) -> usize
     text.len()
 }
 
+/// Returns how many bytes can be skipped on the way to the first that ends the run.
+fn skipped_len(run: Run, bytes: &[u8]) -> usize
+    ensures within { result ≤ length bytes.now }
+    ensures none { (k : ℕ) → k < result →
+        ends_run run (slice_index_or bytes.now k 0) ≡ false }
+{
+    match run {
+        Run::Raw => skip(bytes, *b"\0\r<<"),
+        Run::Escaped => skip(bytes, *b"\0\r-<"),
+        Run::Comment => skip(bytes, *b"\0\r-<"),
+        _ => 0,
+    }
+}
+
 /// Returns how many bytes come before the first that ends the run.
 pub fn run_len(run: Run, text: &str) -> usize
     ensures boundary { IsCharBoundary text.now result }
+    ensures len { result ≡ run_len_of run text.now }
     ensures text { run ≡ Run.Text → IsRun text.now → result ≡ length text.now }
 {
     match run {
@@ -213,12 +218,7 @@ pub fn run_len(run: Run, text: &str) -> usize
         _ => {}
     }
     let bytes = text.as_bytes();
-    let skipped = match run {
-        Run::Raw => skip(bytes, *b"\0\r<<"),
-        Run::Escaped | Run::Comment => skip(bytes, *b"\0\r-<"),
-        _ => 0,
-    };
-    for index in skipped..bytes.len() {
+    for index in skipped_len(run, bytes)..bytes.len() {
         if run.ends_at(bytes[index]) {
             return index;
         }
@@ -229,7 +229,9 @@ pub fn run_len(run: Run, text: &str) -> usize
 /// Splits off the first character.
 #[inline(always)]
 fn split_char(text: &str) -> Option<(char, &str)>
-    ensures { IfSome result (λ found. length found.1.now < length text.now) }
+    ensures none { result ≡ None → text.now ≡ [] }
+    ensures less { IfSome result (λ found. length found.1.now < length text.now) }
+    ensures cut { IfSome result (λ found. text.now ≡ encode_utf8 found.0 ++ found.1.now) }
 {
     let mut chars = text.chars();
     let c = chars.next()?;
@@ -237,8 +239,10 @@ fn split_char(text: &str) -> Option<(char, &str)>
 }
 
 impl Tokenizer {
+    ghost use Rattle.page_tokens.specs.FastPaths.{CopiesRun, FollowsRun};
     ghost use Rattle.page_tokens.specs.Reading.{IsInText, AddsText};
     ghost use Rattle.page_tokens.specs.Reading.{ReadsNoToken, ReadsRun, ReadsWhole};
+    ghost use Rattle.page_tokens.specs.StandardPages.{ReadsAsStandard};
     ghost use Rattle.page_tokens.specs.Tags.{ReadsPlainTag, TakesPlainTag};
 
     /// Reads a part of a page that contains [`MARKS`] at its end or not at all;
@@ -393,7 +397,10 @@ impl Tokenizer {
 
     /// Reads one character.
     #[inline(never)]
-    fn read_char<'a>(&mut self, text: &'a str, kind: &mut Option<TokenKind>) -> Rest<'a> {
+    fn read_char<'a>(&mut self, text: &'a str, kind: &mut Option<TokenKind>) -> Rest<'a>
+        ensures { kind.old ≡ None →
+            ReadsAsStandard self.old self.new text.now kind.old kind.new result }
+    {
         let Some((c, after)) = split_char(text) else {
             return Ok(text);
         };
@@ -408,6 +415,7 @@ impl Tokenizer {
         ensures less { IfOk result (λ rest. length rest.now ≤ length text.now) }
         ensures text { IsInText self.old → IsRun text.now →
             ReadsWhole self.old self.new text.now result }
+        ensures follows { FollowsRun self.old self.new text.now result }
     {
         if self.after_return || self.is_in_reference() {
             return Ok(text);
@@ -416,6 +424,9 @@ impl Tokenizer {
             return Ok(text);
         };
         let (front, rest) = text.split_at(run_len(run, text));
+        if front.is_empty() {
+            return Ok(text);
+        }
         self.push_run(run, front)?;
         self.offset = self.offset.saturating_add(front.len());
         Ok(rest)
@@ -423,7 +434,8 @@ impl Tokenizer {
 
     /// Appends a run to what its state collects.
     fn push_run(&mut self, run: Run, front: &str) -> Result<(), AllocError>
-        ensures { run ≡ Run.Text → OnOk result (AddsText self.old self.new front.now) }
+        ensures text { run ≡ Run.Text → OnOk result (AddsText self.old self.new front.now) }
+        ensures copies { OnOk result (CopiesRun run self.old self.new front.now) }
     {
         match run {
             Run::Text | Run::Raw | Run::Plaintext | Run::Escaped | Run::Cdata => {

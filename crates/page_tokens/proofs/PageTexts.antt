@@ -1,0 +1,198 @@
+-- Characters as they stand in a page: line ends, and one text after another.
+use Rattle.std.specs.Prelude.{◌≡◌, ℕ, ◌==◌, ◌&&◌, Bool, true, false, cond, not, List, [], ◌∷◌, ◌++◌, map, Option, None, Some, Result, Ok, Err, IfOk, encode_utf8, refl}
+use Rattle.std.specs.List.{list_all}
+use Rattle.std.specs.Str.{encode_utf8_all}
+use Rattle.std.proofs.lemmas.Bool.{and_parts, eqb-true}
+use Rattle.std.proofs.lemmas.List.{append-nil, append_assoc}
+use mathlib.Core.Path.{◌∙◌, sym, ap, subst}
+use Rattle.standard_tokens.specs.Machine.{Machine, normalized_behind}
+use Rattle.standard_tokens.specs.Tokens.{Token as StandardToken, AChar}
+use Rattle.page_tokens.specs.Reading.{text_of}
+use Rattle.page_tokens.specs.Standard.{Behind, Goes, stays, Holds, Told}
+use Rattle.page_tokens.specs.StandardPages.{BehindText, FollowsAnywhere, FollowsText, ReadsAnywhere, ReadsText, ReadsUpTo, line_end_of, told_or}
+use Rattle.page_tokens.specs.declared.token.TokenKind.{TokenKind}
+use Rattle.page_tokens.specs.declared.token.TokenKind.TheVariants as token
+use Rattle.page_tokens.specs.declared.tokenizer.Tokenizer.{Tokenizer}
+use Rattle.page_tokens.proofs.AnyState.{joined, joined_text}
+use Rattle.page_tokens.proofs.Placed.{holds_on}
+use Rattle.page_tokens.proofs.StandardSteps.{then_on}
+
+-- ---- one character
+
+second_skipped : (b : Bool) (c : ℕ) (rest : List ℕ) → (b && c == 10) ≡ true → normalized_behind b (c ∷ rest) ≡ normalized_behind false rest
+second_skipped true c rest e = subst (λ d. normalized_behind true (d ∷ rest) ≡ normalized_behind false rest) (sym (eqb-true c 10 e)) refl
+second_skipped false c rest e = absurd (cc)
+
+letter_kept : (b : Bool) (c : ℕ) (rest : List ℕ) → (b && c == 10) ≡ false → normalized_behind b (c ∷ rest) ≡ line_end_of c ∷ normalized_behind (c == 13) rest
+letter_kept b c rest e =
+    subst (λ y. cond (c == 13) (10 ∷ normalized_behind true rest) (cond y (normalized_behind false rest) (c ∷ normalized_behind false rest)) ≡ line_end_of c ∷ normalized_behind (c == 13) rest) (sym e) (pick (c == 13))
+  where
+    pick : (x : Bool) → cond x (10 ∷ normalized_behind true rest) (c ∷ normalized_behind false rest) ≡ cond x 10 c ∷ normalized_behind x rest
+    pick true = refl
+    pick false = refl
+
+-- the line feed of a line end whose carriage return was read
+pub pair_arm : (old : Tokenizer) (letter : ℕ) → (old.after_return && letter == 10) ≡ true → old.refused ≡ false → ReadsText old (record old { after_return = false }) (letter ∷ []) None
+pair_arm old letter second memory = record {
+  memory = memory;
+  in_foreign = refl;
+  reads = λ m ahead rest holds. record {
+    machine = m;
+    ahead' = ahead;
+    characters = [];
+    tokens = [];
+    goes = subst (λ text. Goes old.in_foreign m (ahead ++ text) [] m (ahead ++ normalized_behind false rest)) (sym (second_skipped old.after_return letter rest second)) stays;
+    holds = holds_on old (record old { after_return = false }) ahead m refl holds;
+    text = sym (append-nil (text_of old));
+    ends = refl;
+  };
+}
+
+letter_read : (old new : Tokenizer) (letter c : ℕ) (told : Option TokenKind) → (old.after_return && letter == 10) ≡ false → c ≡ line_end_of letter → FollowsAnywhere (record old { after_return = letter == 13 }) new (c ∷ []) told →
+    ReadsText old new (letter ∷ []) told
+letter_read old new letter c told second c_is follows = record { memory = follows.memory; in_foreign = follows.leaves.in_foreign; reads = λ m ahead rest holds. go m ahead rest holds }
+  where
+    mid : Tokenizer
+    mid = record old { after_return = letter == 13 }
+
+    go : (m : Machine) (ahead rest : List ℕ) → Holds old ahead m → BehindText old new (letter ∷ []) told m ahead rest
+    go m ahead rest holds =
+        let later : List ℕ = normalized_behind (letter == 13) rest in
+        let to : Behind mid new (c ∷ []) told m ahead later = follows.reads m ahead later (holds_on old mid ahead m refl holds) in
+        let text : ahead ++ (c ∷ []) ++ later ≡ ahead ++ normalized_behind old.after_return (letter ∷ rest) =
+        append_assoc ahead (c ∷ []) later ∙ ap (λ d. ahead ++ d ∷ later) c_is ∙ ap (λ t. ahead ++ t) (sym (letter_kept old.after_return letter rest second)) in
+        record {
+          machine = to.machine;
+          ahead' = to.ahead';
+          characters = to.characters;
+          tokens = to.tokens;
+          goes = subst (λ x. Goes old.in_foreign m (ahead ++ normalized_behind old.after_return (letter ∷ rest)) (map AChar to.characters ++ to.tokens) to.machine (to.ahead' ++ normalized_behind x rest)) (sym follows.leaves.after_return)
+              (subst (λ t. Goes old.in_foreign m t (map AChar to.characters ++ to.tokens) to.machine (to.ahead' ++ later)) text to.goes);
+          holds = to.holds;
+          text = to.text;
+          ends = to.ends;
+        }
+
+-- any other character
+pub letter_arm : {E : Type 0} (old new : Tokenizer) (letter c : ℕ) (result : Result (Option TokenKind) E) → (old.after_return && letter == 10) ≡ false → c ≡ line_end_of letter →
+    ReadsAnywhere (record old { after_return = letter == 13 }) new (c ∷ []) result → FollowsText old new (letter ∷ []) result
+letter_arm old new letter c (Ok told) second c_is follows = λ memory. letter_read old new letter c told second c_is (follows memory)
+letter_arm old new letter c (Err e) second c_is follows = tt
+
+-- ---- one text after another
+
+pub no_text : (old : Tokenizer) → old.refused ≡ false → ReadsText old old [] None
+no_text old memory = record {
+  memory = memory;
+  in_foreign = refl;
+  reads = λ m ahead rest holds.
+      record { machine = m; ahead' = ahead; characters = []; tokens = []; goes = stays; holds = holds; text = sym (append-nil (text_of old)); ends = refl };
+}
+
+pub then_text : (a b c : Tokenizer) (read more : List ℕ) (told : Option TokenKind) → ReadsText a b read None → ReadsText b c more told → ReadsText a c (read ++ more) told
+then_text a b c read more told first second = record { memory = first.memory; in_foreign = second.in_foreign ∙ first.in_foreign; reads = λ m ahead rest holds. go m ahead rest holds }
+  where
+    go : (m : Machine) (ahead rest : List ℕ) → Holds a ahead m → BehindText a c (read ++ more) told m ahead rest
+    go m ahead rest holds =
+        let to : BehindText a b read None m ahead (more ++ rest) = first.reads m ahead (more ++ rest) holds in
+        let on : BehindText b c more told to.machine to.ahead' rest = second.reads to.machine to.ahead' rest to.holds in
+        let f : Bool = a.in_foreign in
+        let mid : List ℕ = to.ahead' ++ normalized_behind b.after_return (more ++ rest) in
+        let last : List ℕ = on.ahead' ++ normalized_behind c.after_return rest in
+        let begins : Goes f m (ahead ++ normalized_behind a.after_return (read ++ (more ++ rest))) (map AChar to.characters) to.machine mid =
+        subst (λ ts. Goes f m (ahead ++ normalized_behind a.after_return (read ++ (more ++ rest))) ts to.machine mid) (ap (λ ts. map AChar to.characters ++ ts) to.ends ∙ append-nil (map AChar to.characters)) to.goes in
+        let ends : Goes f to.machine mid (map AChar on.characters ++ on.tokens) on.machine last =
+        subst (λ x. Goes x to.machine mid (map AChar on.characters ++ on.tokens) on.machine last) first.in_foreign on.goes in
+        record {
+          machine = on.machine;
+          ahead' = on.ahead';
+          characters = to.characters ++ on.characters;
+          tokens = on.tokens;
+          goes = subst (λ t. Goes f m (ahead ++ normalized_behind a.after_return t) (map AChar (to.characters ++ on.characters) ++ on.tokens) on.machine last) (sym (append_assoc read more rest))
+              (subst (λ ts. Goes f m (ahead ++ normalized_behind a.after_return (read ++ (more ++ rest))) ts on.machine last) (joined to.characters on.characters on.tokens) (then_on begins ends));
+          holds = on.holds;
+          text = joined_text (text_of a) (text_of b) (text_of c) to.characters on.characters to.text on.text;
+          ends = on.ends;
+        }
+
+-- ---- texts without a carriage return
+
+as_it_stands : (cs rest : List ℕ) → list_all (λ c. not (c == 13)) cs ≡ true → normalized_behind false (cs ++ rest) ≡ cs ++ normalized_behind false rest
+as_it_stands [] rest none = refl
+as_it_stands (c ∷ cs) rest none =
+    let parts : (not (c == 13) ≡ true) × (list_all (λ c. not (c == 13)) cs ≡ true) = and_parts (not (c == 13)) (list_all (λ c. not (c == 13)) cs) none in
+    subst (λ x. cond x (10 ∷ normalized_behind true (cs ++ rest)) (c ∷ normalized_behind false (cs ++ rest)) ≡ c ∷ (cs ++ normalized_behind false rest)) (sym (no_true (c == 13) parts.0)) (ap (λ t. c ∷ t) (as_it_stands cs rest parts.1))
+  where
+    no_true : (x : Bool) → not x ≡ true → x ≡ false
+    no_true true e = absurd (cc)
+    no_true false e = refl
+
+pub without_returns : (old new : Tokenizer) (read : List ℕ) (told : Option TokenKind) → old.after_return ≡ false → list_all (λ c. not (c == 13)) read ≡ true → FollowsAnywhere old new read told → ReadsText old new read told
+without_returns old new read told plain none follows = record { memory = follows.memory; in_foreign = follows.leaves.in_foreign; reads = λ m ahead rest holds. go m ahead rest holds }
+  where
+    go : (m : Machine) (ahead rest : List ℕ) → Holds old ahead m → BehindText old new read told m ahead rest
+    go m ahead rest holds =
+        let later : List ℕ = normalized_behind false rest in
+        let to : Behind old new read told m ahead later = follows.reads m ahead later holds in
+        let text : ahead ++ read ++ later ≡ ahead ++ normalized_behind old.after_return (read ++ rest) =
+        append_assoc ahead read later ∙ ap (λ t. ahead ++ t) (sym (as_it_stands read rest none)) ∙ ap (λ x. ahead ++ normalized_behind x (read ++ rest)) (sym plain) in
+        record {
+          machine = to.machine;
+          ahead' = to.ahead';
+          characters = to.characters;
+          tokens = to.tokens;
+          goes = subst (λ x. Goes old.in_foreign m (ahead ++ normalized_behind old.after_return (read ++ rest)) (map AChar to.characters ++ to.tokens) to.machine (to.ahead' ++ normalized_behind x rest)) (sym (follows.leaves.after_return ∙ plain))
+              (subst (λ t. Goes old.in_foreign m t (map AChar to.characters ++ to.tokens) to.machine (to.ahead' ++ later)) text to.goes);
+          holds = to.holds;
+          text = to.text;
+          ends = to.ends;
+        }
+
+-- ---- calls
+
+-- only the place in the page changed
+abbrev pub MovesOn : Tokenizer → Tokenizer → Type 0
+MovesOn old new = new ≡ record old { offset = new.offset }
+
+pub moved_on : (old mid new : Tokenizer) (read : List ℕ) (told : Option TokenKind) → MovesOn mid new → ReadsText old mid read told → ReadsText old new read told
+moved_on old mid new read told moves reads = subst (λ t. ReadsText old t read told) (sym moves) (record { memory = reads.memory; in_foreign = reads.in_foreign; reads = λ m ahead rest holds. go told m ahead rest (reads.reads m ahead rest holds) })
+  where
+    made : Tokenizer
+    made = record mid { offset = new.offset }
+
+    told_on : (told : Option TokenKind) (tokens : List StandardToken) → Told told mid tokens → Told told made tokens
+    told_on None tokens ends = ends
+    told_on (Some token.Comment) tokens ends = ends
+    told_on (Some token.Doctype) tokens ends = ends
+    told_on (Some token.Tag) tokens ends = ends
+
+    go : (told : Option TokenKind) (m : Machine) (ahead rest : List ℕ) → BehindText old mid read told m ahead rest → BehindText old made read told m ahead rest
+    go told m ahead rest to = record {
+      machine = to.machine;
+      ahead' = to.ahead';
+      characters = to.characters;
+      tokens = to.tokens;
+      goes = to.goes;
+      holds = holds_on mid made to.ahead' to.machine refl to.holds;
+      text = to.text;
+      ends = told_on told to.tokens to.ends;
+    }
+
+-- no text is left
+pub nothing_arm : (old : Tokenizer) (text : List ℕ) (kind : Option TokenKind) → text ≡ [] → old.refused ≡ false → ReadsUpTo old old text text kind kind
+nothing_arm old text kind empty memory = record { read = []; told = None; cut = refl; reads = no_text old memory; kind = refl }
+
+-- one character
+pub character_arm : (old mid new : Tokenizer) (text rest : List ℕ) (c : ℕ) (told before after : Option TokenKind) → before ≡ None → text ≡ encode_utf8 c ++ rest → (mid.refused ≡ false → ReadsText old mid (c ∷ []) told) → MovesOn mid new → after ≡ told →
+    new.refused ≡ false → ReadsUpTo old new text rest before after
+character_arm old mid new text rest c told before after none cut reads moves after_is memory = record {
+  read = c ∷ [];
+  told = told;
+  cut = cut ∙ ap (λ e. e ++ rest) (sym (append-nil (encode_utf8 c)));
+  reads = moved_on old mid new (c ∷ []) told moves (reads (sym (ap (λ t. t.refused) moves) ∙ memory));
+  kind = after_is ∙ told_alone told ∙ ap (told_or told) (sym none);
+}
+  where
+    told_alone : (told : Option TokenKind) → told ≡ told_or told None
+    told_alone None = refl
+    told_alone (Some kind) = refl

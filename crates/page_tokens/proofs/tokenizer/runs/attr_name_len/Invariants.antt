@@ -1,0 +1,6 @@
+use Rattle.std.proofs.Common.{◌≡◌, ◌<◌, false, ℕ, get_or}
+use Rattle.page_tokens.specs.RunEnds.{ends_attr_name}
+use Rattle.page_tokens.proofs.tokenizer.runs.attr_name_len.Given as goal
+
+abbrev pub invariant-loop-index : goal.invariant-loop-index
+invariant-loop-index l = (k : ℕ) → k < l.index → ends_attr_name (get_or l.text k 0) ≡ false
