@@ -7,8 +7,8 @@ use Rattle.std.proofs.Math.Seq.{drop-append_seam}
 use Rattle.std.proofs.lemmas.Bool.{eqb-true, eqb-false}
 use Rattle.std.proofs.lemmas.List.{append_assoc}
 use mathlib.Core.Path.{◌∙◌, sym, ap, subst}
-use Rattle.standard_tokens.specs.Entries.{Add, Current, DoctypeName, EmitDoctype, ForceQuirks, Lower, NewDoctype, PublicId, Reconsume, SetEmpty, Stay, Switch, SystemId, Then, replacement}
-use Rattle.standard_tokens.specs.Machine.{Machine, at_state, no_doctype, same_case_less, taken, with_more}
+use Rattle.standard_tokens.specs.Entries.{Act, Add, Current, DoctypeName, EmitDoctype, ForceQuirks, Lower, NewDoctype, Place, PublicId, Reconsume, SetEmpty, Stay, Switch, SystemId, What, replacement}
+use Rattle.standard_tokens.specs.Machine.{Machine, at_state, characters, no_doctype, same_case_less, taken, with_more}
 use Rattle.standard_tokens.specs.States as there
 use Rattle.standard_tokens.specs.States.{State as StandardState}
 use Rattle.standard_tokens.specs.Table.{entries}
@@ -26,10 +26,12 @@ use Rattle.page_tokens.specs.declared.tokenizer.state.DoctypeState.{DoctypeState
 use Rattle.page_tokens.specs.declared.tokenizer.state.DoctypeState.TheVariants as doctype
 use Rattle.page_tokens.specs.declared.tokenizer.state.Id.{Id}
 use Rattle.page_tokens.specs.declared.tokenizer.state.Id.TheVariants as id
+use Rattle.page_tokens.specs.declared.tokenizer.state.Quote.{Quote}
 use Rattle.page_tokens.specs.declared.tokenizer.state.Quote.TheVariants as quote
 use Rattle.page_tokens.proofs.DeclarationSteps.{AllThemselves, High, high_taken, lower_themselves}
 use Rattle.page_tokens.proofs.ScriptSteps.{is_upper, stays_lower}
 use Rattle.page_tokens.proofs.StandardSteps.{by_bool, by_entry, by_test, taking, then_on}
+use Rattle.page_tokens.proofs.TagMoves.{Entry, Over, stayed, switched}
 use Rattle.page_tokens.proofs.TagNames.{differs, space_cases}
 use Rattle.page_tokens.proofs.WordSteps.{begins, extends, fails, map_snoc, taken_word}
 
@@ -108,6 +110,21 @@ spaced P next c other p9 p10 p12 p32 otherwise = go (is_space_of c) refl
     go true e = space_cases (λ d. P d (its.Then next)) c e p9 p10 p12 p32
     go false e = otherwise (no_space c e)
 
+-- white space leads from one state to the other
+abbrev SpaceOver : StandardState → StandardState → Type 0
+SpaceOver s to = Over s to 9 × Over s to 10 × Over s to 12 × Over s to 32
+
+spaces_stay : (s : StandardState) → Entry s 9 [] Stay → Entry s 10 [] Stay → Entry s 12 [] Stay → Entry s 32 [] Stay → SpaceOver s s
+spaces_stay s e9 e10 e12 e32 = (stayed s 9 e9, stayed s 10 e10, stayed s 12 e12, stayed s 32 e32)
+
+spaces_switch : (s to : StandardState) → Entry s 9 [] (Switch to) → Entry s 10 [] (Switch to) → Entry s 12 [] (Switch to) → Entry s 32 [] (Switch to) → SpaceOver s to
+spaces_switch s to e9 e10 e12 e32 = (switched s to 9 e9, switched s to 10 e10, switched s to 12 e12, switched s to 32 e32)
+
+spaced_over : (inner next : DoctypeState) (b : Bool) (m : Machine) (rest : List ℕ) (c : ℕ) (other : DoctypeStep) → SpaceOver (doctype_state_of inner) (doctype_state_of next) → Passes inner next → (NoSpace c → Comes b inner m [] rest c other) →
+    Comes b inner m [] rest c (spaced_of next c other)
+spaced_over inner next b m rest c other over passes otherwise =
+    spaced (λ d k. Comes b inner m [] rest d k) next c other (over.0 b m rest, passes) (over.1 b m rest, passes) (over.2 b m rest, passes) (over.3 b m rest, passes) otherwise
+
 -- ---- the rest of a malformed doctype
 
 bogus : (b : Bool) (m : Machine) (rest : List ℕ) (c : ℕ) (one : StandardDoctype) → (62 == c) ≡ false → Goes b (holding m there.BogusDOCTYPE one) (c ∷ rest) [] (holding m there.BogusDOCTYPE one) rest
@@ -157,214 +174,156 @@ name_letter b m rest c s h62 =
 before_name : (b : Bool) (m : Machine) (rest : List ℕ) (c : ℕ) → Comes b doctype.BeforeName m [] rest c (doctype_step_of doctype.BeforeName c)
 unfolding taken entries
 before_name b m rest c =
-    let P : ℕ → DoctypeStep → Type 0 = λ d k. Comes b doctype.BeforeName m [] rest d k in
-    spaced P doctype.BeforeName c (ends_or_of true c its.NameBegins)
-    (by_entry (at doctype.BeforeName m) (9 ∷ rest) (taking ([]) (Stay) (9 ∷ [])) refl refl, (λ t ahead m held. (refl, held.1)))
-    (by_entry (at doctype.BeforeName m) (10 ∷ rest) (taking ([]) (Stay) (10 ∷ [])) refl refl, (λ t ahead m held. (refl, held.1)))
-    (by_entry (at doctype.BeforeName m) (12 ∷ rest) (taking ([]) (Stay) (12 ∷ [])) refl refl, (λ t ahead m held. (refl, held.1)))
-    (by_entry (at doctype.BeforeName m) (32 ∷ rest) (taking ([]) (Stay) (32 ∷ [])) refl refl, (λ t ahead m held. (refl, held.1)))
-    (λ s. by_test P c 62 (its.Ends true) its.NameBegins
+    spaced_over doctype.BeforeName doctype.BeforeName b m rest c (ends_or_of true c its.NameBegins)
+    (spaces_stay (doctype_state_of doctype.BeforeName) (λ b m rest. refl) (λ b m rest. refl) (λ b m rest. refl) (λ b m rest. refl)) (λ t ahead m held. (refl, held.1))
+    (λ s. by_test (λ d k. Comes b doctype.BeforeName m [] rest d k) c 62 (its.Ends true) its.NameBegins
     (by_entry (at doctype.BeforeName m) (62 ∷ rest) (taking (NewDoctype ∷ ForceQuirks ∷ EmitDoctype ∷ []) (Switch there.Data) (62 ∷ [])) refl refl)
     (λ h62. (name_begins b m rest c s h62, (λ one. refl))))
 
 at_begin : (b : Bool) (m : Machine) (rest : List ℕ) (c : ℕ) → Comes b doctype.Begin m [] rest c (doctype_step_of doctype.Begin c)
 unfolding taken entries
 at_begin b m rest c =
-    let P : ℕ → DoctypeStep → Type 0 = λ d k. Comes b doctype.Begin m [] rest d k in
-    spaced P doctype.BeforeName c (ends_or_of true c its.NameBegins)
-    (by_entry (at doctype.Begin m) (9 ∷ rest) (taking ([]) (Switch there.BeforeDOCTYPEName) (9 ∷ [])) refl refl, (λ t ahead m held. (refl, held.1)))
-    (by_entry (at doctype.Begin m) (10 ∷ rest) (taking ([]) (Switch there.BeforeDOCTYPEName) (10 ∷ [])) refl refl, (λ t ahead m held. (refl, held.1)))
-    (by_entry (at doctype.Begin m) (12 ∷ rest) (taking ([]) (Switch there.BeforeDOCTYPEName) (12 ∷ [])) refl refl, (λ t ahead m held. (refl, held.1)))
-    (by_entry (at doctype.Begin m) (32 ∷ rest) (taking ([]) (Switch there.BeforeDOCTYPEName) (32 ∷ [])) refl refl, (λ t ahead m held. (refl, held.1)))
-    (λ s. by_test P c 62 (its.Ends true) its.NameBegins
+    spaced_over doctype.Begin doctype.BeforeName b m rest c (ends_or_of true c its.NameBegins)
+    (spaces_switch (doctype_state_of doctype.Begin) (doctype_state_of doctype.BeforeName) (λ b m rest. refl) (λ b m rest. refl) (λ b m rest. refl) (λ b m rest. refl)) (λ t ahead m held. (refl, held.1))
+    (λ s. by_test (λ d k. Comes b doctype.Begin m [] rest d k) c 62 (its.Ends true) its.NameBegins
     (then_on (by_entry (at doctype.Begin m) (62 ∷ rest) (taking ([]) (Reconsume there.BeforeDOCTYPEName) (62 ∷ [])) refl refl) (by_entry (at doctype.BeforeName m) (62 ∷ rest) (taking (NewDoctype ∷ ForceQuirks ∷ EmitDoctype ∷ []) (Switch there.Data) (62 ∷ [])) refl refl))
     (λ h62. (then_on (by_entry (at doctype.Begin m) (c ∷ rest) (taking ([]) (Reconsume there.BeforeDOCTYPEName) (c ∷ [])) (rw (s.tab, s.line_feed, s.form_feed, s.space, h62) refl) refl) (name_begins b m rest c s h62), (λ one. refl))))
 
 in_name : (b : Bool) (m : Machine) (rest : List ℕ) (c : ℕ) → Comes b doctype.Name m [] rest c (doctype_step_of doctype.Name c)
 unfolding taken entries
 in_name b m rest c =
-    let P : ℕ → DoctypeStep → Type 0 = λ d k. Comes b doctype.Name m [] rest d k in
-    spaced P doctype.AfterName c (ends_or_of false c its.NameLetter)
-    (by_entry (at doctype.Name m) (9 ∷ rest) (taking ([]) (Switch there.AfterDOCTYPEName) (9 ∷ [])) refl refl, (λ t ahead m held. (refl, held.1)))
-    (by_entry (at doctype.Name m) (10 ∷ rest) (taking ([]) (Switch there.AfterDOCTYPEName) (10 ∷ [])) refl refl, (λ t ahead m held. (refl, held.1)))
-    (by_entry (at doctype.Name m) (12 ∷ rest) (taking ([]) (Switch there.AfterDOCTYPEName) (12 ∷ [])) refl refl, (λ t ahead m held. (refl, held.1)))
-    (by_entry (at doctype.Name m) (32 ∷ rest) (taking ([]) (Switch there.AfterDOCTYPEName) (32 ∷ [])) refl refl, (λ t ahead m held. (refl, held.1)))
-    (λ s. by_test P c 62 (its.Ends false) its.NameLetter
+    spaced_over doctype.Name doctype.AfterName b m rest c (ends_or_of false c its.NameLetter)
+    (spaces_switch (doctype_state_of doctype.Name) (doctype_state_of doctype.AfterName) (λ b m rest. refl) (λ b m rest. refl) (λ b m rest. refl) (λ b m rest. refl)) (λ t ahead m held. (refl, held.1))
+    (λ s. by_test (λ d k. Comes b doctype.Name m [] rest d k) c 62 (its.Ends false) its.NameLetter
     (by_entry (at doctype.Name m) (62 ∷ rest) (taking (EmitDoctype ∷ []) (Switch there.Data) (62 ∷ [])) refl refl)
     (λ h62. (name_letter b m rest c s h62, (λ t m is. (refl, is)))))
 
+-- ---- identifiers
+
+abbrev place_of_id : Id → Place
+place_of_id id.Public = PublicId
+place_of_id id.System = SystemId
+
+-- the doctype has been made before the state
+abbrev IsMadeBefore : DoctypeState → Type 0
+IsMadeBefore inner = (one : StandardDoctype) → made_at inner one ≡ one
+
+id_begins : (inner : DoctypeState) (which : Id) (mark : Quote) (d : ℕ) → IsMadeBefore inner → Entry (doctype_state_of inner) d (SetEmpty (place_of_id which) ∷ []) (Switch (doctype_state_of (doctype.Quoted which mark))) →
+    (b : Bool) (m : Machine) (rest : List ℕ) → Comes b inner m [] rest d (its.IdBegins which mark)
+id_begins inner id.Public mark d made entry b m rest =
+    subst (λ one. Goes b (at inner m) (d ∷ rest) [] (holding m (doctype_state_of (doctype.Quoted id.Public mark)) (with_id id.Public (Some []) one)) rest) (sym (made m.doctype))
+    (by_entry (at inner m) (d ∷ rest) (taking (SetEmpty PublicId ∷ []) (Switch (doctype_state_of (doctype.Quoted id.Public mark))) (d ∷ [])) (entry b m rest) refl)
+id_begins inner id.System mark d made entry b m rest =
+    subst (λ one. Goes b (at inner m) (d ∷ rest) [] (holding m (doctype_state_of (doctype.Quoted id.System mark)) (with_id id.System (Some []) one)) rest) (sym (made m.doctype))
+    (by_entry (at inner m) (d ∷ rest) (taking (SetEmpty SystemId ∷ []) (Switch (doctype_state_of (doctype.Quoted id.System mark))) (d ∷ [])) (entry b m rest) refl)
+
+abbrev ends_by : Bool → List Act
+ends_by true = ForceQuirks ∷ EmitDoctype ∷ []
+ends_by false = EmitDoctype ∷ []
+
+ends_there : (inner : DoctypeState) (breaks : Bool) → IsMadeBefore inner → Entry (doctype_state_of inner) 62 (ends_by breaks) (Switch there.Data) → (b : Bool) (m : Machine) (rest : List ℕ) → Comes b inner m [] rest 62 (its.Ends breaks)
+ends_there inner true made entry b m rest =
+    subst (λ one. Goes b (at inner m) (62 ∷ rest) (ADoctype (broken_there true one) ∷ []) (holding m there.Data (broken_there true one)) rest) (sym (made m.doctype))
+    (by_entry (at inner m) (62 ∷ rest) (taking (ForceQuirks ∷ EmitDoctype ∷ []) (Switch there.Data) (62 ∷ [])) (entry b m rest) refl)
+ends_there inner false made entry b m rest =
+    subst (λ one. Goes b (at inner m) (62 ∷ rest) (ADoctype (broken_there false one) ∷ []) (holding m there.Data (broken_there false one)) rest) (sym (made m.doctype))
+    (by_entry (at inner m) (62 ∷ rest) (taking (EmitDoctype ∷ []) (Switch there.Data) (62 ∷ [])) (entry b m rest) refl)
+
+malformed_there : (inner : DoctypeState) (c : ℕ) → IsMadeBefore inner → (62 == c) ≡ false → Entry (doctype_state_of inner) c (ForceQuirks ∷ []) (Reconsume there.BogusDOCTYPE) → (b : Bool) (m : Machine) (rest : List ℕ) →
+    Comes b inner m [] rest c (its.Malformed true)
+malformed_there inner c made h62 entry b m rest =
+    subst (λ one. Goes b (at inner m) (c ∷ rest) [] (holding m there.BogusDOCTYPE (broken_there true one)) rest) (sym (made m.doctype))
+    (then_on (by_entry (at inner m) (c ∷ rest) (taking (ForceQuirks ∷ []) (Reconsume there.BogusDOCTYPE) (c ∷ [])) (entry b m rest) refl) (bogus b m rest c (record m.doctype { force_quirks = true }) h62))
+
+-- where an identifier may begin
+before_id : (inner next : DoctypeState) (which : Id) (breaks : Bool) → IsMadeBefore inner → SpaceOver (doctype_state_of inner) (doctype_state_of next) → Passes inner next →
+    Entry (doctype_state_of inner) 34 (SetEmpty (place_of_id which) ∷ []) (Switch (doctype_state_of (doctype.Quoted which quote.Double))) →
+    Entry (doctype_state_of inner) 39 (SetEmpty (place_of_id which) ∷ []) (Switch (doctype_state_of (doctype.Quoted which quote.Single))) → Entry (doctype_state_of inner) 62 (ends_by breaks) (Switch there.Data) →
+    ((c : ℕ) → NoSpace c → (34 == c) ≡ false → (39 == c) ≡ false → (62 == c) ≡ false → Entry (doctype_state_of inner) c (ForceQuirks ∷ []) (Reconsume there.BogusDOCTYPE)) → (b : Bool) (m : Machine) (rest : List ℕ) (c : ℕ) →
+    Comes b inner m [] rest c (spaced_of next c (before_id_of which breaks c))
+before_id inner next which breaks made over passes double single greater other b m rest c =
+    let P : ℕ → DoctypeStep → Type 0 = λ d k. Comes b inner m [] rest d k in
+    spaced_over inner next b m rest c (before_id_of which breaks c) over passes
+    (λ s. by_test P c 34 (its.IdBegins which quote.Double) (cond (c == 39) (its.IdBegins which quote.Single) (ends_or_of breaks c (its.Malformed true))) (id_begins inner which quote.Double 34 made double b m rest)
+    (λ h34. by_test P c 39 (its.IdBegins which quote.Single) (ends_or_of breaks c (its.Malformed true)) (id_begins inner which quote.Single 39 made single b m rest)
+    (λ h39. by_test P c 62 (its.Ends breaks) (its.Malformed true) (ends_there inner breaks made greater b m rest) (λ h62. malformed_there inner c made h62 (other c s h34 h39 h62) b m rest))))
+
 after_public_keyword : (b : Bool) (m : Machine) (rest : List ℕ) (c : ℕ) → Comes b (doctype.AfterKeyword id.Public) m [] rest c (spaced_of (doctype.BeforeId id.Public) c (before_id_of id.Public true c))
 unfolding taken entries
-after_public_keyword b m rest c =
-    let P : ℕ → DoctypeStep → Type 0 = λ d k. Comes b (doctype.AfterKeyword id.Public) m [] rest d k in
-    spaced P (doctype.BeforeId id.Public) c (before_id_of id.Public true c)
-    (by_entry (at (doctype.AfterKeyword id.Public) m) (9 ∷ rest) (taking ([]) (Switch there.BeforeDOCTYPEPublicIdentifier) (9 ∷ [])) refl refl, (λ t ahead m held. (refl, held.1)))
-    (by_entry (at (doctype.AfterKeyword id.Public) m) (10 ∷ rest) (taking ([]) (Switch there.BeforeDOCTYPEPublicIdentifier) (10 ∷ [])) refl refl, (λ t ahead m held. (refl, held.1)))
-    (by_entry (at (doctype.AfterKeyword id.Public) m) (12 ∷ rest) (taking ([]) (Switch there.BeforeDOCTYPEPublicIdentifier) (12 ∷ [])) refl refl, (λ t ahead m held. (refl, held.1)))
-    (by_entry (at (doctype.AfterKeyword id.Public) m) (32 ∷ rest) (taking ([]) (Switch there.BeforeDOCTYPEPublicIdentifier) (32 ∷ [])) refl refl, (λ t ahead m held. (refl, held.1)))
-    (λ s. by_test P c 34 (its.IdBegins id.Public quote.Double) (cond (c == 39) (its.IdBegins id.Public quote.Single) (ends_or_of true c (its.Malformed true)))
-    (by_entry (at (doctype.AfterKeyword id.Public) m) (34 ∷ rest) (taking (SetEmpty PublicId ∷ []) (Switch (doctype_state_of (doctype.Quoted id.Public quote.Double))) (34 ∷ [])) refl refl)
-    (λ h34. by_test P c 39 (its.IdBegins id.Public quote.Single) (ends_or_of true c (its.Malformed true))
-    (by_entry (at (doctype.AfterKeyword id.Public) m) (39 ∷ rest) (taking (SetEmpty PublicId ∷ []) (Switch (doctype_state_of (doctype.Quoted id.Public quote.Single))) (39 ∷ [])) refl refl)
-    (λ h39. by_test P c 62 (its.Ends true) (its.Malformed true)
-    (by_entry (at (doctype.AfterKeyword id.Public) m) (62 ∷ rest) (taking (ForceQuirks ∷ EmitDoctype ∷ []) (Switch there.Data) (62 ∷ [])) refl refl)
-    (λ h62. then_on (by_entry (at (doctype.AfterKeyword id.Public) m) (c ∷ rest) (taking (ForceQuirks ∷ []) (Reconsume there.BogusDOCTYPE) (c ∷ [])) (rw (s.tab, s.line_feed, s.form_feed, s.space, h34, h39, h62) refl) refl) (bogus b m rest c (record m.doctype { force_quirks = true }) h62)))))
+after_public_keyword =
+    before_id (doctype.AfterKeyword id.Public) (doctype.BeforeId id.Public) id.Public true (λ one. refl) (spaces_switch (doctype_state_of (doctype.AfterKeyword id.Public)) (doctype_state_of (doctype.BeforeId id.Public)) (λ b m rest. refl) (λ b m rest. refl) (λ b m rest. refl) (λ b m rest. refl))
+    (λ t ahead m held. (refl, held.1)) (λ b m rest. refl) (λ b m rest. refl) (λ b m rest. refl) (λ c s h34 h39 h62 b m rest. rw (s.tab, s.line_feed, s.form_feed, s.space, h34, h39, h62) refl)
 
 before_public_id : (b : Bool) (m : Machine) (rest : List ℕ) (c : ℕ) → Comes b (doctype.BeforeId id.Public) m [] rest c (spaced_of (doctype.BeforeId id.Public) c (before_id_of id.Public true c))
 unfolding taken entries
-before_public_id b m rest c =
-    let P : ℕ → DoctypeStep → Type 0 = λ d k. Comes b (doctype.BeforeId id.Public) m [] rest d k in
-    spaced P (doctype.BeforeId id.Public) c (before_id_of id.Public true c)
-    (by_entry (at (doctype.BeforeId id.Public) m) (9 ∷ rest) (taking ([]) (Stay) (9 ∷ [])) refl refl, (λ t ahead m held. (refl, held.1)))
-    (by_entry (at (doctype.BeforeId id.Public) m) (10 ∷ rest) (taking ([]) (Stay) (10 ∷ [])) refl refl, (λ t ahead m held. (refl, held.1)))
-    (by_entry (at (doctype.BeforeId id.Public) m) (12 ∷ rest) (taking ([]) (Stay) (12 ∷ [])) refl refl, (λ t ahead m held. (refl, held.1)))
-    (by_entry (at (doctype.BeforeId id.Public) m) (32 ∷ rest) (taking ([]) (Stay) (32 ∷ [])) refl refl, (λ t ahead m held. (refl, held.1)))
-    (λ s. by_test P c 34 (its.IdBegins id.Public quote.Double) (cond (c == 39) (its.IdBegins id.Public quote.Single) (ends_or_of true c (its.Malformed true)))
-    (by_entry (at (doctype.BeforeId id.Public) m) (34 ∷ rest) (taking (SetEmpty PublicId ∷ []) (Switch (doctype_state_of (doctype.Quoted id.Public quote.Double))) (34 ∷ [])) refl refl)
-    (λ h34. by_test P c 39 (its.IdBegins id.Public quote.Single) (ends_or_of true c (its.Malformed true))
-    (by_entry (at (doctype.BeforeId id.Public) m) (39 ∷ rest) (taking (SetEmpty PublicId ∷ []) (Switch (doctype_state_of (doctype.Quoted id.Public quote.Single))) (39 ∷ [])) refl refl)
-    (λ h39. by_test P c 62 (its.Ends true) (its.Malformed true)
-    (by_entry (at (doctype.BeforeId id.Public) m) (62 ∷ rest) (taking (ForceQuirks ∷ EmitDoctype ∷ []) (Switch there.Data) (62 ∷ [])) refl refl)
-    (λ h62. then_on (by_entry (at (doctype.BeforeId id.Public) m) (c ∷ rest) (taking (ForceQuirks ∷ []) (Reconsume there.BogusDOCTYPE) (c ∷ [])) (rw (s.tab, s.line_feed, s.form_feed, s.space, h34, h39, h62) refl) refl) (bogus b m rest c (record m.doctype { force_quirks = true }) h62)))))
+before_public_id =
+    before_id (doctype.BeforeId id.Public) (doctype.BeforeId id.Public) id.Public true (λ one. refl) (spaces_stay (doctype_state_of (doctype.BeforeId id.Public)) (λ b m rest. refl) (λ b m rest. refl) (λ b m rest. refl) (λ b m rest. refl))
+    (λ t ahead m held. (refl, held.1)) (λ b m rest. refl) (λ b m rest. refl) (λ b m rest. refl) (λ c s h34 h39 h62 b m rest. rw (s.tab, s.line_feed, s.form_feed, s.space, h34, h39, h62) refl)
 
 after_system_keyword : (b : Bool) (m : Machine) (rest : List ℕ) (c : ℕ) → Comes b (doctype.AfterKeyword id.System) m [] rest c (spaced_of (doctype.BeforeId id.System) c (before_id_of id.System true c))
 unfolding taken entries
-after_system_keyword b m rest c =
-    let P : ℕ → DoctypeStep → Type 0 = λ d k. Comes b (doctype.AfterKeyword id.System) m [] rest d k in
-    spaced P (doctype.BeforeId id.System) c (before_id_of id.System true c)
-    (by_entry (at (doctype.AfterKeyword id.System) m) (9 ∷ rest) (taking ([]) (Switch there.BeforeDOCTYPESystemIdentifier) (9 ∷ [])) refl refl, (λ t ahead m held. (refl, held.1)))
-    (by_entry (at (doctype.AfterKeyword id.System) m) (10 ∷ rest) (taking ([]) (Switch there.BeforeDOCTYPESystemIdentifier) (10 ∷ [])) refl refl, (λ t ahead m held. (refl, held.1)))
-    (by_entry (at (doctype.AfterKeyword id.System) m) (12 ∷ rest) (taking ([]) (Switch there.BeforeDOCTYPESystemIdentifier) (12 ∷ [])) refl refl, (λ t ahead m held. (refl, held.1)))
-    (by_entry (at (doctype.AfterKeyword id.System) m) (32 ∷ rest) (taking ([]) (Switch there.BeforeDOCTYPESystemIdentifier) (32 ∷ [])) refl refl, (λ t ahead m held. (refl, held.1)))
-    (λ s. by_test P c 34 (its.IdBegins id.System quote.Double) (cond (c == 39) (its.IdBegins id.System quote.Single) (ends_or_of true c (its.Malformed true)))
-    (by_entry (at (doctype.AfterKeyword id.System) m) (34 ∷ rest) (taking (SetEmpty SystemId ∷ []) (Switch (doctype_state_of (doctype.Quoted id.System quote.Double))) (34 ∷ [])) refl refl)
-    (λ h34. by_test P c 39 (its.IdBegins id.System quote.Single) (ends_or_of true c (its.Malformed true))
-    (by_entry (at (doctype.AfterKeyword id.System) m) (39 ∷ rest) (taking (SetEmpty SystemId ∷ []) (Switch (doctype_state_of (doctype.Quoted id.System quote.Single))) (39 ∷ [])) refl refl)
-    (λ h39. by_test P c 62 (its.Ends true) (its.Malformed true)
-    (by_entry (at (doctype.AfterKeyword id.System) m) (62 ∷ rest) (taking (ForceQuirks ∷ EmitDoctype ∷ []) (Switch there.Data) (62 ∷ [])) refl refl)
-    (λ h62. then_on (by_entry (at (doctype.AfterKeyword id.System) m) (c ∷ rest) (taking (ForceQuirks ∷ []) (Reconsume there.BogusDOCTYPE) (c ∷ [])) (rw (s.tab, s.line_feed, s.form_feed, s.space, h34, h39, h62) refl) refl) (bogus b m rest c (record m.doctype { force_quirks = true }) h62)))))
+after_system_keyword =
+    before_id (doctype.AfterKeyword id.System) (doctype.BeforeId id.System) id.System true (λ one. refl) (spaces_switch (doctype_state_of (doctype.AfterKeyword id.System)) (doctype_state_of (doctype.BeforeId id.System)) (λ b m rest. refl) (λ b m rest. refl) (λ b m rest. refl) (λ b m rest. refl))
+    (λ t ahead m held. (refl, held.1)) (λ b m rest. refl) (λ b m rest. refl) (λ b m rest. refl) (λ c s h34 h39 h62 b m rest. rw (s.tab, s.line_feed, s.form_feed, s.space, h34, h39, h62) refl)
 
 before_system_id : (b : Bool) (m : Machine) (rest : List ℕ) (c : ℕ) → Comes b (doctype.BeforeId id.System) m [] rest c (spaced_of (doctype.BeforeId id.System) c (before_id_of id.System true c))
 unfolding taken entries
-before_system_id b m rest c =
-    let P : ℕ → DoctypeStep → Type 0 = λ d k. Comes b (doctype.BeforeId id.System) m [] rest d k in
-    spaced P (doctype.BeforeId id.System) c (before_id_of id.System true c)
-    (by_entry (at (doctype.BeforeId id.System) m) (9 ∷ rest) (taking ([]) (Stay) (9 ∷ [])) refl refl, (λ t ahead m held. (refl, held.1)))
-    (by_entry (at (doctype.BeforeId id.System) m) (10 ∷ rest) (taking ([]) (Stay) (10 ∷ [])) refl refl, (λ t ahead m held. (refl, held.1)))
-    (by_entry (at (doctype.BeforeId id.System) m) (12 ∷ rest) (taking ([]) (Stay) (12 ∷ [])) refl refl, (λ t ahead m held. (refl, held.1)))
-    (by_entry (at (doctype.BeforeId id.System) m) (32 ∷ rest) (taking ([]) (Stay) (32 ∷ [])) refl refl, (λ t ahead m held. (refl, held.1)))
-    (λ s. by_test P c 34 (its.IdBegins id.System quote.Double) (cond (c == 39) (its.IdBegins id.System quote.Single) (ends_or_of true c (its.Malformed true)))
-    (by_entry (at (doctype.BeforeId id.System) m) (34 ∷ rest) (taking (SetEmpty SystemId ∷ []) (Switch (doctype_state_of (doctype.Quoted id.System quote.Double))) (34 ∷ [])) refl refl)
-    (λ h34. by_test P c 39 (its.IdBegins id.System quote.Single) (ends_or_of true c (its.Malformed true))
-    (by_entry (at (doctype.BeforeId id.System) m) (39 ∷ rest) (taking (SetEmpty SystemId ∷ []) (Switch (doctype_state_of (doctype.Quoted id.System quote.Single))) (39 ∷ [])) refl refl)
-    (λ h39. by_test P c 62 (its.Ends true) (its.Malformed true)
-    (by_entry (at (doctype.BeforeId id.System) m) (62 ∷ rest) (taking (ForceQuirks ∷ EmitDoctype ∷ []) (Switch there.Data) (62 ∷ [])) refl refl)
-    (λ h62. then_on (by_entry (at (doctype.BeforeId id.System) m) (c ∷ rest) (taking (ForceQuirks ∷ []) (Reconsume there.BogusDOCTYPE) (c ∷ [])) (rw (s.tab, s.line_feed, s.form_feed, s.space, h34, h39, h62) refl) refl) (bogus b m rest c (record m.doctype { force_quirks = true }) h62)))))
+before_system_id =
+    before_id (doctype.BeforeId id.System) (doctype.BeforeId id.System) id.System true (λ one. refl) (spaces_stay (doctype_state_of (doctype.BeforeId id.System)) (λ b m rest. refl) (λ b m rest. refl) (λ b m rest. refl) (λ b m rest. refl))
+    (λ t ahead m held. (refl, held.1)) (λ b m rest. refl) (λ b m rest. refl) (λ b m rest. refl) (λ c s h34 h39 h62 b m rest. rw (s.tab, s.line_feed, s.form_feed, s.space, h34, h39, h62) refl)
 
 after_public_id : (b : Bool) (m : Machine) (rest : List ℕ) (c : ℕ) → Comes b (doctype.AfterId id.Public) m [] rest c (spaced_of doctype.BetweenIds c (before_id_of id.System false c))
 unfolding taken entries
-after_public_id b m rest c =
-    let P : ℕ → DoctypeStep → Type 0 = λ d k. Comes b (doctype.AfterId id.Public) m [] rest d k in
-    spaced P doctype.BetweenIds c (before_id_of id.System false c)
-    (by_entry (at (doctype.AfterId id.Public) m) (9 ∷ rest) (taking ([]) (Switch there.BetweenDOCTYPEPublicAndSystemIdentifiers) (9 ∷ [])) refl refl, (λ t ahead m held. (refl, held.1)))
-    (by_entry (at (doctype.AfterId id.Public) m) (10 ∷ rest) (taking ([]) (Switch there.BetweenDOCTYPEPublicAndSystemIdentifiers) (10 ∷ [])) refl refl, (λ t ahead m held. (refl, held.1)))
-    (by_entry (at (doctype.AfterId id.Public) m) (12 ∷ rest) (taking ([]) (Switch there.BetweenDOCTYPEPublicAndSystemIdentifiers) (12 ∷ [])) refl refl, (λ t ahead m held. (refl, held.1)))
-    (by_entry (at (doctype.AfterId id.Public) m) (32 ∷ rest) (taking ([]) (Switch there.BetweenDOCTYPEPublicAndSystemIdentifiers) (32 ∷ [])) refl refl, (λ t ahead m held. (refl, held.1)))
-    (λ s. by_test P c 34 (its.IdBegins id.System quote.Double) (cond (c == 39) (its.IdBegins id.System quote.Single) (ends_or_of false c (its.Malformed true)))
-    (by_entry (at (doctype.AfterId id.Public) m) (34 ∷ rest) (taking (SetEmpty SystemId ∷ []) (Switch (doctype_state_of (doctype.Quoted id.System quote.Double))) (34 ∷ [])) refl refl)
-    (λ h34. by_test P c 39 (its.IdBegins id.System quote.Single) (ends_or_of false c (its.Malformed true))
-    (by_entry (at (doctype.AfterId id.Public) m) (39 ∷ rest) (taking (SetEmpty SystemId ∷ []) (Switch (doctype_state_of (doctype.Quoted id.System quote.Single))) (39 ∷ [])) refl refl)
-    (λ h39. by_test P c 62 (its.Ends false) (its.Malformed true)
-    (by_entry (at (doctype.AfterId id.Public) m) (62 ∷ rest) (taking (EmitDoctype ∷ []) (Switch there.Data) (62 ∷ [])) refl refl)
-    (λ h62. then_on (by_entry (at (doctype.AfterId id.Public) m) (c ∷ rest) (taking (ForceQuirks ∷ []) (Reconsume there.BogusDOCTYPE) (c ∷ [])) (rw (s.tab, s.line_feed, s.form_feed, s.space, h34, h39, h62) refl) refl) (bogus b m rest c (record m.doctype { force_quirks = true }) h62)))))
+after_public_id =
+    before_id (doctype.AfterId id.Public) doctype.BetweenIds id.System false (λ one. refl) (spaces_switch (doctype_state_of (doctype.AfterId id.Public)) (doctype_state_of doctype.BetweenIds) (λ b m rest. refl) (λ b m rest. refl) (λ b m rest. refl) (λ b m rest. refl))
+    (λ t ahead m held. (refl, held.1)) (λ b m rest. refl) (λ b m rest. refl) (λ b m rest. refl) (λ c s h34 h39 h62 b m rest. rw (s.tab, s.line_feed, s.form_feed, s.space, h34, h39, h62) refl)
 
 between_ids : (b : Bool) (m : Machine) (rest : List ℕ) (c : ℕ) → Comes b doctype.BetweenIds m [] rest c (spaced_of doctype.BetweenIds c (before_id_of id.System false c))
 unfolding taken entries
-between_ids b m rest c =
-    let P : ℕ → DoctypeStep → Type 0 = λ d k. Comes b doctype.BetweenIds m [] rest d k in
-    spaced P doctype.BetweenIds c (before_id_of id.System false c)
-    (by_entry (at doctype.BetweenIds m) (9 ∷ rest) (taking ([]) (Stay) (9 ∷ [])) refl refl, (λ t ahead m held. (refl, held.1)))
-    (by_entry (at doctype.BetweenIds m) (10 ∷ rest) (taking ([]) (Stay) (10 ∷ [])) refl refl, (λ t ahead m held. (refl, held.1)))
-    (by_entry (at doctype.BetweenIds m) (12 ∷ rest) (taking ([]) (Stay) (12 ∷ [])) refl refl, (λ t ahead m held. (refl, held.1)))
-    (by_entry (at doctype.BetweenIds m) (32 ∷ rest) (taking ([]) (Stay) (32 ∷ [])) refl refl, (λ t ahead m held. (refl, held.1)))
-    (λ s. by_test P c 34 (its.IdBegins id.System quote.Double) (cond (c == 39) (its.IdBegins id.System quote.Single) (ends_or_of false c (its.Malformed true)))
-    (by_entry (at doctype.BetweenIds m) (34 ∷ rest) (taking (SetEmpty SystemId ∷ []) (Switch (doctype_state_of (doctype.Quoted id.System quote.Double))) (34 ∷ [])) refl refl)
-    (λ h34. by_test P c 39 (its.IdBegins id.System quote.Single) (ends_or_of false c (its.Malformed true))
-    (by_entry (at doctype.BetweenIds m) (39 ∷ rest) (taking (SetEmpty SystemId ∷ []) (Switch (doctype_state_of (doctype.Quoted id.System quote.Single))) (39 ∷ [])) refl refl)
-    (λ h39. by_test P c 62 (its.Ends false) (its.Malformed true)
-    (by_entry (at doctype.BetweenIds m) (62 ∷ rest) (taking (EmitDoctype ∷ []) (Switch there.Data) (62 ∷ [])) refl refl)
-    (λ h62. then_on (by_entry (at doctype.BetweenIds m) (c ∷ rest) (taking (ForceQuirks ∷ []) (Reconsume there.BogusDOCTYPE) (c ∷ [])) (rw (s.tab, s.line_feed, s.form_feed, s.space, h34, h39, h62) refl) refl) (bogus b m rest c (record m.doctype { force_quirks = true }) h62)))))
+between_ids =
+    before_id doctype.BetweenIds doctype.BetweenIds id.System false (λ one. refl) (spaces_stay (doctype_state_of doctype.BetweenIds) (λ b m rest. refl) (λ b m rest. refl) (λ b m rest. refl) (λ b m rest. refl))
+    (λ t ahead m held. (refl, held.1)) (λ b m rest. refl) (λ b m rest. refl) (λ b m rest. refl) (λ c s h34 h39 h62 b m rest. rw (s.tab, s.line_feed, s.form_feed, s.space, h34, h39, h62) refl)
 
-in_public_double : (b : Bool) (m : Machine) (rest : List ℕ) (c : ℕ) → Comes b (doctype.Quoted id.Public quote.Double) m [] rest c (quoted_step_of id.Public quote.Double c)
-unfolding taken entries
-in_public_double b m rest c =
-    let P : ℕ → DoctypeStep → Type 0 = λ d k. Comes b (doctype.Quoted id.Public quote.Double) m [] rest d k in
-    by_test P c 34 (its.Then (doctype.AfterId id.Public)) (ends_or_of true c (its.IdLetter id.Public))
-    (by_entry (at (doctype.Quoted id.Public quote.Double) m) (34 ∷ rest) (taking ([]) (Switch there.AfterDOCTYPEPublicIdentifier) (34 ∷ [])) refl refl, (λ t ahead m held. (refl, held.1)))
-    (λ h34. by_test P c 62 (its.Ends true) (its.IdLetter id.Public)
-    (by_entry (at (doctype.Quoted id.Public quote.Double) m) (62 ∷ rest) (taking (ForceQuirks ∷ EmitDoctype ∷ []) (Switch there.Data) (62 ∷ [])) refl refl)
+-- a character of an identifier
+id_letter : (which : Id) (mark : Quote) (d : ℕ) (what : What) (shown : List ℕ) → ((m : Machine) → characters what m (d ∷ []) ≡ shown) → Entry (doctype_state_of (doctype.Quoted which mark)) d (Add (place_of_id which) what ∷ []) Stay →
+    (b : Bool) (m : Machine) (rest : List ℕ) → Goes b (at (doctype.Quoted which mark) m) (d ∷ rest) [] (holding m (doctype_state_of (doctype.Quoted which mark)) (with_id which (with_more (id_of which m.doctype) shown) m.doctype)) rest
+id_letter id.Public mark d what shown is entry b m rest =
+    let M : Machine = at (doctype.Quoted id.Public mark) m in
+    subst (λ cs. Goes b M (d ∷ rest) [] (holding m M.state (with_id id.Public (with_more m.doctype.public_id cs) m.doctype)) rest) (is M) (by_entry M (d ∷ rest) (taking (Add PublicId what ∷ []) Stay (d ∷ [])) (entry b m rest) refl)
+id_letter id.System mark d what shown is entry b m rest =
+    let M : Machine = at (doctype.Quoted id.System mark) m in
+    subst (λ cs. Goes b M (d ∷ rest) [] (holding m M.state (with_id id.System (with_more m.doctype.system_id cs) m.doctype)) rest) (is M) (by_entry M (d ∷ rest) (taking (Add SystemId what ∷ []) Stay (d ∷ [])) (entry b m rest) refl)
+
+in_quotes : (which : Id) (mark : Quote) (q : ℕ) → Entry (doctype_state_of (doctype.Quoted which mark)) q [] (Switch (doctype_state_of (doctype.AfterId which))) → Entry (doctype_state_of (doctype.Quoted which mark)) 62 (ForceQuirks ∷ EmitDoctype ∷ []) (Switch there.Data) →
+    Entry (doctype_state_of (doctype.Quoted which mark)) 0 (Add (place_of_id which) replacement ∷ []) Stay →
+    ((c : ℕ) → (q == c) ≡ false → (62 == c) ≡ false → (0 == c) ≡ false → Entry (doctype_state_of (doctype.Quoted which mark)) c (Add (place_of_id which) Current ∷ []) Stay) → (b : Bool) (m : Machine) (rest : List ℕ) (c : ℕ) →
+    Comes b (doctype.Quoted which mark) m [] rest c (cond (c == q) (its.Then (doctype.AfterId which)) (ends_or_of true c (its.IdLetter which)))
+in_quotes which mark q closed greater null other b m rest c =
+    let inner : DoctypeState = doctype.Quoted which mark in
+    let P : ℕ → DoctypeStep → Type 0 = λ d k. Comes b inner m [] rest d k in
+    by_test P c q (its.Then (doctype.AfterId which)) (ends_or_of true c (its.IdLetter which))
+    (switched (doctype_state_of inner) (doctype_state_of (doctype.AfterId which)) q closed b m rest, (λ t ahead m held. (refl, held.1)))
+    (λ hq. by_test P c 62 (its.Ends true) (its.IdLetter which) (ends_there inner true (λ one. refl) greater b m rest)
     (λ h62. (
-      by_bool (λ e x. Goes b (at (doctype.Quoted id.Public quote.Double) m) (e ∷ rest) [] (holding m (doctype_state_of (doctype.Quoted id.Public quote.Double)) (with_id id.Public (with_more (id_of id.Public m.doctype) (cond x 0xfffd e ∷ [])) m.doctype)) rest) c 0
-          (by_entry (at (doctype.Quoted id.Public quote.Double) m) (0 ∷ rest) (taking (Add PublicId replacement ∷ []) (Stay) (0 ∷ [])) refl refl)
-          (λ h0. by_entry (at (doctype.Quoted id.Public quote.Double) m) (c ∷ rest) (taking (Add PublicId Current ∷ []) (Stay) (c ∷ [])) (rw (h34, h0, h62) refl) refl),
+      by_bool (λ e x. Goes b (at inner m) (e ∷ rest) [] (holding m (doctype_state_of inner) (with_id which (with_more (id_of which m.doctype) (cond x 0xfffd e ∷ [])) m.doctype)) rest) c 0
+          (id_letter which mark 0 replacement (0xfffd ∷ []) (λ m. refl) null b m rest)
+          (λ h0. id_letter which mark c Current (c ∷ []) (λ m. refl) (other c hq h62 h0) b m rest),
       (λ t m is. (refl, is)),
     )))
 
-in_public_single : (b : Bool) (m : Machine) (rest : List ℕ) (c : ℕ) → Comes b (doctype.Quoted id.Public quote.Single) m [] rest c (quoted_step_of id.Public quote.Single c)
+in_quoted : (which : Id) (mark : Quote) (b : Bool) (m : Machine) (rest : List ℕ) (c : ℕ) → Comes b (doctype.Quoted which mark) m [] rest c (quoted_step_of which mark c)
 unfolding taken entries
-in_public_single b m rest c =
-    let P : ℕ → DoctypeStep → Type 0 = λ d k. Comes b (doctype.Quoted id.Public quote.Single) m [] rest d k in
-    by_test P c 39 (its.Then (doctype.AfterId id.Public)) (ends_or_of true c (its.IdLetter id.Public))
-    (by_entry (at (doctype.Quoted id.Public quote.Single) m) (39 ∷ rest) (taking ([]) (Switch there.AfterDOCTYPEPublicIdentifier) (39 ∷ [])) refl refl, (λ t ahead m held. (refl, held.1)))
-    (λ h39. by_test P c 62 (its.Ends true) (its.IdLetter id.Public)
-    (by_entry (at (doctype.Quoted id.Public quote.Single) m) (62 ∷ rest) (taking (ForceQuirks ∷ EmitDoctype ∷ []) (Switch there.Data) (62 ∷ [])) refl refl)
-    (λ h62. (
-      by_bool (λ e x. Goes b (at (doctype.Quoted id.Public quote.Single) m) (e ∷ rest) [] (holding m (doctype_state_of (doctype.Quoted id.Public quote.Single)) (with_id id.Public (with_more (id_of id.Public m.doctype) (cond x 0xfffd e ∷ [])) m.doctype)) rest) c 0
-          (by_entry (at (doctype.Quoted id.Public quote.Single) m) (0 ∷ rest) (taking (Add PublicId replacement ∷ []) (Stay) (0 ∷ [])) refl refl)
-          (λ h0. by_entry (at (doctype.Quoted id.Public quote.Single) m) (c ∷ rest) (taking (Add PublicId Current ∷ []) (Stay) (c ∷ [])) (rw (h39, h0, h62) refl) refl),
-      (λ t m is. (refl, is)),
-    )))
-
-in_system_double : (b : Bool) (m : Machine) (rest : List ℕ) (c : ℕ) → Comes b (doctype.Quoted id.System quote.Double) m [] rest c (quoted_step_of id.System quote.Double c)
-unfolding taken entries
-in_system_double b m rest c =
-    let P : ℕ → DoctypeStep → Type 0 = λ d k. Comes b (doctype.Quoted id.System quote.Double) m [] rest d k in
-    by_test P c 34 (its.Then (doctype.AfterId id.System)) (ends_or_of true c (its.IdLetter id.System))
-    (by_entry (at (doctype.Quoted id.System quote.Double) m) (34 ∷ rest) (taking ([]) (Switch there.AfterDOCTYPESystemIdentifier) (34 ∷ [])) refl refl, (λ t ahead m held. (refl, held.1)))
-    (λ h34. by_test P c 62 (its.Ends true) (its.IdLetter id.System)
-    (by_entry (at (doctype.Quoted id.System quote.Double) m) (62 ∷ rest) (taking (ForceQuirks ∷ EmitDoctype ∷ []) (Switch there.Data) (62 ∷ [])) refl refl)
-    (λ h62. (
-      by_bool (λ e x. Goes b (at (doctype.Quoted id.System quote.Double) m) (e ∷ rest) [] (holding m (doctype_state_of (doctype.Quoted id.System quote.Double)) (with_id id.System (with_more (id_of id.System m.doctype) (cond x 0xfffd e ∷ [])) m.doctype)) rest) c 0
-          (by_entry (at (doctype.Quoted id.System quote.Double) m) (0 ∷ rest) (taking (Add SystemId replacement ∷ []) (Stay) (0 ∷ [])) refl refl)
-          (λ h0. by_entry (at (doctype.Quoted id.System quote.Double) m) (c ∷ rest) (taking (Add SystemId Current ∷ []) (Stay) (c ∷ [])) (rw (h34, h0, h62) refl) refl),
-      (λ t m is. (refl, is)),
-    )))
-
-in_system_single : (b : Bool) (m : Machine) (rest : List ℕ) (c : ℕ) → Comes b (doctype.Quoted id.System quote.Single) m [] rest c (quoted_step_of id.System quote.Single c)
-unfolding taken entries
-in_system_single b m rest c =
-    let P : ℕ → DoctypeStep → Type 0 = λ d k. Comes b (doctype.Quoted id.System quote.Single) m [] rest d k in
-    by_test P c 39 (its.Then (doctype.AfterId id.System)) (ends_or_of true c (its.IdLetter id.System))
-    (by_entry (at (doctype.Quoted id.System quote.Single) m) (39 ∷ rest) (taking ([]) (Switch there.AfterDOCTYPESystemIdentifier) (39 ∷ [])) refl refl, (λ t ahead m held. (refl, held.1)))
-    (λ h39. by_test P c 62 (its.Ends true) (its.IdLetter id.System)
-    (by_entry (at (doctype.Quoted id.System quote.Single) m) (62 ∷ rest) (taking (ForceQuirks ∷ EmitDoctype ∷ []) (Switch there.Data) (62 ∷ [])) refl refl)
-    (λ h62. (
-      by_bool (λ e x. Goes b (at (doctype.Quoted id.System quote.Single) m) (e ∷ rest) [] (holding m (doctype_state_of (doctype.Quoted id.System quote.Single)) (with_id id.System (with_more (id_of id.System m.doctype) (cond x 0xfffd e ∷ [])) m.doctype)) rest) c 0
-          (by_entry (at (doctype.Quoted id.System quote.Single) m) (0 ∷ rest) (taking (Add SystemId replacement ∷ []) (Stay) (0 ∷ [])) refl refl)
-          (λ h0. by_entry (at (doctype.Quoted id.System quote.Single) m) (c ∷ rest) (taking (Add SystemId Current ∷ []) (Stay) (c ∷ [])) (rw (h39, h0, h62) refl) refl),
-      (λ t m is. (refl, is)),
-    )))
+in_quoted id.Public quote.Double = in_quotes id.Public quote.Double 34 (λ b m rest. refl) (λ b m rest. refl) (λ b m rest. refl) (λ c h34 h62 h0 b m rest. rw (h34, h0, h62) refl)
+in_quoted id.Public quote.Single = in_quotes id.Public quote.Single 39 (λ b m rest. refl) (λ b m rest. refl) (λ b m rest. refl) (λ c h39 h62 h0 b m rest. rw (h39, h0, h62) refl)
+in_quoted id.System quote.Double = in_quotes id.System quote.Double 34 (λ b m rest. refl) (λ b m rest. refl) (λ b m rest. refl) (λ c h34 h62 h0 b m rest. rw (h34, h0, h62) refl)
+in_quoted id.System quote.Single = in_quotes id.System quote.Single 39 (λ b m rest. refl) (λ b m rest. refl) (λ b m rest. refl) (λ c h39 h62 h0 b m rest. rw (h39, h0, h62) refl)
 
 after_system_id : (b : Bool) (m : Machine) (rest : List ℕ) (c : ℕ) → Comes b (doctype.AfterId id.System) m [] rest c (doctype_step_of (doctype.AfterId id.System) c)
 unfolding taken entries
 after_system_id b m rest c =
-    let P : ℕ → DoctypeStep → Type 0 = λ d k. Comes b (doctype.AfterId id.System) m [] rest d k in
-    spaced P (doctype.AfterId id.System) c (ends_or_of false c (its.Malformed false))
-    (by_entry (at (doctype.AfterId id.System) m) (9 ∷ rest) (taking ([]) (Stay) (9 ∷ [])) refl refl, (λ t ahead m held. (refl, held.1)))
-    (by_entry (at (doctype.AfterId id.System) m) (10 ∷ rest) (taking ([]) (Stay) (10 ∷ [])) refl refl, (λ t ahead m held. (refl, held.1)))
-    (by_entry (at (doctype.AfterId id.System) m) (12 ∷ rest) (taking ([]) (Stay) (12 ∷ [])) refl refl, (λ t ahead m held. (refl, held.1)))
-    (by_entry (at (doctype.AfterId id.System) m) (32 ∷ rest) (taking ([]) (Stay) (32 ∷ [])) refl refl, (λ t ahead m held. (refl, held.1)))
-    (λ s. by_test P c 62 (its.Ends false) (its.Malformed false)
+    spaced_over (doctype.AfterId id.System) (doctype.AfterId id.System) b m rest c (ends_or_of false c (its.Malformed false))
+    (spaces_stay (doctype_state_of (doctype.AfterId id.System)) (λ b m rest. refl) (λ b m rest. refl) (λ b m rest. refl) (λ b m rest. refl)) (λ t ahead m held. (refl, held.1))
+    (λ s. by_test (λ d k. Comes b (doctype.AfterId id.System) m [] rest d k) c 62 (its.Ends false) (its.Malformed false)
     (by_entry (at (doctype.AfterId id.System) m) (62 ∷ rest) (taking (EmitDoctype ∷ []) (Switch there.Data) (62 ∷ [])) refl refl)
     (λ h62. then_on (by_entry (at (doctype.AfterId id.System) m) (c ∷ rest) (taking ([]) (Reconsume there.BogusDOCTYPE) (c ∷ [])) (rw (s.tab, s.line_feed, s.form_feed, s.space, h62) refl) refl) (bogus b m rest c m.doctype h62)))
 
@@ -423,11 +382,8 @@ after_name : (b : Bool) (m : Machine) (rest : List ℕ) (c : ℕ) → Comes b do
 unfolding taken entries
 after_name b m rest c =
     let P : ℕ → DoctypeStep → Type 0 = λ d k. Comes b doctype.AfterName m [] rest d k in
-    spaced P doctype.AfterName c (after_name_of c)
-    (by_entry (at doctype.AfterName m) (9 ∷ rest) (taking ([]) (Stay) (9 ∷ [])) refl refl, (λ t ahead m held. (refl, held.1)))
-    (by_entry (at doctype.AfterName m) (10 ∷ rest) (taking ([]) (Stay) (10 ∷ [])) refl refl, (λ t ahead m held. (refl, held.1)))
-    (by_entry (at doctype.AfterName m) (12 ∷ rest) (taking ([]) (Stay) (12 ∷ [])) refl refl, (λ t ahead m held. (refl, held.1)))
-    (by_entry (at doctype.AfterName m) (32 ∷ rest) (taking ([]) (Stay) (32 ∷ [])) refl refl, (λ t ahead m held. (refl, held.1)))
+    spaced_over doctype.AfterName doctype.AfterName b m rest c (after_name_of c)
+    (spaces_stay (doctype_state_of doctype.AfterName) (λ b m rest. refl) (λ b m rest. refl) (λ b m rest. refl) (λ b m rest. refl)) (λ t ahead m held. (refl, held.1))
     (λ s. by_bool (λ e x. P e (cond (x || e == 80) (its.Letter id.Public 1) (cond (e == 115 || e == 83) (its.Letter id.System 1) (ends_or_of false e (its.Malformed true))))) c 112
     (refl, (λ one. refl), (omega arith, omega arith, refl))
     (λ h112. by_bool (λ e x. P e (cond x (its.Letter id.Public 1) (cond (e == 115 || e == 83) (its.Letter id.System 1) (ends_or_of false e (its.Malformed true))))) c 80
@@ -594,10 +550,7 @@ comes (doctype.AfterKeyword id.Public) b m ahead rest c is = subst (λ t. Comes 
 comes (doctype.AfterKeyword id.System) b m ahead rest c is = subst (λ t. Comes b (doctype.AfterKeyword id.System) m t rest c (doctype_step_of (doctype.AfterKeyword id.System) c)) (sym is) (after_system_keyword b m rest c)
 comes (doctype.BeforeId id.Public) b m ahead rest c is = subst (λ t. Comes b (doctype.BeforeId id.Public) m t rest c (doctype_step_of (doctype.BeforeId id.Public) c)) (sym is) (before_public_id b m rest c)
 comes (doctype.BeforeId id.System) b m ahead rest c is = subst (λ t. Comes b (doctype.BeforeId id.System) m t rest c (doctype_step_of (doctype.BeforeId id.System) c)) (sym is) (before_system_id b m rest c)
-comes (doctype.Quoted id.Public quote.Double) b m ahead rest c is = subst (λ t. Comes b (doctype.Quoted id.Public quote.Double) m t rest c (doctype_step_of (doctype.Quoted id.Public quote.Double) c)) (sym is) (in_public_double b m rest c)
-comes (doctype.Quoted id.Public quote.Single) b m ahead rest c is = subst (λ t. Comes b (doctype.Quoted id.Public quote.Single) m t rest c (doctype_step_of (doctype.Quoted id.Public quote.Single) c)) (sym is) (in_public_single b m rest c)
-comes (doctype.Quoted id.System quote.Double) b m ahead rest c is = subst (λ t. Comes b (doctype.Quoted id.System quote.Double) m t rest c (doctype_step_of (doctype.Quoted id.System quote.Double) c)) (sym is) (in_system_double b m rest c)
-comes (doctype.Quoted id.System quote.Single) b m ahead rest c is = subst (λ t. Comes b (doctype.Quoted id.System quote.Single) m t rest c (doctype_step_of (doctype.Quoted id.System quote.Single) c)) (sym is) (in_system_single b m rest c)
+comes (doctype.Quoted which mark) b m ahead rest c is = subst (λ t. Comes b (doctype.Quoted which mark) m t rest c (doctype_step_of (doctype.Quoted which mark) c)) (sym is) (in_quoted which mark b m rest c)
 comes (doctype.AfterId id.Public) b m ahead rest c is = subst (λ t. Comes b (doctype.AfterId id.Public) m t rest c (doctype_step_of (doctype.AfterId id.Public) c)) (sym is) (after_public_id b m rest c)
 comes (doctype.AfterId id.System) b m ahead rest c is = subst (λ t. Comes b (doctype.AfterId id.System) m t rest c (doctype_step_of (doctype.AfterId id.System) c)) (sym is) (after_system_id b m rest c)
 comes doctype.BetweenIds b m ahead rest c is = subst (λ t. Comes b doctype.BetweenIds m t rest c (doctype_step_of doctype.BetweenIds c)) (sym is) (between_ids b m rest c)

@@ -168,95 +168,76 @@ end_named b m rest c ends false e =
 
 -- ---- escaped script data
 
+-- what `-`, `<` and every other character do: `-` leads to one state and the others to another one
+dashed : (from home : ScriptState) (dash other : State) (less : ScriptStep) (c : ℕ) → Comes from home 45 (its.Text dash) → Comes from home 60 less → HoldsNothing other → Over (state.ScriptData from) other 0 (0xfffd ∷ []) →
+    ((45 == c) ≡ false → (60 == c) ≡ false → (0 == c) ≡ false → Over (state.ScriptData from) other c (c ∷ [])) → Comes from home c (cond (c == 45) (its.Text dash) (cond (c == 60) less (its.Text other)))
+dashed from home dash other less c at_dash at_less holds null plain =
+    by_test (Comes from home) c 45 (its.Text dash) (cond (c == 60) less (its.Text other)) at_dash
+    (λ h45. by_test (Comes from home) c 60 less (its.Text other) at_less
+    (λ h60. (
+      (λ b m rest. by_bool (λ e x. Goes b (at_state m (script_state_of from)) (e ∷ rest) (AChar (cond x 0xfffd e) ∷ []) (at_state m (state_of other)) rest) c 0 (null b m rest) (λ h0. plain h45 h60 h0 b m rest)),
+      holds,
+    )))
+
 in_escaped : (home : ScriptState) (c : ℕ) → Comes script.Escaped home c (escaped_step_of script.EscapedDash c)
 unfolding taken entries
 in_escaped home c =
-    by_test (Comes script.Escaped home) c 45 (its.Text (state.ScriptData script.EscapedDash)) (cond (c == 60) its.LessThan (its.Text escaped))
+    dashed script.Escaped home (state.ScriptData script.EscapedDash) escaped its.LessThan c
     ((λ b m rest. by_entry (at_state m there.ScriptDataEscaped) (45 ∷ rest) (taking (Emit (These (codes "-")) ∷ []) (Switch there.ScriptDataEscapedDash) (45 ∷ [])) refl refl), (λ t m. refl))
-    (λ h45. by_test (Comes script.Escaped home) c 60 its.LessThan (its.Text escaped)
     (λ b m rest. by_entry (at_state m there.ScriptDataEscaped) (60 ∷ rest) (taking [] (Switch there.ScriptDataEscapedLessThanSign) (60 ∷ [])) refl refl)
-    (λ h60. (
-      (λ b m rest. by_bool (λ e x. Goes b (at_state m there.ScriptDataEscaped) (e ∷ rest) (AChar (cond x 0xfffd e) ∷ []) (at_state m there.ScriptDataEscaped) rest) c 0
-          (by_entry (at_state m there.ScriptDataEscaped) (0 ∷ rest) (taking (Emit replacement ∷ []) Stay (0 ∷ [])) refl refl)
-          (λ h0. by_entry (at_state m there.ScriptDataEscaped) (c ∷ rest) (taking (Emit Current ∷ []) Stay (c ∷ [])) (rw (h45, h60, h0) refl) refl)),
-      (λ t m. refl),
-    )))
+    (λ t m. refl) (λ b m rest. by_entry (at_state m there.ScriptDataEscaped) (0 ∷ rest) (taking (Emit replacement ∷ []) Stay (0 ∷ [])) refl refl)
+    (λ h45 h60 h0 b m rest. by_entry (at_state m there.ScriptDataEscaped) (c ∷ rest) (taking (Emit Current ∷ []) Stay (c ∷ [])) (rw (h45, h60, h0) refl) refl)
 
 in_escaped_dash : (home : ScriptState) (c : ℕ) → Comes script.EscapedDash home c (escaped_step_of script.EscapedDashDash c)
 unfolding taken entries
 in_escaped_dash home c =
-    by_test (Comes script.EscapedDash home) c 45 (its.Text (state.ScriptData script.EscapedDashDash)) (cond (c == 60) its.LessThan (its.Text escaped))
+    dashed script.EscapedDash home (state.ScriptData script.EscapedDashDash) escaped its.LessThan c
     ((λ b m rest. by_entry (at_state m there.ScriptDataEscapedDash) (45 ∷ rest) (taking (Emit (These (codes "-")) ∷ []) (Switch there.ScriptDataEscapedDashDash) (45 ∷ [])) refl refl), (λ t m. refl))
-    (λ h45. by_test (Comes script.EscapedDash home) c 60 its.LessThan (its.Text escaped)
     (λ b m rest. by_entry (at_state m there.ScriptDataEscapedDash) (60 ∷ rest) (taking [] (Switch there.ScriptDataEscapedLessThanSign) (60 ∷ [])) refl refl)
-    (λ h60. (
-      (λ b m rest. by_bool (λ e x. Goes b (at_state m there.ScriptDataEscapedDash) (e ∷ rest) (AChar (cond x 0xfffd e) ∷ []) (at_state m there.ScriptDataEscaped) rest) c 0
-          (by_entry (at_state m there.ScriptDataEscapedDash) (0 ∷ rest) (taking (Emit replacement ∷ []) (Switch there.ScriptDataEscaped) (0 ∷ [])) refl refl)
-          (λ h0. by_entry (at_state m there.ScriptDataEscapedDash) (c ∷ rest) (taking (Emit Current ∷ []) (Switch there.ScriptDataEscaped) (c ∷ [])) (rw (h45, h60, h0) refl) refl)),
-      (λ t m. refl),
-    )))
+    (λ t m. refl) (λ b m rest. by_entry (at_state m there.ScriptDataEscapedDash) (0 ∷ rest) (taking (Emit replacement ∷ []) (Switch there.ScriptDataEscaped) (0 ∷ [])) refl refl)
+    (λ h45 h60 h0 b m rest. by_entry (at_state m there.ScriptDataEscapedDash) (c ∷ rest) (taking (Emit Current ∷ []) (Switch there.ScriptDataEscaped) (c ∷ [])) (rw (h45, h60, h0) refl) refl)
 
 in_escaped_dash_dash : (home : ScriptState) (c : ℕ) → Comes script.EscapedDashDash home c (script_step_of script.EscapedDashDash c)
 unfolding taken entries
 in_escaped_dash_dash home c =
     by_test (Comes script.EscapedDashDash home) c 62 (its.Text state.Script) (escaped_step_of script.EscapedDashDash c)
     ((λ b m rest. by_entry (at_state m there.ScriptDataEscapedDashDash) (62 ∷ rest) (taking (Emit (These (codes ">")) ∷ []) (Switch there.ScriptData) (62 ∷ [])) refl refl), (λ t m. refl))
-    (λ h62. by_test (Comes script.EscapedDashDash home) c 45 (its.Text (state.ScriptData script.EscapedDashDash)) (cond (c == 60) its.LessThan (its.Text escaped))
+    (λ h62. dashed script.EscapedDashDash home (state.ScriptData script.EscapedDashDash) escaped its.LessThan c
     ((λ b m rest. by_entry (at_state m there.ScriptDataEscapedDashDash) (45 ∷ rest) (taking (Emit (These (codes "-")) ∷ []) Stay (45 ∷ [])) refl refl), (λ t m. refl))
-    (λ h45. by_test (Comes script.EscapedDashDash home) c 60 its.LessThan (its.Text escaped)
     (λ b m rest. by_entry (at_state m there.ScriptDataEscapedDashDash) (60 ∷ rest) (taking [] (Switch there.ScriptDataEscapedLessThanSign) (60 ∷ [])) refl refl)
-    (λ h60. (
-      (λ b m rest. by_bool (λ e x. Goes b (at_state m there.ScriptDataEscapedDashDash) (e ∷ rest) (AChar (cond x 0xfffd e) ∷ []) (at_state m there.ScriptDataEscaped) rest) c 0
-          (by_entry (at_state m there.ScriptDataEscapedDashDash) (0 ∷ rest) (taking (Emit replacement ∷ []) (Switch there.ScriptDataEscaped) (0 ∷ [])) refl refl)
-          (λ h0. by_entry (at_state m there.ScriptDataEscapedDashDash) (c ∷ rest) (taking (Emit Current ∷ []) (Switch there.ScriptDataEscaped) (c ∷ [])) (rw (h45, h60, h62, h0) refl) refl)),
-      (λ t m. refl),
-    ))))
+    (λ t m. refl) (λ b m rest. by_entry (at_state m there.ScriptDataEscapedDashDash) (0 ∷ rest) (taking (Emit replacement ∷ []) (Switch there.ScriptDataEscaped) (0 ∷ [])) refl refl)
+    (λ h45 h60 h0 b m rest. by_entry (at_state m there.ScriptDataEscapedDashDash) (c ∷ rest) (taking (Emit Current ∷ []) (Switch there.ScriptDataEscaped) (c ∷ [])) (rw (h45, h60, h62, h0) refl) refl))
 
 -- ---- the same where it is escaped twice
 
 in_doubled : (home : ScriptState) (c : ℕ) → Comes (script.Double double.Escaped) home c (doubled_step_of double.Dash c)
 unfolding taken entries
 in_doubled home c =
-    by_test (Comes (script.Double double.Escaped) home) c 45 (its.Text (doubled double.Dash)) (cond (c == 60) (its.Text (doubled double.LessThan)) (its.Text (doubled double.Escaped)))
+    dashed (script.Double double.Escaped) home (doubled double.Dash) (doubled double.Escaped) (its.Text (doubled double.LessThan)) c
     ((λ b m rest. by_entry (at_state m there.ScriptDataDoubleEscaped) (45 ∷ rest) (taking (Emit (These (codes "-")) ∷ []) (Switch there.ScriptDataDoubleEscapedDash) (45 ∷ [])) refl refl), (λ t m. refl))
-    (λ h45. by_test (Comes (script.Double double.Escaped) home) c 60 (its.Text (doubled double.LessThan)) (its.Text (doubled double.Escaped))
     ((λ b m rest. by_entry (at_state m there.ScriptDataDoubleEscaped) (60 ∷ rest) (taking (Emit (These (codes "<")) ∷ []) (Switch there.ScriptDataDoubleEscapedLessThanSign) (60 ∷ [])) refl refl), (λ t m. refl))
-    (λ h60. (
-      (λ b m rest. by_bool (λ e x. Goes b (at_state m there.ScriptDataDoubleEscaped) (e ∷ rest) (AChar (cond x 0xfffd e) ∷ []) (at_state m there.ScriptDataDoubleEscaped) rest) c 0
-          (by_entry (at_state m there.ScriptDataDoubleEscaped) (0 ∷ rest) (taking (Emit replacement ∷ []) Stay (0 ∷ [])) refl refl)
-          (λ h0. by_entry (at_state m there.ScriptDataDoubleEscaped) (c ∷ rest) (taking (Emit Current ∷ []) Stay (c ∷ [])) (rw (h45, h60, h0) refl) refl)),
-      (λ t m. refl),
-    )))
+    (λ t m. refl) (λ b m rest. by_entry (at_state m there.ScriptDataDoubleEscaped) (0 ∷ rest) (taking (Emit replacement ∷ []) Stay (0 ∷ [])) refl refl)
+    (λ h45 h60 h0 b m rest. by_entry (at_state m there.ScriptDataDoubleEscaped) (c ∷ rest) (taking (Emit Current ∷ []) Stay (c ∷ [])) (rw (h45, h60, h0) refl) refl)
 
 in_doubled_dash : (home : ScriptState) (c : ℕ) → Comes (script.Double double.Dash) home c (doubled_step_of double.DashDash c)
 unfolding taken entries
 in_doubled_dash home c =
-    by_test (Comes (script.Double double.Dash) home) c 45 (its.Text (doubled double.DashDash)) (cond (c == 60) (its.Text (doubled double.LessThan)) (its.Text (doubled double.Escaped)))
+    dashed (script.Double double.Dash) home (doubled double.DashDash) (doubled double.Escaped) (its.Text (doubled double.LessThan)) c
     ((λ b m rest. by_entry (at_state m there.ScriptDataDoubleEscapedDash) (45 ∷ rest) (taking (Emit (These (codes "-")) ∷ []) (Switch there.ScriptDataDoubleEscapedDashDash) (45 ∷ [])) refl refl), (λ t m. refl))
-    (λ h45. by_test (Comes (script.Double double.Dash) home) c 60 (its.Text (doubled double.LessThan)) (its.Text (doubled double.Escaped))
     ((λ b m rest. by_entry (at_state m there.ScriptDataDoubleEscapedDash) (60 ∷ rest) (taking (Emit (These (codes "<")) ∷ []) (Switch there.ScriptDataDoubleEscapedLessThanSign) (60 ∷ [])) refl refl), (λ t m. refl))
-    (λ h60. (
-      (λ b m rest. by_bool (λ e x. Goes b (at_state m there.ScriptDataDoubleEscapedDash) (e ∷ rest) (AChar (cond x 0xfffd e) ∷ []) (at_state m there.ScriptDataDoubleEscaped) rest) c 0
-          (by_entry (at_state m there.ScriptDataDoubleEscapedDash) (0 ∷ rest) (taking (Emit replacement ∷ []) (Switch there.ScriptDataDoubleEscaped) (0 ∷ [])) refl refl)
-          (λ h0. by_entry (at_state m there.ScriptDataDoubleEscapedDash) (c ∷ rest) (taking (Emit Current ∷ []) (Switch there.ScriptDataDoubleEscaped) (c ∷ [])) (rw (h45, h60, h0) refl) refl)),
-      (λ t m. refl),
-    )))
+    (λ t m. refl) (λ b m rest. by_entry (at_state m there.ScriptDataDoubleEscapedDash) (0 ∷ rest) (taking (Emit replacement ∷ []) (Switch there.ScriptDataDoubleEscaped) (0 ∷ [])) refl refl)
+    (λ h45 h60 h0 b m rest. by_entry (at_state m there.ScriptDataDoubleEscapedDash) (c ∷ rest) (taking (Emit Current ∷ []) (Switch there.ScriptDataDoubleEscaped) (c ∷ [])) (rw (h45, h60, h0) refl) refl)
 
 in_doubled_dash_dash : (home : ScriptState) (c : ℕ) → Comes (script.Double double.DashDash) home c (double_step_of double.DashDash c)
 unfolding taken entries
 in_doubled_dash_dash home c =
     by_test (Comes (script.Double double.DashDash) home) c 62 (its.Text state.Script) (doubled_step_of double.DashDash c)
     ((λ b m rest. by_entry (at_state m there.ScriptDataDoubleEscapedDashDash) (62 ∷ rest) (taking (Emit (These (codes ">")) ∷ []) (Switch there.ScriptData) (62 ∷ [])) refl refl), (λ t m. refl))
-    (λ h62. by_test (Comes (script.Double double.DashDash) home) c 45 (its.Text (doubled double.DashDash)) (cond (c == 60) (its.Text (doubled double.LessThan)) (its.Text (doubled double.Escaped)))
+    (λ h62. dashed (script.Double double.DashDash) home (doubled double.DashDash) (doubled double.Escaped) (its.Text (doubled double.LessThan)) c
     ((λ b m rest. by_entry (at_state m there.ScriptDataDoubleEscapedDashDash) (45 ∷ rest) (taking (Emit (These (codes "-")) ∷ []) Stay (45 ∷ [])) refl refl), (λ t m. refl))
-    (λ h45. by_test (Comes (script.Double double.DashDash) home) c 60 (its.Text (doubled double.LessThan)) (its.Text (doubled double.Escaped))
     ((λ b m rest. by_entry (at_state m there.ScriptDataDoubleEscapedDashDash) (60 ∷ rest) (taking (Emit (These (codes "<")) ∷ []) (Switch there.ScriptDataDoubleEscapedLessThanSign) (60 ∷ [])) refl refl), (λ t m. refl))
-    (λ h60. (
-      (λ b m rest. by_bool (λ e x. Goes b (at_state m there.ScriptDataDoubleEscapedDashDash) (e ∷ rest) (AChar (cond x 0xfffd e) ∷ []) (at_state m there.ScriptDataDoubleEscaped) rest) c 0
-          (by_entry (at_state m there.ScriptDataDoubleEscapedDashDash) (0 ∷ rest) (taking (Emit replacement ∷ []) (Switch there.ScriptDataDoubleEscaped) (0 ∷ [])) refl refl)
-          (λ h0. by_entry (at_state m there.ScriptDataDoubleEscapedDashDash) (c ∷ rest) (taking (Emit Current ∷ []) (Switch there.ScriptDataDoubleEscaped) (c ∷ [])) (rw (h45, h60, h62, h0) refl) refl)),
-      (λ t m. refl),
-    ))))
+    (λ t m. refl) (λ b m rest. by_entry (at_state m there.ScriptDataDoubleEscapedDashDash) (0 ∷ rest) (taking (Emit replacement ∷ []) (Switch there.ScriptDataDoubleEscaped) (0 ∷ [])) refl refl)
+    (λ h45 h60 h0 b m rest. by_entry (at_state m there.ScriptDataDoubleEscapedDashDash) (c ∷ rest) (taking (Emit Current ∷ []) (Switch there.ScriptDataDoubleEscaped) (c ∷ [])) (rw (h45, h60, h62, h0) refl) refl))
 
 in_doubled_less_than : (home : ScriptState) (c : ℕ) → Comes (script.Double double.LessThan) home c (double_step_of double.LessThan c)
 unfolding taken entries
