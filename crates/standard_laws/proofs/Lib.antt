@@ -14,7 +14,6 @@ pub mod NameChars
 pub mod OneWay
 pub mod ParsedExamples
 pub mod Pieces
-pub mod SameNames
 pub mod TreesPlain
 pub mod TreesRead
 pub mod TreesTokens

@@ -5,7 +5,6 @@ pub mod Pages
 pub mod Parsing
 pub mod ParsingLaws
 pub mod ReadableTrees
-pub mod SameNames
 pub mod TokenLaws
 pub mod TreeItems
 pub mod TreeTokens

@@ -5,16 +5,10 @@ ghost use Rattle.standard_laws.specs.HtmlLaws.{HtmlIsRead, HtmlIsReadOneWay};
 ghost use Rattle.standard_laws.specs.TokenLaws.{HtmlAnswers, TreesAreReadAnywhere};
 ghost use Rattle.standard_laws.specs.TokenLaws.{TreesAreReadAsPages, TreesAreReadOneWay};
 ghost use Rattle.dom_nodes.specs.Escaping.{value_char};
-ghost use Rattle.standard_laws.specs.SameNames.{TablesAreTheSame};
 ghost use Rattle.standard_laws.specs.Values.{safe_char, safe_piece, value_piece};
 
 use dom_markup::laws::plain::html_of_trees;
 use standard_tokens::laws::{plain_markup, plain_pages};
-
-/// The tokenizer page_tokens knows the same named character references as the definition.
-pub fn same_named_references()
-    ensures { TablesAreTheSame }
-{}
 
 /// The tokenizer turns the HTML of a plain document (see `IsPlain` in dom_markup), as a page, into
 /// the tokens of the document and into no others.
