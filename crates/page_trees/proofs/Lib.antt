@@ -28,3 +28,6 @@ pub mod StandingParents
 pub mod StandingNodes
 pub mod StandingPlaces
 pub mod StandingEdits
+pub mod CharacterRuns
+pub mod ActionsOnNodes
+pub mod AgencyPlaces

@@ -68,6 +68,7 @@ element_stands nodes f kind name attrs flags are is = by flags.template refl
   where
     content : NodeData
     content = flagged_element name attrs flags f
+
     by : (b : Bool) → flags.template ≡ b → AreNodes (with_kind kind nodes) (with_new_element name attrs flags f)
     by true e =
         let holds : contents_named content ≡ Some (length f.content + 1) = ap (λ (t : Bool). if t then Some (length f.content + 1) else None) e in
@@ -83,6 +84,7 @@ element_more f name attrs flags = by flags.template
   where
     content : NodeData
     content = flagged_element name attrs flags f
+
     by : (b : Bool) → length f.content < length (let g : Forest = if b then with_lone_template content f else with_node content f in g).content
     by true = (let one = length_push f.content content in let two = length_push (f.content ++ content ∷ []) Fragment in omega (arith, one, two))
     by false = (let one = length_push f.content content in omega (arith, one))
@@ -210,14 +212,14 @@ at_parent : (ls : List (List ℕ)) (p y : ℕ) → AreApart ls p y → get_or (b
 at_parent ls p y a =
     let moved : List ℕ = get_or ls p [] in
     let first : get_or (first_move ls p y) p [] ≡ [] =
-        first_at ls p y p a.here ∙ ap (λ b. if b then without moved moved ++ moved else without moved moved) (ne_eqb p y a.other) ∙ none_without moved moved (λ n h. h) in
+    first_at ls p y p a.here ∙ ap (λ b. if b then without moved moved ++ moved else without moved moved) (ne_eqb p y a.other) ∙ none_without moved moved (λ n h. h) in
     both_at ls p y p a.here ∙ ap (λ (ns : List ℕ). children_with (TheEndOf p) (y ∷ []) p (without (y ∷ []) ns)) first ∙ ap (λ b. if b then y ∷ [] else []) (eq-eqb p p refl)
 
 at_copy : (ls : List (List ℕ)) (p y : ℕ) → AreApart ls p y → get_or (both_moves ls p y) y [] ≡ get_or ls p []
 at_copy ls p y a =
     let moved : List ℕ = get_or ls p [] in
     let first : get_or (first_move ls p y) y [] ≡ moved =
-        first_at ls p y y a.there ∙ ap (λ b. if b then without moved (get_or ls y []) ++ moved else without moved (get_or ls y [])) (eq-eqb y y refl) ∙ ap (λ (ns : List ℕ). without moved ns ++ moved) a.empty in
+    first_at ls p y y a.there ∙ ap (λ b. if b then without moved (get_or ls y []) ++ moved else without moved (get_or ls y [])) (eq-eqb y y refl) ∙ ap (λ (ns : List ℕ). without moved ns ++ moved) a.empty in
     both_at ls p y y a.there ∙ ap (λ (ns : List ℕ). children_with (TheEndOf p) (y ∷ []) y (without (y ∷ []) ns)) first
     ∙ ap (λ b. if b then without (y ∷ []) moved ++ y ∷ [] else without (y ∷ []) moved) (ne_eqb y p (λ e. a.other (sym e))) ∙ without_one-none moved y (a.nowhere p)
 
@@ -226,7 +228,7 @@ at_others ls p y q a h no_parent no_copy =
     let moved : List ℕ = get_or ls p [] in
     let ns : List ℕ = get_or ls q [] in
     let first : get_or (first_move ls p y) q [] ≡ ns =
-        first_at ls p y q h ∙ ap (λ b. if b then without moved ns ++ moved else without moved ns) (ne_eqb q y no_copy) ∙ same_without moved ns (λ n at. a.disjoint q n no_parent at) in
+    first_at ls p y q h ∙ ap (λ b. if b then without moved ns ++ moved else without moved ns) (ne_eqb q y no_copy) ∙ same_without moved ns (λ n at. a.disjoint q n no_parent at) in
     both_at ls p y q h ∙ ap (λ (ks : List ℕ). children_with (TheEndOf p) (y ∷ []) q (without (y ∷ []) ks)) first
     ∙ ap (λ b. if b then without (y ∷ []) ns ++ y ∷ [] else without (y ∷ []) ns) (ne_eqb q p no_parent) ∙ without_one-none ns y (a.nowhere q)
 
@@ -239,7 +241,7 @@ both_are ls p y a =
     let long : length once ≡ length ls = length_changed (λ _. get_or ls p []) ls y in
     let all : length (wrapped_lists ls p y) ≡ length ls = length_changed (λ _. y ∷ []) once p ∙ long in
     let same : length (both_moves ls p y) ≡ length ls =
-        length-map_from 0 (children_with (TheEndOf p) (y ∷ [])) (map (without (y ∷ [])) (first_move ls p y)) ∙ length-map (first_move ls p y) (without (y ∷ [])) ∙ first_long ls p y in
+    length-map_from 0 (children_with (TheEndOf p) (y ∷ [])) (map (without (y ∷ [])) (first_move ls p y)) ∙ length-map (first_move ls p y) (without (y ∷ [])) ∙ first_long ls p y in
     ext_get_or [] (wrapped_lists ls p y) (both_moves ls p y) (all ∙ sym same) (λ q h. each q (omega (arith, h, all)))
   where
     each : (q : ℕ) → q < length ls → get_or (wrapped_lists ls p y) q [] ≡ get_or (both_moves ls p y) q []
@@ -283,10 +285,10 @@ wrapped_stands nodes g p y good are here there other free empty plain bare =
       root = kind_from (wrapped_by p y nodes) nodes 0 same ∙ are.root;
       kinds = subst (λ (ks : List Kind). AreKinds ks g.content) (sym same) are.kinds;
       children = lists_changed (λ _. y ∷ []) taken p ∙ ap (changed p (λ _. y ∷ [])) (lists_changed (λ _. children) nodes y
-        ∙ ap (λ (ns : List ℕ). changed y (λ _. ns) (lists nodes)) (children_is nodes g are p) ∙ ap (changed y (λ _. children_of g p)) are.children)
-        ∙ both_are g.children p y (apart_lists g p y good here there other free empty);
+          ∙ ap (λ (ns : List ℕ). changed y (λ _. ns) (lists nodes)) (children_is nodes g are p) ∙ ap (changed y (λ _. children_of g p)) are.children)
+          ∙ both_are g.children p y (apart_lists g p y good here there other free empty);
       hosts = hosts_changed (λ _. y ∷ []) taken p (hosts_changed (λ _. children) nodes y are.hosts bare)
-        (ap contents_in (kind_from taken nodes p (kinds_kept (λ _. children) nodes y)) ∙ plain);
+          (ap contents_in (kind_from taken nodes p (kinds_kept (λ _. children) nodes y)) ∙ plain);
     }
 
 -- a new copy has no parent and no children
@@ -297,9 +299,10 @@ copy_free f n good h = by (slice_get f.content n) refl
     by None e = absurd (true≢false (sym h ∙ ap (λ (o : Option NodeData). option_map_or is_element o false) e))
     by (Some content) e =
         let is : copy_made n f ≡ with_node (copied content) f = ap (λ (o : Option NodeData). option_map_or (λ c. with_node (copied c) f) o f) e in
-        let long = good.once.children_each in
-        (ap (λ (g : Forest). parent g (length f.content)) is ∙ parent-more (copied content) f (length f.content) ∙ new_parentless f (length f.content) good.once (omega arith),
-        ap (λ (g : Forest). children_of g (length f.content)) is ∙ children-more (copied content) f (length f.content) ∙ get_or_past f.children (length f.content) [] (omega (arith, long)))
+        let long = good.once.children_each in (
+          ap (λ (g : Forest). parent g (length f.content)) is ∙ parent-more (copied content) f (length f.content) ∙ new_parentless f (length f.content) good.once (omega arith),
+          ap (λ (g : Forest). children_of g (length f.content)) is ∙ children-more (copied content) f (length f.content) ∙ get_or_past f.children (length f.content) [] (omega (arith, long)),
+        )
 
 pub inside_stands : (nodes : List Node) (f : Forest) (n p : ℕ) → IsForest f → IsForest (copy_made n f) → AreNodes nodes f → element_at f n ≡ true → p < length f.content → contents_at f p ≡ None →
     AreNodes (with_copy_inside n p nodes) (copied_inside n p f)
@@ -310,7 +313,7 @@ inside_stands nodes f n p good after are h known plain =
     let kind : Kind = copy_of (node_at nodes n).kind in
     let inside : p < length nodes = omega (arith, known, long) in
     let here : contents_in (node_at (with_copy n nodes) p).kind ≡ None =
-        ap (λ (node : Node). contents_in node.kind) (old_node nodes (leaf kind) p inside) ∙ contents_is nodes f are p ∙ plain in
+    ap (λ (node : Node). contents_in node.kind) (old_node nodes (leaf kind) p inside) ∙ contents_is nodes f are p ∙ plain in
     subst (λ (k : ℕ). AreNodes (wrapped_by p k (with_copy n nodes)) (copied_inside n p f)) (sym long)
     (wrapped_stands (with_copy n nodes) (copy_made n f) p (length f.content) after (copy_stands nodes f n are h) (omega (arith, known, more)) (omega (arith, more)) (λ e. absurd (omega (arith, known, e)))
     free.0 free.1 here (subst (λ (k : ℕ). contents_in (node_at (with_copy n nodes) k).kind ≡ None) long (copy_plain nodes n)))
@@ -396,6 +399,7 @@ element_good f name attrs flags good = by flags.template
       template_contents = if b then Some (length f.content + 1) else None;
       mathml_annotation_xml_integration_point = flags.mathml_annotation_xml_integration_point;
     })
+
     by : (b : Bool) → IsForest (if b then with_lone_template (content b) f else with_node (content b) f)
     by true = lone_template_kept f (content true) good refl refl
     by false = alone_good f (content false) good refl
@@ -415,7 +419,7 @@ tag_next f g gap ns name tag id written attrs flags made w a t m =
     record {
       number = made.number;
       forest = made.forest ∙ ap (λ one. with_flags one flags.mathml_annotation_xml_integration_point) t ∙ ap (with_flags (is_template_named ns name)) m
-        ∙ ap (λ (parts : NameParts). with_element_at gap parts attrs (flags_for ns name tag) f) w ∙ ap (λ (given : List Attr). with_element_at gap (element_name_in ns name (string_bytes tag.name)) given (flags_for ns name tag) f) a;
+          ∙ ap (λ (parts : NameParts). with_element_at gap parts attrs (flags_for ns name tag) f) w ∙ ap (λ (given : List Attr). with_element_at gap (element_name_in ns name (string_bytes tag.name)) given (flags_for ns name tag) f) a;
     }
 
 -- ---- the calls that copy

@@ -200,8 +200,8 @@ nodes_moved nodes f x gap (EndOf p) good are at known apart =
       root = kind_from (put_at x (EndOf p) nodes) nodes 0 (kinds_put x (EndOf p) nodes) ∙ are.root;
       kinds = subst (λ (ks : List Kind). AreKinds ks f.content) (sym (kinds_put x (EndOf p) nodes)) are.kinds;
       children = lists_changed (λ ns. ns ++ x ∷ []) cut p
-        ∙ ap (changed p (λ ns. ns ++ x ∷ [])) (lists_removed x nodes ∙ ap (map (without (x ∷ []))) are.children)
-        ∙ sym (put_last x p (map (without (x ∷ [])) f.children));
+          ∙ ap (changed p (λ ns. ns ++ x ∷ [])) (lists_removed x nodes ∙ ap (map (without (x ∷ []))) are.children)
+          ∙ sym (put_last x p (map (without (x ∷ [])) f.children));
       hosts = hosts_changed (λ ns. ns ++ x ∷ []) cut p (hosts_removed x nodes are.hosts) plain;
     })
 nodes_moved nodes f x gap (Before p m) good are at known apart =
@@ -213,8 +213,8 @@ nodes_moved nodes f x gap (Before p m) good are at known apart =
       root = kind_from (put_at x (Before p m) nodes) nodes 0 (kinds_put x (Before p m) nodes) ∙ are.root;
       kinds = subst (λ (ks : List Kind). AreKinds ks f.content) (sym (kinds_put x (Before p m) nodes)) are.kinds;
       children = lists_changed (placed_before x m) cut p
-        ∙ ap (changed p (placed_before x m)) (lists_removed x nodes ∙ ap (map (without (x ∷ []))) are.children)
-        ∙ sym (put_beside x m p (map (without (x ∷ [])) f.children) stands);
+          ∙ ap (changed p (placed_before x m)) (lists_removed x nodes ∙ ap (map (without (x ∷ []))) are.children)
+          ∙ sym (put_beside x m p (map (without (x ∷ [])) f.children) stands);
       hosts = hosts_changed (placed_before x m) cut p (hosts_removed x nodes are.hosts) plain;
     })
 
@@ -270,6 +270,7 @@ point_made nodes kind gap spot known at = by (contents_in kind) refl
   where
     one : IsPointOf (nodes ++ leaf kind ∷ []) gap spot
     one = point_more nodes kind gap spot known at
+
     by : (o : Option ℕ) → contents_in kind ≡ o → IsPointOf (with_kind kind nodes) gap spot
     by None e = subst (λ (ns : List Node). IsPointOf ns gap spot) (sym (one_more kind nodes e)) one
     by (Some c) e =
@@ -347,11 +348,11 @@ text_grown nodes f n old text are known e valid =
     let found = kind_is nodes f n are known in
     let was = a_text (node_at nodes n).kind found.0 old found.2 e in
     let longer : encode_utf8_all old ++ text ≡ encode_utf8_all (old ++ chars text) =
-        ap (λ (bs : List ℕ). encode_utf8_all old ++ bs) (sym (encodes-chars text valid)) ∙ sym (encodes-append old (chars text)) in
+    ap (λ (bs : List ℕ). encode_utf8_all old ++ bs) (sym (encodes-chars text valid)) ∙ sym (encodes-append old (chars text)) in
     record {
       root = root_kept (changed_at (with_kind_of kind) nodes n) n refl;
       kinds = subst (λ (ks : List Kind). AreKinds ks (changed n (lengthened text) f.content)) (sym (kinds_changed kind nodes n))
-        (kinds_set (kinds nodes) f.content n kind (lengthened text) are.kinds (λ c got. (let same : c ≡ found.0 = (let g = found.1 in cc) in ap (lengthened text) (same ∙ was) ∙ ap Text longer)));
+          (kinds_set (kinds nodes) f.content n kind (lengthened text) are.kinds (λ c got. (let same : c ≡ found.0 = (let g = found.1 in cc) in ap (lengthened text) (same ∙ was) ∙ ap Text longer)));
       children = lists_kept kind nodes n ∙ are.children;
       hosts = hosts_kept kind nodes n are.hosts refl;
     }
@@ -360,6 +361,7 @@ text_grown nodes f n old text are known e valid =
     changed_else kind [] root k is = root
     changed_else kind (node ∷ ns) root zero is = (let none : text_in node.kind ≡ None = ap text_in root in cc)
     changed_else kind (node ∷ ns) root (suc k) is = root
+
     root_kept : (all : List Node) (k : ℕ) → all ≡ changed_at (with_kind_of (TextNode (old ++ chars text))) nodes n → (node_at all 0).kind ≡ DocumentNode
     root_kept all k same = ap (λ (ns : List Node). (node_at ns 0).kind) same ∙ changed_else (TextNode (old ++ chars text)) nodes are.root n e
 
@@ -369,8 +371,10 @@ text_stands nodes f gap spot text good after are at opens valid = by (before_gap
   where
     fresh : AreNodes (with_kind_at (TextNode (chars text)) spot nodes) (with_node_at gap (Text text) f)
     fresh = text_made nodes f gap spot text good after are at opens valid
+
     is_before : (o : Option ℕ) → before_gap gap f ≡ o → node_before nodes spot ≡ o
     is_before o e = sym (before_point nodes f gap spot good are at) ∙ e
+
     at_node : (n : ℕ) (o : Option (List ℕ)) → n < length f.content → text_in (node_at nodes n).kind ≡ o →
         AreNodes (text_after (Some n) (chars text) spot nodes) (with_more (if is_text_at f n then Some n else None) gap text f)
     at_node n None known e =
@@ -385,6 +389,7 @@ text_stands nodes f gap spot text good after are at opens valid = by (before_gap
         subst (λ (ns : List Node). AreNodes ns (with_more (if is_text_at f n then Some n else None) gap text f))
         (sym (ap (λ (p : Option (List ℕ)). elim p [ Some before ↦ changed_at (with_kind_of (TextNode (before ++ chars text))) nodes n | None ↦ with_kind_at (TextNode (chars text)) spot nodes ]) e))
         (subst (λ (b : Bool). AreNodes (changed_at (with_kind_of (TextNode (old ++ chars text))) nodes n) (with_more (if b then Some n else None) gap text f)) (sym yes) (text_grown nodes f n old text are known e valid))
+
     by : (o : Option ℕ) → before_gap gap f ≡ o → AreNodes (with_text_at (chars text) spot nodes) (text_at gap text f)
     by None e =
         subst (λ (p : Option ℕ). AreNodes (text_after p (chars text) spot nodes) (text_at gap text f)) (sym (is_before None e))

@@ -114,7 +114,7 @@ plain_more kind nodes plain = ap (λ (o : Option ℕ). elim o [ None ↦ nodes +
 
 -- the new node comes just before the place
 new_before : (nodes : List Node) (spot : Place) (kind : Kind) → contents_in kind ≡ None → IsThere nodes spot → node_before (with_kind_at kind spot nodes) spot ≡ Some (length nodes)
-new_before nodes (EndOf p) kind plain known = 
+new_before nodes (EndOf p) kind plain known =
     let n : ℕ = length nodes in
     let long = length_nodes nodes (leaf kind) in
     let more : List Node = nodes ++ leaf kind ∷ [] in
@@ -128,7 +128,7 @@ new_before nodes (Before p m) kind plain known =
     let high = known.1 in
     let other : nat_eq m n ≡ false = ne_eqb m n (λ e. absurd (omega (arith, high, e))) in
     let at : is_member m (node_at (removed n more) p).children ≡ true =
-        ap (is_member m) (removed_here n more p) ∙ member_kept n m (node_at more p).children other (ap (λ (node : Node). is_member m node.children) (old_node nodes (leaf kind) p known.0) ∙ known.2) in
+    ap (is_member m) (removed_here n more p) ∙ member_kept n m (node_at more p).children other (ap (λ (node : Node). is_member m node.children) (old_node nodes (leaf kind) p known.0) ∙ known.2) in
     ap (λ (ns : List Node). node_before (put_at n (Before p m) ns) (Before p m)) (plain_more kind nodes plain)
     ∙ ap (before_of m None) (changed_here (placed_before n m) (removed n more) p (omega (arith, known.0, long, length_removed n more)))
     ∙ before_put n m None (node_at (removed n more) p).children (same_test n m ∙ other) at
@@ -149,6 +149,7 @@ texts_join nodes spot bs cs known = joined (node_before nodes spot) refl
           | None ↦ with_kind_at (TextNode cs) spot (with_kind_at (TextNode bs) spot nodes)
         ]) (kind_from (with_kind_at (TextNode bs) spot nodes) (nodes ++ leaf (TextNode bs) ∷ []) (length nodes) (kinds_put (length nodes) spot (nodes ++ leaf (TextNode bs) ∷ [])) ∙ ap (λ (node : Node). node.kind) (new_node nodes (leaf (TextNode bs))))
         ∙ lengthened nodes spot bs cs ∙ sym all
+
     grown : (n : ℕ) (o : Option (List ℕ)) → node_before nodes spot ≡ Some n → text_in (node_at nodes n).kind ≡ o → with_text_at cs spot (text_after (Some n) bs spot nodes) ≡ text_after (Some n) (bs ++ cs) spot nodes
     grown n None e kind =
         made (Some n) e
@@ -165,6 +166,7 @@ texts_join nodes spot bs cs known = joined (node_before nodes spot) refl
         ∙ sym (kinds_changed (TextNode (text ++ (bs ++ cs))) nodes n))
         (lists_kept (TextNode ((text ++ bs) ++ cs)) once n ∙ lists_kept (TextNode (text ++ bs)) nodes n ∙ sym (lists_kept (TextNode (text ++ (bs ++ cs))) nodes n))
         ∙ sym (ap (λ (p : Option (List ℕ)). elim p [ Some before ↦ changed_at (with_kind_of (TextNode (before ++ (bs ++ cs)))) nodes n | None ↦ with_kind_at (TextNode (bs ++ cs)) spot nodes ]) kind)
+
     joined : (o : Option ℕ) → node_before nodes spot ≡ o → with_text_at cs spot (text_after o bs spot nodes) ≡ text_after o (bs ++ cs) spot nodes
     joined None e = made None e refl refl
     joined (Some n) e = grown n (text_in (node_at nodes n).kind) e refl
@@ -180,6 +182,7 @@ char_is t spot c = at (node_before t.nodes spot)
     at_node n None e =
         ap (λ (p : Option (List ℕ)). (let u : GrowingTree = elim p [ Some text ↦ with_text t n (text ++ c ∷ []) | None ↦ created_at spot (TextNode (c ∷ [])) t ] in u.nodes)) e
         ∙ sym (ap (λ (p : Option (List ℕ)). elim p [ Some before ↦ changed_at (with_kind_of (TextNode (before ++ c ∷ []))) t.nodes n | None ↦ with_kind_at (TextNode (c ∷ [])) spot t.nodes ]) e)
+
     at : (o : Option ℕ) → (text_behind o spot c t).nodes ≡ text_after o (c ∷ []) spot t.nodes
     at None = refl
     at (Some n) = at_node n (text_in (kind_of t n)) refl
