@@ -21,4 +21,13 @@ pub mod NamesAgree
 pub mod ScopeEnds
 pub mod StandingNames
 pub mod StandingStacks
+mod ListsMoved
+mod StoreLemmas
+pub mod TextRuns
+pub mod StandingParents
+pub mod StandingNodes
 pub mod StandingPlaces
+pub mod StandingEdits
+pub mod CharacterRuns
+pub mod ActionsOnNodes
+pub mod AgencyPlaces

@@ -1,52 +1,33 @@
 -- The appropriate place for a node is the definition's place.
-use Rattle.std.proofs.Common.{◌≡◌, ℕ, suc, ◌+◌, Bool, true, false, ◌&&◌, ◌||◌, List, [], ◌∷◌, map, nat_eq, reverse, refl, sym, ap, ◌∙◌, ◌==◌, add-one, codes, length, inl, inr, if◌then◌else◌}
+use Rattle.std.proofs.Common.{◌≡◌, ℕ, Bool, true, false, ◌&&◌, List, [], ◌∷◌, ◌++◌, map, reverse, refl, sym, ap, ◌∙◌, codes, length, subst, if◌then◌else◌}
 use Rattle.std.specs.Option.{unwrap_or}
-use Rattle.std.specs.Prelude.{None, Option, Some, nat_le}
-use Rattle.std.proofs.lemmas.Bool.{eq-eqb, ne_eqb}
-use Rattle.std.proofs.lemmas.Bool.Decides.{eqb_tells}
-use Rattle.dom_links.specs.Forest.{Forest, owner_from, parent}
-use Rattle.dom_links.specs.Lists.{is_member}
+use Rattle.std.specs.Option.{option_map_or}
+use Rattle.std.specs.Prelude.{None, Option, Some, nat_le, option_and_then, slice_get}
+use Rattle.dom_nodes.specs.Kinds.{contents_named, is_fragment}
+use Rattle.dom_nodes.specs.declared.node_data.NodeData.{NodeData}
+use Rattle.dom_nodes.specs.declared.node_data.NodeData.TheVariants.{Fragment}
+use Rattle.dom_links.specs.Forest.{Forest, parent}
+use Rattle.dom_links.specs.Sound.{IsForest, contents_at}
 use Rattle.dom_links.specs.declared.gap.InsertionPoint.{InsertionPoint}
 use Rattle.dom_links.specs.declared.gap.InsertionPoint.TheVariants.{Before as TheBefore, EndOf as TheEndOf}
-use Rattle.standard_trees.specs.GrowingTree.{GrowingTree, foster_place, in_contents, is_among, is_one as is_one_of, place, top}
+use Rattle.standard_trees.specs.GrowingTree.{GrowingTree, current, foster_place, in_contents, is_among, is_one as is_one_of, kind_of, place, top}
 use Rattle.standard_trees.specs.NameLists.{fostering_names}
-use Rattle.standard_trees.specs.TreeStore.{Before, EndOf, Node, Place, contents_in, key_in, node_at, parent_from, parent_of}
-use Rattle.standard_trees.specs.TreeStore.{is_member as has_number}
+use Rattle.standard_trees.specs.TreeStore.{Before, EndOf, Node, Place, contents_in, key_in, node_at, parent_of}
 use Rattle.page_trees.specs.Names.{html_rows, rare_rows}
 use Rattle.page_trees.specs.Placing.{foster_place_of, fosters, inner, is_a_table, is_a_template, place_of, place_outside, place_within, point_of}
-use Rattle.page_trees.specs.Stands.{AllStand, AreNodes, IsStackOf, StandsFor, point_at}
+use Rattle.page_trees.specs.SameNodes.{AreNodes, IsPointOf}
+use Rattle.page_trees.specs.Stands.{AllStand, IsStackOf, StandsFor, point_at}
 use Rattle.page_trees.specs.declared.growing.placing.Placing.{Placing}
 use Rattle.page_trees.specs.declared.growing.placing.Place.TheVariants.{EndOf as AtEnd, Table}
 use Rattle.page_trees.specs.declared.stack.Open.{Open}
 use Rattle.page_trees.proofs.StandingNames.{are_known, one_agrees}
-
--- ---- parents
-
-same_number : (n m : ℕ) → (m == n) ≡ nat_eq n m
-same_number n m = elim (eqb_tells m n) [ inl h ↦ h.0 ∙ sym (eq-eqb n m (sym h.1)) | inr h ↦ h.0 ∙ sym (ne_eqb n m (λ e. h.1 (sym e))) ]
-
-same_member : (n : ℕ) (ns : List ℕ) → is_member n ns ≡ has_number n ns
-same_member n [] = refl
-same_member n (m ∷ ns) = ap (λ b. b || is_member n ns) (same_number n m) ∙ ap (λ b. nat_eq n m || b) (same_member n ns)
-
-either : (b : Bool) (x y z : Option ℕ) → y ≡ z → (if b then x else y) ≡ (elim b [ true ↦ x | false ↦ z ])
-either true x y z e = refl
-either false x y z e = e
-
-owner_is : (i n : ℕ) (nodes : List Node) → owner_from i (map (λ node. node.children) nodes) n ≡ parent_from i n nodes
-owner_is i n [] = refl
-owner_is i n (node ∷ nodes) =
-    ap (λ b. if b then Some i else owner_from (i + 1) (map (λ node. node.children) nodes) n) (same_member n node.children)
-    ∙ either (has_number n node.children) (Some i) (owner_from (i + 1) (map (λ node. node.children) nodes) n) (parent_from (suc i) n nodes)
-    (ap (λ k. owner_from k (map (λ node. node.children) nodes) n) (add-one i) ∙ owner_is (suc i) n nodes)
-
-parent_is : (nodes : List Node) (forest : Forest) → AreNodes nodes forest → (n : ℕ) → parent forest n ≡ parent_of nodes n
-parent_is nodes forest are n = ap (λ lists. owner_from 0 lists n) (sym are.children) ∙ owner_is 0 n nodes
+use Rattle.page_trees.proofs.StandingNodes.{contents_is, parent_free}
+use Rattle.page_trees.proofs.StandingParents.{parent_is}
 
 -- ---- places
 
 inside_is : (t : GrowingTree) (forest : Forest) → AreNodes t.nodes forest → (n : ℕ) → point_of forest (AtEnd (inner forest n)) ≡ point_at (in_contents t (EndOf n))
-inside_is t forest are n = ap (λ (c : Option ℕ). TheEndOf (unwrap_or c n)) (sym (are.contents n))
+inside_is t forest are n = ap (λ (c : Option ℕ). TheEndOf (unwrap_or c n)) (sym (contents_is t.nodes forest are n))
 
 plain_is : (t : GrowingTree) (o : Open) → StandsFor t.nodes o → is_a_template o ≡ false → TheEndOf o.id ≡ point_at (in_contents t (EndOf o.id))
 plain_is t o s e = ap (λ (c : Option ℕ). TheEndOf (unwrap_or c o.id)) (sym (ap contents_in s.kind ∙ s.plain e))
@@ -63,7 +44,7 @@ beside x y None = EndOf y
 beside_is : (t : GrowingTree) (forest : Forest) → AreNodes t.nodes forest → (x y : ℕ) (r : Option ℕ) → parent forest x ≡ r →
     (elim r [ Some _ ↦ TheBefore x | None ↦ TheEndOf (inner forest y) ]) ≡ point_at (in_contents t (beside x y r))
 beside_is t forest are x y (Some p) e =
-    ap (λ (c : Option ℕ). point_at (elim c [ Some k ↦ EndOf k | None ↦ Before p x ])) (sym (are.contents p ∙ are.hosts p x e))
+    ap (λ (c : Option ℕ). point_at (elim c [ Some k ↦ EndOf k | None ↦ Before p x ])) (sym (parent_free t.nodes x p are.hosts (sym (parent_is t.nodes forest are x) ∙ e)))
 beside_is t forest are x y None e = inside_is t forest are y
 
 table_is : (t : GrowingTree) (forest : Forest) → AreNodes t.nodes forest → (x y : ℕ) →
@@ -155,5 +136,65 @@ pub place_agrees : (t : GrowingTree) (forest : Forest) (placing : Placing) (elem
 place_agrees t forest placing elements are s fostering shallow =
     ap (λ b. point_of forest (if b then place_outside forest (place_of forest placing.foster (reverse elements)) else place_of forest placing.foster (reverse elements))) shallow
     ∙ spot_is t forest are placing.foster (reverse elements) s.nodes
+    ∙ ap (λ b. point_at (spot_on t b (map (λ o. o.id) (reverse elements)))) (sym fostering)
+    ∙ ap (λ ns. point_at (spot_on t t.fostering ns)) (sym s.ids)
+
+-- ---- the place is a point
+
+-- beside a child of its parent, or at the end of a node
+abbrev IsSpot : List Node → Place → Type 0
+IsSpot nodes (EndOf p) = Unit {0}
+IsSpot nodes (Before p m) = parent_of nodes m ≡ Some p
+
+beside_spot : (t : GrowingTree) (x y : ℕ) (r : Option ℕ) → parent_of t.nodes x ≡ r → IsSpot t.nodes (beside x y r)
+beside_spot t x y (Some p) e = e
+beside_spot t x y None e = tt
+
+chosen_spot : (nodes : List Node) (a b : Bool) (x y z : Place) → IsSpot nodes x → IsSpot nodes y → IsSpot nodes z → IsSpot nodes (chosen a b x y z)
+chosen_spot nodes true b x y z one two three = one
+chosen_spot nodes false true x y z one two three = two
+chosen_spot nodes false false x y z one two three = three
+
+foster_spot : (t : GrowingTree) (ns : List ℕ) → IsSpot t.nodes (foster_place t ns)
+foster_spot t [] = tt
+foster_spot t (n ∷ []) = tt
+foster_spot t (n ∷ m ∷ ns) =
+    let a : Bool = is_one_of t (codes "template" ∷ []) n in
+    let b : Bool = is_one_of t (codes "table" ∷ []) n in
+    subst (IsSpot t.nodes) (as_chosen t a b n m ns)
+    (chosen_spot t.nodes a b (EndOf n) (beside n m (parent_of t.nodes n)) (foster_place t (m ∷ ns)) tt (beside_spot t n m (parent_of t.nodes n) refl) (foster_spot t (m ∷ ns)))
+
+fragment_plain : (o : Option NodeData) → option_map_or is_fragment o false ≡ true → option_and_then contents_named o ≡ None
+fragment_plain (Some Fragment) e = refl
+fragment_plain _ e = cc
+
+-- the contents of a template have none
+inner_plain : (t : GrowingTree) (forest : Forest) → IsForest forest → AreNodes t.nodes forest → (p : ℕ) (o : Option ℕ) → contents_in (kind_of t p) ≡ o → contents_in (kind_of t (unwrap_or o p)) ≡ None
+inner_plain t forest good are p None e = e
+inner_plain t forest good are p (Some k) e =
+    contents_is t.nodes forest are k ∙ fragment_plain (slice_get forest.content k) (good.contents_known p k (sym (contents_is t.nodes forest are p) ∙ e)).1
+
+spot_point : (t : GrowingTree) (forest : Forest) (gap : InsertionPoint) (spot : Place) → IsForest forest → AreNodes t.nodes forest → IsSpot t.nodes spot → gap ≡ point_at (in_contents t spot) →
+    IsPointOf t.nodes gap (in_contents t spot)
+spot_point t forest gap (EndOf p) good are is e = (e, inner_plain t forest good are p (contents_in (kind_of t p)) refl)
+spot_point t forest gap (Before p m) good are is e =
+    let plain : contents_in (kind_of t p) ≡ None = parent_free t.nodes m p are.hosts is in
+    let at : in_contents t (Before p m) ≡ Before p m = ap (λ (o : Option ℕ). elim o [ Some k ↦ EndOf k | None ↦ Before p m ]) plain in
+    subst (IsPointOf t.nodes gap) (sym at) (e ∙ ap point_at at, is)
+
+by_fostering : (t : GrowingTree) (b : Bool) → IsSpot t.nodes (elim b [ true ↦ foster_place t t.stack | false ↦ EndOf (current t) ])
+by_fostering t true = foster_spot t t.stack
+by_fostering t false = tt
+
+pub place_point : (t : GrowingTree) (forest : Forest) (gap : InsertionPoint) → IsForest forest → AreNodes t.nodes forest → gap ≡ point_at (place t) → IsPointOf t.nodes gap (place t)
+place_point t forest gap good are e =
+    let fosters : Bool = t.fostering && is_one_of t fostering_names (current t) in
+    spot_point t forest gap (elim fosters [ true ↦ foster_place t t.stack | false ↦ EndOf (current t) ]) good are (by_fostering t fosters) e
+
+-- the same without a limit on depth
+pub spot_agrees : (t : GrowingTree) (forest : Forest) (foster : Bool) (elements : List Open) → AreNodes t.nodes forest → IsStackOf t elements → t.fostering ≡ foster →
+    point_of forest (place_of forest foster (reverse elements)) ≡ point_at (place t)
+spot_agrees t forest foster elements are s fostering =
+    spot_is t forest are foster (reverse elements) s.nodes
     ∙ ap (λ b. point_at (spot_on t b (map (λ o. o.id) (reverse elements)))) (sym fostering)
     ∙ ap (λ ns. point_at (spot_on t t.fostering ns)) (sym s.ids)

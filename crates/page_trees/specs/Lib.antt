@@ -15,3 +15,5 @@ pub mod Scopes
 pub mod Links
 pub mod SearchIndex
 pub mod Stands
+pub mod SameNodes
+pub mod Insertions

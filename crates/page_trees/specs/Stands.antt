@@ -1,11 +1,9 @@
 -- How the state of tree construction stands for the one that standard_trees defines (13.2.4). Both number nodes in the order in which
 -- they are made, so the id of a node is its number there.
-use Rattle.std.specs.Prelude.{◌≡◌, ◌+◌, Bool, List, None, Option, Some, [], ◌∷◌, false, map, reverse, ℕ}
+use Rattle.std.specs.Prelude.{◌≡◌, List, None, Option, Some, [], ◌∷◌, false, map, reverse, ℕ}
 use Rattle.standard_trees.specs.GrowingTree.{GrowingTree, is_html_point, lower}
 use Rattle.standard_trees.specs.RuleWords.{ButtonScope, ListItemScope, Scope as DefaultScope, ScopeKind, TableScope}
-use Rattle.standard_trees.specs.TreeStore.{Before, DocumentNode, ElementNode, EndOf, Node, NodeAttr, Place, contents_in, is_member, node_at}
-use Rattle.dom_links.specs.Forest.{Forest, parent}
-use Rattle.dom_links.specs.Sound.{contents_at}
+use Rattle.standard_trees.specs.TreeStore.{Before, ElementNode, EndOf, Node, NodeAttr, Place, is_member, node_at}
 use Rattle.dom_links.specs.declared.gap.InsertionPoint.{InsertionPoint}
 use Rattle.dom_links.specs.declared.gap.InsertionPoint.TheVariants.{Before as TheBefore, EndOf as TheEndOf}
 use Rattle.page_trees.specs.Names.{name_of, text_of}
@@ -54,15 +52,7 @@ abbrev pub text_list : Option Name → List (List ℕ)
 text_list None = []
 text_list (Some name) = text_of name ∷ []
 
--- ---- nodes
-
--- The nodes of a forest are those of the definition: they have the same children and the same template contents. The children of a
--- template are those of its contents, so it has none of its own.
-pub record AreNodes (nodes : List Node) (forest : Forest) : Type 0 where
-  pub root : (node_at nodes 0).kind ≡ DocumentNode
-  pub children : map (λ node. node.children) nodes ≡ forest.children
-  pub contents : (n : ℕ) → contents_in (node_at nodes n).kind ≡ contents_at forest n
-  pub hosts : (p n : ℕ) → parent forest n ≡ Some p → contents_at forest p ≡ None
+-- ---- places
 
 -- a place for a node as an insertion point
 abbrev pub point_at : Place → InsertionPoint

@@ -303,7 +303,8 @@ impl GrowingTree {
     /// Inserts a doctype as the last child of the root: name, public identifier and system
     /// identifier.
     pub fn put_doctype(&mut self, parts: [&str; 3]) -> Result<(), PageFault> {
-        put_doctype(&mut self.tree, parts)
+        let [name, public_id, system_id] = parts;
+        put_doctype(&mut self.tree, name, public_id, system_id)
     }
 
     /// Adds to the element at an index of the stack those of a tag's attributes whose names it

@@ -1,17 +1,33 @@
 //! The edits of the tree that tree construction makes. They fail only when memory or node ids run
 //! out, and an element never becomes a node of another kind.
 
-ghost use Rattle.std.specs.Prelude.{◌≡◌, ◌∷◌, [], IfOk, None, OnErr, Some, false};
+ghost use Rattle.std.specs.Prelude.{◌≡◌, ◌∷◌, [], IfOk, None, OnErr, OnOk, Some, false};
+ghost use Rattle.std.specs.Prelude.{chars};
+ghost use Rattle.standard_trees.specs.TreeStore.{CommentNode, EndOf as AtEnd, Kind, removed};
+ghost use Rattle.dom_nodes.specs.declared.node_data.NodeData.TheVariants.{Element as AnElement};
+ghost use Rattle.dom_links.specs.AddedTexts.{with_node_at, with_text_at};
+ghost use Rattle.dom_links.specs.Growth.{with_node};
 ghost use Rattle.dom_links.specs.ListMoves.{reparented};
-ghost use Rattle.dom_links.specs.Moves.{moved_to};
-ghost use Rattle.dom_links.specs.Sound.{IsForest, IsOpenGap};
+ghost use Rattle.dom_links.specs.Moves.{detach, moved_to};
+ghost use Rattle.dom_links.specs.Sound.{IsForest, IsOpenGap, contents_at};
 ghost use Rattle.dom_links.specs.declared.gap.InsertionPoint.TheVariants.{EndOf};
 ghost use Rattle.dom_links.specs.declared.gap.MovedNodes.TheVariants.{Node};
 ghost use Rattle.dom_trees.specs.Edits.{MayMove, MayReparentOf};
+ghost use Rattle.dom_trees.specs.NewNodes.{comment_node, doctype_node};
+ghost use Rattle.dom_trees.specs.TreeUnderConstruction.{with_new_element};
 ghost use Rattle.page_trees.specs.Elements.{Grows, IsAround, IsCopy, IsElement, IsFresh, IsInside};
 ghost use Rattle.page_trees.specs.Elements.{IsMade, IsNew, IsRooted};
 ghost use Rattle.page_trees.specs.Foreign.{is_html_annotation};
+ghost use Rattle.page_trees.specs.Insertions.{MakesNext, element_for_tag, with_copy};
+ghost use Rattle.page_trees.specs.Insertions.{with_copy_around, with_copy_at};
+ghost use Rattle.page_trees.specs.Insertions.{with_copy_inside, with_element_at};
+ghost use Rattle.page_trees.specs.Insertions.{with_tag_at};
 ghost use Rattle.page_trees.specs.Placing.{is_template_named};
+ghost use Rattle.page_trees.specs.SameNodes.{Changes, ChangesAt, IsKind, with_kind_at};
+ghost use Rattle.page_trees.specs.SameNodes.{with_copy_around as copied_around};
+ghost use Rattle.page_trees.specs.SameNodes.{with_copy_at as copied_at};
+ghost use Rattle.page_trees.specs.SameNodes.{with_copy_inside as copied_inside};
+ghost use Rattle.page_trees.specs.SameNodes.{with_text_at as with_text};
 ghost use Rattle.dom_trees.specs.Views.{node_attrs, node_qual_name};
 
 use crate::attributes::{attrs_of, element_name, holds_html};
@@ -54,7 +70,9 @@ pub fn reparent(tree: &mut Tree, id: NodeId, parent: NodeId)
 /// Detaches an element.
 pub fn cut_out(tree: &mut Tree, id: NodeId)
     requires { IsElement tree.old id }
-    ensures { Grows tree.old tree.new }
+    ensures grows { Grows tree.old tree.new }
+    ensures made { tree.new ≡ detach (id ∷ []) tree.old }
+    ensures rule { Changes tree.old tree.new (removed id) }
 {
     let Ok(()) = tree.remove_from_parent(&id) else {
         unreachable!();
@@ -64,7 +82,10 @@ pub fn cut_out(tree: &mut Tree, id: NodeId)
 /// Inserts a text at an insertion point.
 pub fn put_text(tree: &mut Tree, gap: InsertionPoint, text: &str) -> Result<(), PageFault>
     requires { IsOpenGap gap tree.old }
-    ensures { Grows tree.old tree.new }
+    ensures grows { Grows tree.old tree.new }
+    ensures made { OnOk result (tree.new ≡ with_text_at gap text.now tree.old) }
+    ensures rule { let text = chars text.now in
+        OnOk result (ChangesAt gap tree.old tree.new (with_text text)) }
 {
     is_forest(tree);
     settled(tree.add_text_at(gap, text))
@@ -73,6 +94,7 @@ pub fn put_text(tree: &mut Tree, gap: InsertionPoint, text: &str) -> Result<(), 
 /// Makes a detached comment and returns its id.
 fn create_comment(tree: &mut Tree, text: &str) -> Result<NodeId, PageFault>
     ensures ok { IfOk result (IsNew tree.old tree.new) }
+    ensures made { OnOk result (tree.new ≡ with_node (comment_node text.now) tree.old) }
     ensures err { OnErr result (tree.new ≡ tree.old) }
 {
     made(tree.new_comment(text))
@@ -81,7 +103,11 @@ fn create_comment(tree: &mut Tree, text: &str) -> Result<NodeId, PageFault>
 /// Inserts a new comment at an insertion point.
 pub fn put_comment(tree: &mut Tree, gap: InsertionPoint, text: &str) -> Result<(), PageFault>
     requires { IsOpenGap gap tree.old }
-    ensures { Grows tree.old tree.new }
+    ensures grows { Grows tree.old tree.new }
+    ensures made { let comment = comment_node text.now in
+        OnOk result (tree.new ≡ with_node_at gap comment tree.old) }
+    ensures rule { let comment = CommentNode (chars text.now) in
+        OnOk result (ChangesAt gap tree.old tree.new (with_kind_at comment)) }
 {
     is_forest(tree);
     let comment = create_comment(tree, text)?;
@@ -92,12 +118,21 @@ pub fn put_comment(tree: &mut Tree, gap: InsertionPoint, text: &str) -> Result<(
 
 /// Inserts a doctype as the last child of the root: its name, public identifier and system
 /// identifier.
-pub fn put_doctype(tree: &mut Tree, parts: [&str; 3]) -> Result<(), PageFault>
+pub fn put_doctype(
+    tree: &mut Tree,
+    name: &str,
+    public_id: &str,
+    system_id: &str,
+) -> Result<(), PageFault>
     requires { IsRooted tree.old }
-    ensures { Grows tree.old tree.new }
+    ensures grows { Grows tree.old tree.new }
+    ensures made { let doctype = doctype_node name.now public_id.now system_id.now in
+        OnOk result (tree.new ≡ with_node_at (EndOf 0) doctype tree.old) }
+    ensures rule { let doctype = doctype_node name.now public_id.now system_id.now in
+        (kind : Kind) → IsKind kind doctype →
+        OnOk result (Changes tree.old tree.new (with_kind_at kind (AtEnd 0))) }
 {
     is_forest(tree);
-    let [name, public_id, system_id] = parts;
     made(tree.append_doctype_of(&NodeId::root(), name, public_id, system_id))?;
     Ok(())
 }
@@ -111,6 +146,7 @@ fn create(
 ) -> Result<NodeId, PageFault>
     ensures ok { IfOk result (IsMade tree.old tree.new) }
     ensures plain { flags.template ≡ false → IfOk result (IsCopy tree.old tree.new) }
+    ensures made { OnOk result (tree.new ≡ with_new_element name attrs flags tree.old) }
     ensures err { OnErr result (tree.new ≡ tree.old) }
 {
     made(tree.create_element(name, attrs, flags))
@@ -149,7 +185,12 @@ pub fn put_element(
     requires { IsOpenGap gap tree.old }
     ensures grows { Grows tree.old tree.new }
     ensures element { IfOk result (λ made. IsFresh tree.old tree.new made.id) }
+    ensures made { let after = with_tag_at gap ns name tag.now tree.old in
+        IfOk result (λ made. MakesNext made.id tree.old tree.new after) }
+    ensures rule { (kind : Kind) → IsKind kind (element_for_tag ns name tag.now tree.old) →
+        OnOk result (ChangesAt gap tree.old tree.new (with_kind_at kind)) }
 {
+    is_forest(tree);
     let alloc = tree.allocator();
     let flags = flags_of(ns, name, tag);
     let attrs = attrs_of(alloc, ns, tag.attrs.as_slice())?;
@@ -175,6 +216,8 @@ fn put_new(
     requires { IsOpenGap gap tree.old }
     ensures grows { Grows tree.old tree.new }
     ensures element { IfOk result (IsFresh tree.old tree.new) }
+    ensures made { let after = with_element_at gap name attrs flags tree.old in
+        IfOk result (λ id. MakesNext id tree.old tree.new after) }
 {
     if flags.template {
         return put_made(tree, gap, name, attrs, flags);
@@ -197,6 +240,8 @@ fn put_made(
     requires { IsOpenGap gap tree.old }
     ensures grows { Grows tree.old tree.new }
     ensures element { IfOk result (IsFresh tree.old tree.new) }
+    ensures made { let after = with_element_at gap name attrs flags tree.old in
+        IfOk result (λ id. MakesNext id tree.old tree.new after) }
 {
     is_forest(tree);
     let made = create(tree, name, attrs, flags)?;
@@ -211,6 +256,8 @@ fn append(tree: &mut Tree, parent: NodeId, element: Element) -> Result<NodeId, P
     requires plain { element.template_contents ≡ None }
     ensures grows { Grows tree.old tree.new }
     ensures element { IfOk result (IsFresh tree.old tree.new) }
+    ensures made { let after = with_node_at (EndOf parent) (AnElement element) tree.old in
+        IfOk result (λ id. MakesNext id tree.old tree.new after) }
 {
     is_forest(tree);
     made(tree.append_child_data_of(&parent, NodeData::Element(element)))
@@ -236,6 +283,7 @@ fn copy_of(tree: &mut Tree, element: Open) -> Result<Open, PageFault>
     requires { IsElement tree.old element.id }
     ensures forest { IsForest tree.old }
     ensures ok { IfOk result (λ copy. IsCopy tree.old tree.new copy.id) }
+    ensures made { OnOk result (tree.new ≡ with_copy element.id tree.old) }
     ensures err { OnErr result (tree.new ≡ tree.old) }
 {
     is_forest(tree);
@@ -260,6 +308,9 @@ pub fn put_copy(tree: &mut Tree, gap: InsertionPoint, element: Open) -> Result<O
     requires element { IsElement tree.old element.id }
     ensures grows { Grows tree.old tree.new }
     ensures element { IfOk result (λ copy. IsFresh tree.old tree.new copy.id) }
+    ensures made { let after = with_copy_at gap element.id tree.old in
+        IfOk result (λ copy. MakesNext copy.id tree.old tree.new after) }
+    ensures rule { OnOk result (ChangesAt gap tree.old tree.new (copied_at element.id)) }
 {
     let copy = copy_of(tree, element)?;
     move_to(tree, gap, copy.id);
@@ -273,6 +324,9 @@ pub fn put_into_copy(tree: &mut Tree, element: Open, id: NodeId) -> Result<Open,
     requires moved { IsElement tree.old id }
     ensures grows { Grows tree.old tree.new }
     ensures element { IfOk result (λ copy. IsAround tree.old tree.new copy.id id) }
+    ensures made { let after = with_copy_around element.id id tree.old in
+        IfOk result (λ copy. MakesNext copy.id tree.old tree.new after) }
+    ensures rule { OnOk result (Changes tree.old tree.new (copied_around element.id id)) }
 {
     let copy = copy_of(tree, element)?;
     move_to(tree, InsertionPoint::EndOf(copy.id), id);
@@ -289,6 +343,10 @@ pub fn put_children_into_copy(
     requires parent { IsElement tree.old parent }
     ensures grows { Grows tree.old tree.new }
     ensures element { IfOk result (λ copy. IsInside tree.old tree.new copy.id parent) }
+    ensures made { let after = with_copy_inside element.id parent tree.old in
+        IfOk result (λ copy. MakesNext copy.id tree.old tree.new after) }
+    ensures rule { contents_at tree.old parent ≡ None →
+        OnOk result (Changes tree.old tree.new (copied_inside element.id parent)) }
 {
     let copy = copy_of(tree, element)?;
     reparent(tree, parent, copy.id);

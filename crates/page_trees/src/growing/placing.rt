@@ -9,7 +9,8 @@ ghost use Rattle.page_trees.specs.Elements.{LiesAt, LiesIn};
 ghost use Rattle.page_trees.specs.Placing.{fosters, foster_place_of, inner, is_a_table};
 ghost use Rattle.page_trees.specs.Placing.{is_a_template, place_above, place_of};
 ghost use Rattle.page_trees.specs.Placing.{place_outside, place_within, point_of};
-ghost use Rattle.page_trees.specs.Stands.{AreNodes, IsStackOf, point_at};
+ghost use Rattle.page_trees.specs.SameNodes.{AreNodes, IsPointOf};
+ghost use Rattle.page_trees.specs.Stands.{IsStackOf};
 ghost use Rattle.page_trees.specs.declared.growing.placing.Place.TheVariants.{EndOf as AtEnd};
 ghost use Rattle.page_trees.specs.declared.stack.Open.{Open as AnOpen};
 
@@ -189,7 +190,11 @@ pub fn gap_in(tree: &Tree, elements: &[Open], foster: bool) -> InsertionPoint
     ensures lies { LiesIn tree.now elements.now (target result) }
     ensures value { let found = place_of tree.now foster (reverse elements.now) in
         result ≡ point_of tree.now found }
+    ensures rule { (built : StandardTree) → AreNodes built.nodes tree.now →
+        IsStackOf built elements.now → built.fostering ≡ foster →
+        IsPointOf built.nodes result (place built) }
 {
+    is_forest(tree);
     gap_of(tree, place_in(tree, elements, foster))
 }
 
@@ -204,8 +209,10 @@ pub fn gap(tree: &Tree, stack: &OpenElements, placing: Placing) -> InsertionPoin
     ensures rule { let elements = stack.now.elements.items in (built : StandardTree) →
         AreNodes built.nodes tree.now → IsStackOf built elements →
         built.fostering ≡ placing.foster →
-        nat_le placing.max_depth (length elements) ≡ false → result ≡ point_at (place built) }
+        nat_le placing.max_depth (length elements) ≡ false →
+        IsPointOf built.nodes result (place built) }
 {
+    is_forest(tree);
     gap_within(tree, stack.as_slice(), placing)
 }
 

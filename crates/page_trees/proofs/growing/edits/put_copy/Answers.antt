@@ -1,4 +1,5 @@
 use Rattle.page_trees.proofs.MadeNodes.{copy_is_new, forest_copied, new_moves}
+use Rattle.page_trees.proofs.StandingEdits.{copy_changes, copy_next}
 use Rattle.page_trees.proofs.Ways.{fresh_copy, grows_put}
 use Rattle.page_trees.proofs.growing.edits.put_copy.Goals as goal
 
@@ -12,3 +13,10 @@ returns-clause-grows c =
 
 pub returns-clause-element : goal.returns-clause-element
 returns-clause-element c = fresh_copy _ _ _ _ _ c.in_ok-copy.ensures.forest c.in_ok-copy.ensures.ok c.requires.gap c.move_to.ensures
+
+pub returns-clause-made : goal.returns-clause-made
+returns-clause-made c = copy_next _ _ _ c.args.element.id _ _ c.in_ok-copy.ensures.ok c.in_ok-copy.ensures.made c.move_to.ensures
+
+pub returns-clause-rule : goal.returns-clause-rule
+returns-clause-rule c =
+    copy_changes _ _ _ c.args.element.id _ _ c.in_ok-copy.ensures.forest c.in_ok-copy.ensures.ok c.in_ok-copy.ensures.made c.requires.element c.requires.gap c.move_to.ensures
