@@ -22,3 +22,6 @@ pub mod ScopeEnds
 pub mod StandingNames
 pub mod StandingStacks
 pub mod StandingPlaces
+pub mod BuiltStacks
+pub mod BuiltPointers
+pub mod BuiltStart

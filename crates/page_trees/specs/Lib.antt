@@ -14,4 +14,5 @@ pub mod Names
 pub mod Scopes
 pub mod Links
 pub mod SearchIndex
+pub mod TreeState
 pub mod Stands
