@@ -31,3 +31,6 @@ pub mod StandingEdits
 pub mod CharacterRuns
 pub mod ActionsOnNodes
 pub mod AgencyPlaces
+pub mod BuiltStacks
+pub mod BuiltPointers
+pub mod BuiltStart

@@ -2,20 +2,21 @@
 use Rattle.std.proofs.Common.{◌≡◌, ◌⊎◌, inl, inr, ℕ, Bool, true, false, ◌&&◌, ◌||◌, not, List, [], ◌∷◌, cond, drop, map, nat_eq, eqb, ◌++◌, reverse, rules, refl, sym, ap, subst, ◌∙◌, codes, if◌then◌else◌, true≢false}
 use Rattle.std.proofs.lemmas.Slice.Eq.{bytes_eq-Decides}
 use Rattle.std.specs.List.{find, list_all, starts_with}
-use Rattle.std.specs.Option.{unwrap_or}
-use Rattle.std.specs.Prelude.{Some}
+use Rattle.std.specs.Option.{option_map_or, unwrap_or}
+use Rattle.std.specs.Prelude.{None, Option, Some}
 use Rattle.std.specs.Str.{bytes_eq}
 use Rattle.standard_trees.specs.Building.{adjusted}
 use denote.Enum.Bare.{tag_one}
 use denote.Enum.Declared.{tag_of}
 use Rattle.std.proofs.lemmas.Bool.{cases_Bool, eqb-false, eqb-true}
-use Rattle.standard_trees.specs.GrowingTree.{GrowingTree, has_in_scope, in_scope, is_among, lower, ends_scope as ends_scope_of, is_one as is_one_of}
+use Rattle.standard_trees.specs.GrowingTree.{GrowingTree, has_in_scope, in_scope, is_among, is_named as is_of_kind, kind_of, lower}
+use Rattle.standard_trees.specs.GrowingTree.{ends_scope as ends_scope_of, is_one as is_one_of}
 use Rattle.standard_trees.specs.NameLists.{svg_names}
-use Rattle.standard_trees.specs.TreeStore.{is_member, key_in}
+use Rattle.standard_trees.specs.TreeStore.{Kind, is_member, key_in}
 use Rattle.page_trees.specs.Names.{html_rows, name_of, rare_rows, row_for, text_of}
-use Rattle.page_trees.specs.Scopes.{ends_in, is_name, is_named, scope_names}
+use Rattle.page_trees.specs.Scopes.{ends_in, has_name, is_name, is_named, scope_names}
 use Rattle.page_trees.specs.Sets.{is_in_html, is_one, is_one_in, key_for}
-use Rattle.page_trees.specs.Stands.{AllStand, IsStackOf, IsTagName, StandsFor, scope_kind}
+use Rattle.page_trees.specs.Stands.{AllStand, IsCurrent, IsOfKind, IsStackOf, IsTagName, StandsFor, scope_kind}
 use Rattle.page_trees.specs.contracts.name.Name.{the_type}
 use Rattle.page_trees.specs.declared.name.Name.{Name}
 use Rattle.page_trees.specs.declared.sets.Scope.{Scope}
@@ -126,10 +127,13 @@ key_agrees names h ns written tag = elim (text_again written) [
       ∙ sym (unlisted ns names written tag other (known_in ns names h))
 ]
 
+pub kind_agrees : (names : List (List ℕ)) → are_known names ≡ true → (o : Open) (kind : Kind) → IsOfKind o kind → is_one names o ≡ is_of_kind names kind
+kind_agrees names h o kind s =
+    ap (is_one_in names o.ns) s.name ∙ key_agrees names h o.ns s.written s.tag ∙ ap (λ kind. is_among (key_in kind) names) (sym s.kind)
+
 pub one_agrees : (names : List (List ℕ)) → are_known names ≡ true → (t : GrowingTree) (o : Open) → StandsFor t.nodes o →
     is_one names o ≡ is_one_of t names o.id
-one_agrees names h t o s =
-    ap (is_one_in names o.ns) s.name ∙ key_agrees names h o.ns s.written s.tag ∙ ap (λ kind. is_among (key_in kind) names) (sym s.kind)
+one_agrees names h t o s = kind_agrees names h o (kind_of t o.id) s
 
 -- ---- one name
 
@@ -184,6 +188,22 @@ one_known name known = by_name (is_name name Name.Other) known (for_all (λ n. i
     by_name : (b : Bool) → b ≡ false → (b || are_known (text_of name ∷ [])) ≡ true → are_known (text_of name ∷ []) ≡ true
     by_name true k h = absurd (true≢false k)
     by_name false k h = h
+
+-- a name that is known is not empty
+no_text : (name : Name) → is_name name Name.Other ≡ false → is_among [] (text_of name ∷ []) ≡ false
+unfolding html_rows rare_rows
+no_text name known = by_name (is_name name Name.Other) known (for_all (λ n. is_name n Name.Other || not (is_among [] (text_of n ∷ []))) refl name)
+  where
+    by_name : (b : Bool) → b ≡ false → (b || not (is_among [] (text_of name ∷ []))) ≡ true → is_among [] (text_of name ∷ []) ≡ false
+    by_name true k h = absurd (true≢false k)
+    by_name false k h = not_true (is_among [] (text_of name ∷ [])) h
+
+-- the same of the current node, which is the Document where none is open
+pub current_named : (name : Name) → is_name name Name.Other ≡ false → (r : Option Open) (kind : Kind) → IsCurrent r kind →
+    option_map_or (has_name name) r false ≡ is_of_kind (text_of name ∷ []) kind
+current_named name known None kind is = sym (ap (is_of_kind (text_of name ∷ [])) is ∙ no_text name known)
+current_named name known (Some o) kind is =
+    ap (λ b. not b && has_name name o) (sym known) ∙ named_is_one name known o ∙ kind_agrees (text_of name ∷ []) (one_known name known) o kind is
 
 pub named_agrees : (name : Name) → is_name name Name.Other ≡ false → (t : GrowingTree) (o : Open) → StandsFor t.nodes o →
     is_named name o ≡ is_one_of t (text_of name ∷ []) o.id

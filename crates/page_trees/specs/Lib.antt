@@ -14,6 +14,7 @@ pub mod Names
 pub mod Scopes
 pub mod Links
 pub mod SearchIndex
+pub mod TreeState
 pub mod Stands
 pub mod SameNodes
 pub mod Insertions

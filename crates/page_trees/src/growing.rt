@@ -2,13 +2,23 @@
 //! elements, the list of active formatting elements, and the head and form element pointers. A call
 //! that returns a `Result` fails only when memory or node ids run out.
 
-ghost use Rattle.std.specs.Prelude.{◌≡◌, IfOk};
+ghost use Rattle.std.specs.Prelude.{◌≡◌, [], ◌∷◌, IfOk, codes, not, true};
+ghost use Rattle.std.specs.Option.{is_some};
 ghost use Rattle.dom_links.specs.Growth.{lone};
 ghost use Rattle.dom_links.specs.Sound.{IsOpenGap};
 ghost use Rattle.dom_nodes.specs.declared.node_data.NodeData.TheVariants.{Document as TheDocument};
 ghost use Rattle.dom_nodes.specs.declared.node_data.NodeData.TheVariants.{Fragment as TheFragment};
 ghost use Rattle.page_trees.specs.Elements.{IsRooted};
+ghost use Rattle.page_trees.specs.Modes.{points_nowhere};
 ghost use Rattle.page_trees.specs.Placing.{is_at_top};
+ghost use Rattle.page_trees.specs.SearchIndex.{IsIndexed};
+ghost use Rattle.page_trees.specs.Stands.{Builds, Does, IsCurrent, Tells, is_fragment};
+ghost use Rattle.page_trees.specs.Stands.{with_form};
+ghost use Rattle.page_trees.specs.Stands.{with_form_of_context, with_head};
+ghost use Rattle.page_trees.specs.TreeState.{adjusted_at, fresh_state};
+ghost use Rattle.standard_trees.specs.Building.{empty_tree, is_present, is_set};
+ghost use Rattle.standard_trees.specs.GrowingTree.{GrowingTree as StandardTree};
+ghost use Rattle.standard_trees.specs.GrowingTree.{adjusted_current, current, is_one};
 
 mod adopting;
 mod edits;
@@ -43,8 +53,9 @@ pub struct BuiltTree {
     pub quirks_mode: QuirksMode,
 }
 
-/// A tree under construction. A contract sees it as a forest. Each node id that it keeps is the id
-/// of an element; no id comes from outside.
+/// A tree under construction. A contract sees it as a `TreeState`: the forest, the stack of open
+/// elements, the list of active formatting elements, the pointers and the quirks mode. Each node id
+/// that it keeps is the id of an element; no id comes from outside.
 #[derive(Drop)]
 pub struct GrowingTree {
     tree: Tree,
@@ -61,28 +72,42 @@ pub struct GrowingTree {
 }
 
 impl Model for GrowingTree {
-    ghost use Rattle.dom_links.specs.Forest.{Forest};
     ghost use Rattle.page_trees.specs.Elements.{AreElements};
+    ghost use Rattle.page_trees.specs.SearchIndex.{IsIndexed};
+    ghost use Rattle.page_trees.specs.TreeState.{TreeState, late_of};
 
-    ghost Value = { Forest };
+    ghost Value = { TreeState };
 
-    ghost view = { λ t. t.tree };
+    ghost view = { λ t. record {
+      forest = t.tree;
+      stack = t.stack.elements.items;
+      formatting = t.formatting.entries.items;
+      head = t.head;
+      form = t.form;
+      context = t.context;
+      late = late_of t.late.elements.items;
+      quirks = t.quirks_mode;
+    } };
 
     ghost invariant = { λ t. AreElements t.tree t.stack.elements.items
-        t.formatting.entries.items t.head t.form t.context };
+        t.formatting.entries.items t.head t.form t.context × IsIndexed t.stack };
 }
 
 impl GrowingTree {
     /// Returns an empty page. Fails only when memory runs out.
+    #[tactic(auto, using(crate::proofs::BuiltStart::page_built))]
     pub fn page(alloc: Global) -> Result<GrowingTree, PageFault>
-        ensures { IfOk result (λ made. made ≡ lone TheDocument) }
+        ensures made { IfOk result (λ made. made ≡ fresh_state (lone TheDocument)) }
+        ensures rule { IfOk result (λ made. Builds made empty_tree) }
     {
         Ok(GrowingTree::over(alloc, lone(alloc, NodeData::Document)?))
     }
 
     /// Returns an empty fragment. Fails only when memory runs out.
+    #[tactic(auto, using(crate::proofs::BuiltStart::fragment_built))]
     pub fn fragment(alloc: Global) -> Result<GrowingTree, PageFault>
-        ensures { IfOk result (λ made. made ≡ lone TheFragment) }
+        ensures made { IfOk result (λ made. made ≡ fresh_state (lone TheFragment)) }
+        ensures rule { IfOk result (λ made. Builds made empty_tree) }
     {
         Ok(GrowingTree::over(alloc, lone(alloc, NodeData::Fragment)?))
     }
@@ -90,7 +115,7 @@ impl GrowingTree {
     /// Returns the state for a tree, with no open elements.
     fn over(alloc: Global, tree: Tree) -> GrowingTree
         requires { IsRooted tree }
-        ensures { result ≡ tree }
+        ensures { result ≡ fresh_state tree }
     {
         GrowingTree {
             tree,
@@ -117,20 +142,32 @@ impl GrowingTree {
     }
 
     /// Returns the stack of open elements.
-    pub fn open(&self) -> &OpenElements {
+    pub fn open(&self) -> &OpenElements
+        ensures elements { result.now.elements.items ≡ self.now.stack }
+        ensures index { IsIndexed result.now }
+    {
         &self.stack
     }
 
-    pub fn has_head(&self) -> bool {
+    pub fn has_head(&self) -> bool
+        ensures value { result ≡ is_some self.now.head }
+        ensures rule { Tells (λ t. is_present t.head) self.now result }
+    {
         self.head.is_some()
     }
 
-    pub fn has_form(&self) -> bool {
+    pub fn has_form(&self) -> bool
+        ensures value { result ≡ not (points_nowhere self.now.form) }
+        ensures rule { Tells (λ t. is_set t.form) self.now result }
+    {
         !self.form.is_none()
     }
 
     /// Returns whether a fragment is parsed.
-    pub fn is_fragment(&self) -> bool {
+    pub fn is_fragment(&self) -> bool
+        ensures value { result ≡ is_some self.now.context }
+        ensures rule { Tells is_fragment self.now result }
+    {
         self.context.is_some()
     }
 
@@ -139,7 +176,9 @@ impl GrowingTree {
         self.has_form() || self.stack.has(Name::Template)
     }
 
-    pub fn context(&self) -> Option<Open> {
+    pub fn context(&self) -> Option<Open>
+        ensures { result ≡ self.now.context }
+    {
         self.context
     }
 
@@ -153,7 +192,9 @@ impl GrowingTree {
 
     /// Returns the element at an index of the stack; in a fragment, the context element replaces
     /// the outermost one.
-    pub fn adjusted_current_node(&self, place: usize) -> Option<Open> {
+    pub fn adjusted_current_node(&self, place: usize) -> Option<Open>
+        ensures { result ≡ adjusted_at self.now place }
+    {
         match self.context {
             Some(context) if place == 0 => Some(context),
             _ => self.stack.get(place),
@@ -161,11 +202,15 @@ impl GrowingTree {
     }
 
     /// Returns the adjusted current node.
-    pub fn adjusted_current(&self) -> Option<Open> {
-        match self.stack.len() {
-            0 => None,
-            count => self.adjusted_current_node(count - 1),
+    pub fn adjusted_current(&self) -> Option<Open>
+        ensures { (t : StandardTree) → Builds self.now t →
+            IsCurrent result (adjusted_current t) }
+    {
+        let count = self.stack.len();
+        if count == 0 {
+            return None;
         }
+        self.adjusted_current_node(count - 1)
     }
 
     /// Returns the last active formatting element with that name after the last marker.
@@ -173,12 +218,16 @@ impl GrowingTree {
         self.formatting.named(name)
     }
 
-    pub fn set_quirks_mode(&mut self, mode: QuirksMode) {
+    pub fn set_quirks_mode(&mut self, mode: QuirksMode)
+        ensures { self.new ≡ record self.old { quirks = mode } }
+    {
         self.quirks_mode = mode;
     }
 
     /// Adds a message to the parse errors. Fails only when memory runs out.
-    pub fn note_error(&mut self, message: &str) -> Result<(), PageFault> {
+    pub fn note_error(&mut self, message: &str) -> Result<(), PageFault>
+        ensures { self.new ≡ self.old }
+    {
         let text = String::from_str(*self.errors.allocator(), message)?;
         self.errors.push(text)?;
         Ok(())
@@ -186,7 +235,7 @@ impl GrowingTree {
 
     /// Returns the insertion point for a node: the appropriate place for inserting a node.
     fn gap(&self, placing: Placing) -> InsertionPoint
-        ensures { IsOpenGap result self.now }
+        ensures { IsOpenGap result self.now.forest }
     {
         match self.head {
             Some(head) if placing.in_head => InsertionPoint::EndOf(head),
@@ -238,21 +287,29 @@ impl GrowingTree {
     }
 
     /// Sets the head element pointer to the current node.
-    pub fn set_head(&mut self) {
+    pub fn set_head(&mut self)
+        ensures { (t : StandardTree) → (t.stack ≡ [] → ⊥) → Builds self.old t →
+            Builds self.new (with_head t) }
+    {
         if let Some(head) = self.stack.current() {
             self.head = Some(head.id);
         }
     }
 
     /// Sets the form element pointer to the current node.
-    pub fn set_form(&mut self) {
+    pub fn set_form(&mut self)
+        ensures { (t : StandardTree) → is_one t (codes "form" ∷ []) (current t) ≡ true →
+            Builds self.old t → Builds self.new (with_form t) }
+    {
         if let Some(form) = self.stack.current() {
             self.form = FormPointer::Element(form.id);
         }
     }
 
     /// Sets the form element pointer to the context element.
-    pub fn set_context_form(&mut self) {
+    pub fn set_context_form(&mut self)
+        ensures { Does with_form_of_context self.old self.new }
+    {
         self.form = FormPointer::Context;
     }
 

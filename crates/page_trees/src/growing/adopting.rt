@@ -1,8 +1,9 @@
 //! Reconstructing the active formatting elements (13.2.4.3), and the adoption agency algorithm
 //! (13.2.6.4.7). A call that returns a `Result` fails only when memory or node ids run out.
 
-ghost use Rattle.std.specs.Prelude.{◌≡◌, ◌+◌, ◌^◌, ◌<◌, ◌≤◌, false, true};
+ghost use Rattle.std.specs.Prelude.{◌≡◌, ◌+◌, ◌^◌, ◌<◌, ◌≤◌, OnErr, OnOk, false, insert, true};
 ghost use Rattle.page_trees.specs.Elements.{IsElement};
+ghost use Rattle.page_trees.specs.declared.formatting.Entry.TheVariants.{Element as AnEntry};
 
 use super::GrowingTree;
 use super::edits::{is_forest, move_to, put_children_into_copy, put_into_copy};
@@ -222,7 +223,7 @@ impl GrowingTree {
         bookmark: Bookmark,
         copy: &Open,
     ) -> Result<(), PageFault>
-        requires { IsElement self.old copy.now.id }
+        requires { IsElement self.old.forest copy.now.id }
     {
         let mut index = bookmark.index;
         if let Some(gone) = self.formatting.index_of(element) {
@@ -235,8 +236,12 @@ impl GrowingTree {
 
     /// Inserts an entry of that likeness at an index of the list.
     fn insert_entry(&mut self, index: usize, element: &Open, likeness: u32) -> Result<(), PageFault>
-        requires { IsElement self.old element.now.id }
-        ensures { self.new ≡ self.old }
+        requires { IsElement self.old.forest element.now.id }
+        ensures ok { OnOk result (self.new ≡ record self.old {
+          formatting =
+              insert self.old.formatting index (AnEntry element.now);
+        }) }
+        ensures err { OnErr result (self.new ≡ self.old) }
     {
         self.formatting.insert(index, element, likeness)
     }

@@ -1,7 +1,19 @@
 //! Removing elements from the stack of open elements and from the list of active formatting
 //! elements. A call that returns a `Result` fails only when memory runs out.
 
-ghost use Rattle.std.specs.Prelude.{◌≡◌};
+ghost use Rattle.std.specs.Prelude.{◌≡◌, ◌++◌, [], ◌∷◌, IfNone, IfSome, false, remove, take};
+ghost use Rattle.std.specs.Option.{option_to_list};
+ghost use Rattle.standard_trees.specs.GrowingTree.{has_in_scope, implied_of};
+ghost use Rattle.standard_trees.specs.GrowingTree.{popped_until, popped_up_to};
+ghost use Rattle.standard_trees.specs.NameLists.{implied};
+ghost use Rattle.page_trees.specs.Formatting.{IsWithout};
+ghost use Rattle.page_trees.specs.Names.{text_of};
+ghost use Rattle.page_trees.specs.Popping.{before_last, is_a_marker};
+ghost use Rattle.page_trees.specs.Scopes.{has_name, is_name};
+ghost use Rattle.page_trees.specs.Sets.{context_names};
+ghost use Rattle.page_trees.specs.Stands.{Does, Tells, closed_in, popped, popped_if, scope_kind};
+ghost use Rattle.page_trees.specs.Stands.{text_list, without_foreign};
+ghost use Rattle.page_trees.specs.declared.name.Name.TheVariants.{Other};
 
 use super::GrowingTree;
 use crate::fault::PageFault;
@@ -22,19 +34,27 @@ pub enum ForeignEnd {
 }
 
 impl GrowingTree {
-    /// Pops the current node off the stack of open elements.
+    /// Pops the current node off the stack of open elements, and returns it.
     fn take(&mut self) -> Option<Open>
-        ensures { self.new ≡ self.old }
+        ensures stack { self.old.stack ≡ self.new.stack ++ option_to_list result }
+        ensures none { IfNone result (self.old.stack ≡ []) }
+        ensures rest { self.new ≡ record self.old { stack = self.new.stack } }
     {
         self.stack.take()
     }
 
-    pub fn pop(&mut self) {
+    /// Pops the current node off the stack of open elements.
+    pub fn pop(&mut self)
+        ensures { Does popped self.old self.new }
+    {
         let _ = self.take();
     }
 
     /// Pops the current node, if it is an HTML element with that name.
-    pub fn pop_if(&mut self, name: Name) {
+    pub fn pop_if(&mut self, name: Name)
+        ensures { is_name name Other ≡ false →
+            Does (popped_if (text_of name ∷ [])) self.old self.new }
+    {
         if self.stack.current_is(name) {
             self.pop();
         }
@@ -55,7 +75,7 @@ impl GrowingTree {
 
     /// Pops elements until only the first `count` are open.
     pub fn truncate(&mut self, count: usize)
-        ensures { self.new ≡ self.old }
+        ensures { self.new ≡ record self.old { stack = take count self.old.stack } }
     {
         self.stack.truncate(count);
     }
@@ -69,14 +89,14 @@ impl GrowingTree {
 
     /// Removes the element at an index of the stack. The caller calls `mark` afterwards.
     pub fn remove_at(&mut self, place: usize)
-        ensures { self.new ≡ self.old }
+        ensures { self.new ≡ record self.old { stack = remove self.old.stack place } }
     {
         self.stack.remove_at(place);
     }
 
     /// Removes an element from the stack.
     pub fn remove(&mut self, element: &Open)
-        ensures { self.new ≡ self.old }
+        ensures { self.new ≡ record self.old { stack = self.new.stack } }
     {
         if let Some(place) = self.stack.place_of(element) {
             self.remove_at(place);
@@ -84,19 +104,34 @@ impl GrowingTree {
         }
     }
 
+    /// Pops elements until one with that name has been popped.
+    pub fn pop_to(&mut self, name: Name)
+        ensures { is_name name Other ≡ false →
+            Does (popped_until (text_of name ∷ [])) self.old self.new }
+    {
+        self.take_to(name);
+    }
+
     /// Pops elements up to and including the last with that name.
-    pub fn pop_to(&mut self, name: Name) {
-        for _ in 0..self.stack.len() {
-            match self.take() {
-                Some(open) if open.is_html(name) => return,
-                _ => {}
+    fn take_to(&mut self, name: Name)
+        ensures { let kept = before_last (has_name name) self.old.stack in
+            self.new ≡ record self.old { stack = kept } }
+    {
+        while let Some(open) = self.take() {
+            if open.is_html(name) {
+                return;
             }
         }
     }
 
     /// If an element with that name is in scope, pops elements up to and including it. Returns
     /// whether one was.
-    pub fn close(&mut self, name: Name, scope: Scope) -> bool {
+    pub fn close(&mut self, name: Name, scope: Scope) -> bool
+        ensures rule { let kind = scope_kind scope in is_name name Other ≡ false →
+            Does (closed_in kind (text_of name ∷ [])) self.old self.new }
+        ensures found { let kind = scope_kind scope in is_name name Other ≡ false →
+            Tells (has_in_scope kind (text_of name ∷ [])) self.old result }
+    {
         if !self.stack.in_scope(name, scope) {
             return false;
         }
@@ -113,19 +148,26 @@ impl GrowingTree {
     }
 
     /// Leaves foreign content: pops elements up to one whose content is HTML, which stays.
-    pub fn pop_foreign(&mut self) {
+    pub fn pop_foreign(&mut self)
+        ensures { Does without_foreign self.old self.new }
+    {
         let count = self.stack.depth_of_html();
         self.truncate(count);
     }
 
     /// Generates implied end tags, except for elements with that name.
-    pub fn generate_implied_end_tags(&mut self, except: Option<Name>) {
+    pub fn generate_implied_end_tags(&mut self, except: Option<Name>)
+        ensures { IfSome except (λ name. is_name name Other ≡ false) →
+            Does (implied_of implied (text_list except)) self.old self.new }
+    {
         let count = self.stack.depth_of_implied(except);
         self.truncate(count);
     }
 
     /// Pops elements up to one of the table context, which stays ("clear the stack back to").
-    pub fn clear_to(&mut self, context: TableContext) {
+    pub fn clear_to(&mut self, context: TableContext)
+        ensures { Does (popped_up_to (context_names context)) self.old self.new }
+    {
         let count = self.stack.depth_of_context(context);
         self.truncate(count);
     }
@@ -143,7 +185,8 @@ impl GrowingTree {
 
     /// Makes room in the list for an element of that likeness (the Noah's Ark clause).
     fn make_room(&mut self, id: NodeId, likeness: u32)
-        ensures { self.new ≡ self.old }
+        ensures one { IsWithout self.old.formatting self.new.formatting }
+        ensures rest { self.new ≡ record self.old { formatting = self.new.formatting } }
     {
         self.formatting.make_room(&self.tree, id, likeness);
     }
@@ -169,14 +212,16 @@ impl GrowingTree {
 
     /// Clears the list of active formatting elements up to the last marker.
     pub fn clear_to_marker(&mut self)
-        ensures { self.new ≡ self.old }
+        ensures { let kept = before_last is_a_marker self.old.formatting in
+            self.new ≡ record self.old { formatting = kept } }
     {
         self.formatting.clear_to_marker();
     }
 
     /// Removes the entry at an index of the list.
     pub fn remove_entry(&mut self, index: usize)
-        ensures { self.new ≡ self.old }
+        ensures { let kept = remove self.old.formatting index in
+            self.new ≡ record self.old { formatting = kept } }
     {
         self.formatting.remove_at(index);
     }

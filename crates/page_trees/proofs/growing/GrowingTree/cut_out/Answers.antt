@@ -2,4 +2,5 @@ use Rattle.page_trees.proofs.HeldNumbers.{grown}
 use Rattle.page_trees.proofs.growing.GrowingTree.cut_out.Goals as goal
 
 pub invariant_of-self : goal.invariant_of-self
-invariant_of-self c = grown _ _ _ _ _ _ _ c.self.invariant c.cut_out.ensures.grows
+invariant_of-self c =
+    (grown _ _ _ _ _ _ _ c.self.invariant.0 c.cut_out.ensures.grows, c.self.invariant.1)

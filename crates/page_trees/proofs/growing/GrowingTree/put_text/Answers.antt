@@ -2,4 +2,5 @@ use Rattle.page_trees.proofs.HeldNumbers.{grown}
 use Rattle.page_trees.proofs.growing.GrowingTree.put_text.Goals as goal
 
 pub invariant_of-self : goal.invariant_of-self
-invariant_of-self c = grown _ _ _ _ _ _ _ c.self.invariant c.put_text.ensures.grows
+invariant_of-self c =
+    (grown _ _ _ _ _ _ _ c.self.invariant.0 c.put_text.ensures.grows, c.self.invariant.1)

@@ -5,11 +5,12 @@ use Rattle.page_trees.proofs.growing.GrowingTree.renew.Goals as goal
 
 pub put_into_copy-requires-clause-moved : goal.put_into_copy-requires-clause-moved
 put_into_copy-requires-clause-moved c =
-    element_there c.self.inside.tree c.self.inside.stack.elements.items _ c.in-Some-behind.last c.self.invariant.stack (sym c.in-Some-behind.ensures)
+    element_there c.self.inside.tree c.self.inside.stack.elements.items _ c.in-Some-behind.last c.self.invariant.0.stack (sym c.in-Some-behind.ensures)
 
 pub invariant_of-self : goal.invariant_of-self
-invariant_of-self c = grown _ _ _ _ _ _ _ c.self.invariant c.put_into_copy.ensures.grows
+invariant_of-self c =
+    (grown _ _ _ _ _ _ _ c.self.invariant.0 c.put_into_copy.ensures.grows, c.self.invariant.1)
 
 pub invariant_of-self-2 : goal.invariant_of-self-2
 invariant_of-self-2 c =
-    stack_renewed _ _ _ _ _ _ _ _ _ _ _ _ c.in-Some-behind.last c.self.invariant c.put_into_copy.ensures.grows c.in_ok-copy.ensures.element (sym c.in-Some-behind.ensures) c.replace-2.ensures.items c.replace.ensures
+    (stack_renewed _ _ _ _ _ _ _ _ _ _ _ _ c.in-Some-behind.last c.self.invariant.0 c.put_into_copy.ensures.grows c.in_ok-copy.ensures.element (sym c.in-Some-behind.ensures) c.replace-2.ensures.items c.replace.ensures, c.replace-2.ensures.index c.self.invariant.1)

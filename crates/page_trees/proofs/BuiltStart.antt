@@ -1,0 +1,42 @@
+-- An empty page, and an empty fragment, are what the definition begins with.
+use Rattle.std.proofs.Common.{◌≡◌, [], refl}
+use Rattle.std.specs.Prelude.{None, Option, Some, All}
+use Rattle.std.proofs.lemmas.List.Elements.{All-nil}
+use Rattle.dom_links.specs.Forest.{Forest}
+use Rattle.dom_links.specs.Growth.{lone}
+use Rattle.dom_nodes.specs.declared.node_data.NodeData.{NodeData}
+use Rattle.dom_nodes.specs.declared.node_data.NodeData.TheVariants.{Document, Fragment}
+use Rattle.standard_trees.specs.Building.{empty_tree}
+use Rattle.page_trees.specs.SameNodes.{AreNodes}
+use Rattle.page_trees.specs.Stands.{Builds}
+use Rattle.page_trees.specs.TreeState.{completed, fresh_state}
+
+page_nodes : AreNodes empty_tree.nodes (completed [] (lone Document))
+unfolding completed
+page_nodes = record { root = refl; kinds = (refl, tt); children = refl; hosts = (tt, tt) }
+
+fragment_nodes : AreNodes empty_tree.nodes (completed [] (lone Fragment))
+unfolding completed
+fragment_nodes = record { root = refl; kinds = (refl, tt); children = refl; hosts = (tt, tt) }
+
+pub page_built : Builds (fresh_state (lone Document)) empty_tree
+page_built = record {
+  nodes = page_nodes;
+  stack = record { ids = refl; nodes = tt };
+  listed = record { list = refl; elements = All-nil _ };
+  head = refl;
+  form = refl;
+  form_named = tt;
+  context = tt;
+}
+
+pub fragment_built : Builds (fresh_state (lone Fragment)) empty_tree
+fragment_built = record {
+  nodes = fragment_nodes;
+  stack = record { ids = refl; nodes = tt };
+  listed = record { list = refl; elements = All-nil _ };
+  head = refl;
+  form = refl;
+  form_named = tt;
+  context = tt;
+}
