@@ -14,6 +14,7 @@ mod DeclarationSteps
 mod DoctypeFollows
 mod DoctypeSteps
 mod EndTagSteps
+mod FollowsOn
 mod IdRuns
 mod LaneLemmas
 mod Lowered
@@ -21,6 +22,8 @@ mod NameLemmas
 mod NumberFollows
 mod NumberSteps
 mod Placed
+mod PlainReferences
+mod PlainTags
 mod RawEndTags
 mod RawTexts
 mod ReferenceEnds
