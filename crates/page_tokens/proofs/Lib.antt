@@ -15,6 +15,7 @@ mod DeclarationSteps
 mod DoctypeFollows
 mod DoctypeSteps
 mod EndTagSteps
+mod FollowsOn
 mod IdRuns
 mod LaneLemmas
 mod LongestNames
@@ -31,6 +32,8 @@ mod PageStops
 mod PageTexts
 mod PlaceLetters
 mod Placed
+mod PlainReferences
+mod PlainTags
 mod RawEndTags
 mod RawTexts
 mod ReferenceEnds

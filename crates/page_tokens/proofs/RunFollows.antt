@@ -78,7 +78,7 @@ gathered_plain {b} ends M one d front rest all = subst (λ e. Goes b (M d) (fron
 pub more_spelled : (bytes old more : List ℕ) (read : List ℕ) → bytes ≡ old ++ encode_utf8_all more → old ≡ encode_utf8_all read → bytes ≡ encode_utf8_all (read ++ more)
 more_spelled bytes old more read is old_is = is ∙ ap (λ e. e ++ encode_utf8_all more) old_is ∙ sym (encodes-append read more)
 
-all_lowered : (cs : List ℕ) → map to_ascii_lowercase (encode_utf8_all cs) ≡ encode_utf8_all (map to_ascii_lowercase cs)
+pub all_lowered : (cs : List ℕ) → map to_ascii_lowercase (encode_utf8_all cs) ≡ encode_utf8_all (map to_ascii_lowercase cs)
 all_lowered [] = refl
 all_lowered (c ∷ cs) =
     map_append to_ascii_lowercase (encode_utf8 c) (encode_utf8_all cs) ∙ ap (λ e. e ++ map to_ascii_lowercase (encode_utf8_all cs)) (lowered_encoded c)

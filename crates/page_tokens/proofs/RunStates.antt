@@ -4,12 +4,13 @@ use Rattle.std.specs.Char.{to_ascii_lowercase}
 use Rattle.std.specs.Str.{encode_utf8_all}
 use Rattle.std.proofs.lemmas.Option.{none-some, same_Some}
 use mathlib.Core.Path.{ap, subst}
-use Rattle.standard_tokens.specs.Machine.{taken}
+use Rattle.standard_tokens.specs.Machine.{Machine, taken}
 use Rattle.standard_tokens.specs.States as there
 use Rattle.standard_tokens.specs.Table.{entries}
 use Rattle.page_tokens.specs.Comments.{Adds, added_again, came_of, shown_of, state_again}
 use Rattle.page_tokens.specs.FastPaths.{CopiesRun}
 use Rattle.page_tokens.specs.RunEnds.{ends_run, run_in}
+use Rattle.page_tokens.specs.Runs.{ends_tag_name}
 use Rattle.page_tokens.specs.ScriptStates.{doubled, escaped, script_step_of}
 use Rattle.page_tokens.specs.Standard.{FollowsStandard, Goes}
 use Rattle.page_tokens.specs.StandardStates.{comment_state_of}
@@ -134,12 +135,14 @@ letter_of ends c goes_on tab line_feed form_feed space slash greater = record {
   greater = differs ends 62 c goes_on greater;
 }
 
-pub in_tag_name : Copied (state.Tag tag.Name) run.TagName
-in_tag_name old new cs is adds some none all =
-    let ends : ℕ → Bool = ends_run run.TagName in
-    name_run old new ends cs is adds none (λ b m d c rest goes_on.
-    subst (λ e. Goes b (naming m d) (c ∷ rest) [] (naming m (d ++ to_ascii_lowercase e ∷ [])) rest) (shown_same ends c goes_on refl)
-    (name_letter b m d rest c (letter_of ends c goes_on refl refl refl refl refl refl))) all
+-- a character of a tag's name
+pub name_step : (b : Bool) (m : Machine) (d : List ℕ) (c : ℕ) (rest : List ℕ) → ends_tag_name c ≡ false → Goes b (naming m d) (c ∷ rest) [] (naming m (d ++ to_ascii_lowercase c ∷ [])) rest
+name_step b m d c rest goes_on =
+    subst (λ e. Goes b (naming m d) (c ∷ rest) [] (naming m (d ++ to_ascii_lowercase e ∷ [])) rest) (shown_same ends_tag_name c goes_on refl)
+    (name_letter b m d rest c (letter_of ends_tag_name c goes_on refl refl refl refl refl refl))
+
+in_tag_name : Copied (state.Tag tag.Name) run.TagName
+in_tag_name old new cs is adds some none all = name_run old new ends_tag_name cs is adds none name_step all
 
 in_attr_name : Copied (state.Attribute attr.Name) run.AttrName
 in_attr_name old new cs is adds some none all =

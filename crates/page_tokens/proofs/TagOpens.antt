@@ -74,7 +74,7 @@ new_tag : (s : StandardState) (kind : StandardKind) (c : ℕ) → is_ascii_alpha
 new_tag s kind c letter entry b m rest =
     then_on (by_entry (at_state m s) (c ∷ rest) (taking (NewTag kind ∷ []) (Reconsume there.TagName) (c ∷ [])) (entry b m rest) refl) (name_letter b (fresh m kind) [] rest c (letter_of_name c letter))
 
-no_attrs : (kept : List TagAttr) (name value : List ℕ) → kept ≡ [] → name ≡ [] → value ≡ [] → HoldsAttrs kept name value []
+pub no_attrs : (kept : List TagAttr) (name value : List ℕ) → kept ≡ [] → name ≡ [] → value ≡ [] → HoldsAttrs kept name value []
 no_attrs [] [] value kept_is name_is value_is = (value_is, tt)
 no_attrs [] (b ∷ name) value kept_is name_is value_is = absurd (cc)
 no_attrs (k ∷ kept) name value kept_is name_is value_is = absurd (cc)
@@ -102,7 +102,7 @@ begins_tag old new from which c told is begins told_is letter entry nothing free
       stands = subst (λ t. Stands t [] n) (sym only) (record { reference = stands.reference; state = refl; last_start = stands.last_start; held = (refl, draft) });
     })
 
-start_entry : (c : ℕ) → is_ascii_alphabetic c ≡ true → Entry there.TagOpen c (NewTag Starting ∷ []) (Reconsume there.TagName)
+pub start_entry : (c : ℕ) → is_ascii_alphabetic c ≡ true → Entry there.TagOpen c (NewTag Starting ∷ []) (Reconsume there.TagName)
 unfolding taken entries
 start_entry c h b m rest = go (is_upper c) refl
   where
@@ -116,7 +116,7 @@ start_entry c h b m rest = go (is_upper c) refl
     go true e = rw (h33, h47, e) refl
     go false e = rw (h33, h47, e, is_lower_else c h e) refl
 
-end_entry : (c : ℕ) → is_ascii_alphabetic c ≡ true → Entry there.EndTagOpen c (NewTag Ending ∷ []) (Reconsume there.TagName)
+pub end_entry : (c : ℕ) → is_ascii_alphabetic c ≡ true → Entry there.EndTagOpen c (NewTag Ending ∷ []) (Reconsume there.TagName)
 unfolding taken entries
 end_entry c h b m rest = go (is_upper c) refl
   where

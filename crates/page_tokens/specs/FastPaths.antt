@@ -1,10 +1,16 @@
 -- The paths on which many characters are read at once: what each reads is what the standard's tokenizer reads one by one.
-use Rattle.std.specs.Prelude.{◌≡◌, ℕ, false, true, not, ◌==◌, List, ◌++◌, ◌⊎◌, Option, None, Some, Result, IfOk, String, string_bytes}
+use Rattle.std.specs.Prelude.{◌≡◌, ℕ, Bool, true, false, not, ◌==◌, List, ◌∷◌, ◌++◌, ◌⊎◌, codes, drop, slice_index_or, encode_utf8}
+use Rattle.std.specs.Prelude.{Option, None, Some, Result, IfOk, String, string_bytes}
 use Rattle.std.specs.Borrow.{Bor}
+use Rattle.std.specs.Char.{is_ascii_alphabetic}
 use Rattle.std.specs.List.{list_all}
 use Rattle.std.specs.Option.{IsSomeAnd}
 use Rattle.std.specs.Str.{encode_utf8_all}
+use Rattle.page_tokens.specs.Reading.{IsInText}
+use Rattle.page_tokens.specs.Runs.{tag_name_len_of}
 use Rattle.page_tokens.specs.Standard.{FollowsStandard}
+use Rattle.page_tokens.specs.Tags.{opening}
+use Rattle.page_tokens.specs.declared.token.TagKind.{TagKind}
 use Rattle.page_tokens.specs.declared.token.TokenKind.{TokenKind}
 use Rattle.page_tokens.specs.declared.tokenizer.Tokenizer.{Tokenizer}
 use Rattle.page_tokens.specs.declared.tokenizer.references.Reference.TheVariants as reference
@@ -82,3 +88,38 @@ ReadsAny old new text rest told = ((rest ≡ text) × (new ≡ old) × (told ≡
 -- a run is read as the standard reads it, and no token ends
 abbrev pub FollowsRun : {E : Type 0} → Tokenizer → Tokenizer → List ℕ → Result (Bor (List ℕ)) E → Type 0
 FollowsRun old new text result = IfOk result (λ rest. ReadsAny old new text rest.now None)
+
+-- ---- references
+
+-- a frequent reference has this name and means this character
+pub data IsFrequent : List ℕ → ℕ → Type 0 where
+  amp : IsFrequent (codes "amp;") 0x26
+  gt : IsFrequent (codes "gt;") 0x3e
+  lt : IsFrequent (codes "lt;") 0x3c
+  quot : IsFrequent (codes "quot;") 0x22
+  nbsp : IsFrequent (codes "nbsp;") 0xa0
+
+-- the text begins with such a reference, which means this, and `rest` follows
+pub record BeginsFrequent (text meant rest : List ℕ) : Type 0 where
+  pub name : List ℕ
+  pub c : ℕ
+  pub is : IsFrequent name c
+  pub cut : text ≡ 38 ∷ name ++ rest
+  pub means : meant ≡ encode_utf8 c
+
+-- the bytes are appended to the value of an attribute, or else to the text
+abbrev pub PutsMeant : Bool → Tokenizer → Tokenizer → List ℕ → Type 0
+PutsMeant true old new meant = AddsToValue old new meant
+PutsMeant false old new meant = AddsToText old new meant
+
+-- ---- tags
+
+-- A letter comes first, and `>` right after the name.
+pub record IsBareTag (text rest : List ℕ) : Type 0 where
+  pub letter : is_ascii_alphabetic (slice_index_or text 0 0) ≡ true
+  pub cut : drop (tag_name_len_of text) text ≡ 62 ∷ rest
+
+-- the tag is read as the standard reads it, and emitted
+abbrev pub FollowsBareTag : {E : Type 0} → TagKind → Tokenizer → Tokenizer → List ℕ → Option TokenKind → Result (Bor (List ℕ)) E → Type 0
+FollowsBareTag kind old new text told result = IsInText old → IfOk result (λ left. (rest : List ℕ) → IsBareTag text rest →
+    ReadsFront old new (opening kind ++ text) left.now told)

@@ -12,4 +12,5 @@ Marks v p = HasLanes v (λ k. if p k then 255 else 0)
 
 -- the byte is one of the four
 abbrev pub is_one_of : List ℕ → ℕ → Bool
-is_one_of ends b = b == slice_index_or ends 0 0 || b == slice_index_or ends 1 0 || b == slice_index_or ends 2 0 || b == slice_index_or ends 3 0
+is_one_of ends b =
+    b == slice_index_or ends 0 0 || b == slice_index_or ends 1 0 || b == slice_index_or ends 2 0 || b == slice_index_or ends 3 0

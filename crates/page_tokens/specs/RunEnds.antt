@@ -46,7 +46,8 @@ ends_value mark b = b == 0 || b == 13 || b == 38 || b == quote_of mark
 -- what ends an unquoted value, starts a reference in it, or is a parse error there
 abbrev pub ends_unquoted_value : ℕ → Bool
 ends_unquoted_value b =
-    b == 0 || b == 9 || b == 10 || b == 12 || b == 13 || b == 32 || b == 38 || b == 62 || b == 34 || b == 39 || b == 60 || b == 61 || b == 96
+    b == 0 || b == 9 || b == 10 || b == 12 || b == 13 || b == 32 || b == 38 || b == 62 || b == 34 || b == 39
+    || b == 60 || b == 61 || b == 96
 
 -- what ends the run; a null and a carriage return end each
 abbrev pub ends_run : Run → ℕ → Bool

@@ -2,24 +2,18 @@
 //! no carriage returns, and in a tag no references. Any other form is read character by character.
 
 ghost use Rattle.std.specs.Prelude.{◌≡◌, ◌<◌, ◌∷◌, ◌++◌, List, ℕ, get_or, true, false};
-ghost use Rattle.std.specs.Prelude.{IfOk};
+ghost use Rattle.std.specs.Prelude.{IfOk, IfSome, OnOk};
 ghost use Rattle.std.specs.Option.{IsSomeAnd};
+ghost use Rattle.standard_tokens.specs.Machine.{is_value};
+ghost use Rattle.page_tokens.specs.FastPaths.{BeginsFrequent};
 ghost use Rattle.page_tokens.specs.Tags.{IsPlainName, written_before};
 
+use super::references::Reference;
 use super::runs::{Run, attr_name_len, run_len, tag_name_len, value_len};
 use super::state::{AttrState, Quote, TagState};
 use super::{State, Tokenizer, append};
 use crate::token::{TagKind, TokenKind};
 use std::alloc::AllocError;
-
-/// The most frequent references without their `&`, and what they stand for.
-static REFERENCES: [(&str, &str); 5] = [
-    ("amp;", "&"),
-    ("gt;", ">"),
-    ("lt;", "<"),
-    ("quot;", "\""),
-    ("nbsp;", "\u{a0}"),
-];
 
 /// Returns the first byte of a text, or a null if it is empty; no fast path starts with a null.
 #[inline(always)]
@@ -139,18 +133,42 @@ fn tag_begins(text: &str) -> Option<(TagKind, &str)>
     }
 }
 
-/// Returns what a frequent reference at the start of the text means, and the text after it.
-fn plain_reference(text: &str) -> Option<(&'static str, &str)> {
-    let name = behind(b'&', text)?;
-    for (written, meant) in &REFERENCES {
-        if let Some(rest) = name.strip_prefix(*written) {
-            return Some((*meant, rest));
-        }
+/// Returns the text after a word, if the text starts with the word.
+#[inline(always)]
+fn after_word<'a>(word: &str, text: &'a str) -> Option<&'a str>
+    ensures { IfSome result (λ rest. text.now ≡ word.now ++ rest.now) }
+{
+    text.strip_prefix(word)
+}
+
+/// Returns what one of the most frequent references means, if the text starts with one, and the
+/// text after it.
+fn plain_reference(text: &str) -> Option<(&'static str, &str)>
+    ensures { IfSome result (λ found. BeginsFrequent text.now found.0.now found.1.now) }
+{
+    if first_byte(text) != b'&' {
+        return None;
     }
-    None
+    if let Some(rest) = after_word("&amp;", text) {
+        return Some(("&", rest));
+    }
+    if let Some(rest) = after_word("&gt;", text) {
+        return Some((">", rest));
+    }
+    if let Some(rest) = after_word("&lt;", text) {
+        return Some(("<", rest));
+    }
+    if let Some(rest) = after_word("&quot;", text) {
+        return Some(("\"", rest));
+    }
+    let rest = after_word("&nbsp;", text)?;
+    Some(("\u{a0}", rest))
 }
 
 impl Tokenizer {
+    ghost use Rattle.page_tokens.specs.FastPaths.{FollowsBareTag, FollowsRun, PutsMeant};
+    ghost use Rattle.page_tokens.specs.Standard.{AllowsReference};
+    ghost use Rattle.page_tokens.specs.StandardStates.{state_of};
     ghost use Rattle.page_tokens.specs.Reading.{IsInText};
     ghost use Rattle.page_tokens.specs.Tags.{EndsTag, ReadsPlainTag};
 
@@ -191,7 +209,10 @@ impl Tokenizer {
     }
 
     /// Reads a frequent reference in a text or a value, if the text starts with one.
-    fn read_plain_reference<'a>(&mut self, text: &'a str) -> Result<&'a str, AllocError> {
+    fn read_plain_reference<'a>(&mut self, text: &'a str) -> Result<&'a str, AllocError>
+        ensures { AllowsReference self.old.state → self.old.reference ≡ Reference.None →
+            self.old.after_return ≡ false → FollowsRun self.old self.new text.now result }
+    {
         let Some((meant, rest)) = plain_reference(text) else {
             return Ok(text);
         };
@@ -200,7 +221,10 @@ impl Tokenizer {
     }
 
     /// Appends what a reference means to the attribute value or the text.
-    fn put_meant(&mut self, meant: &str) -> Result<(), AllocError> {
+    fn put_meant(&mut self, meant: &str) -> Result<(), AllocError>
+        ensures { OnOk result
+            (PutsMeant (is_value (state_of self.old.state)) self.old self.new meant.now) }
+    {
         if self.is_in_value() {
             append(&mut self.tag.attr_value, meant)
         } else {
@@ -215,7 +239,8 @@ impl Tokenizer {
         text: &'a str,
         read: &mut Option<TokenKind>,
     ) -> Result<&'a str, AllocError>
-        ensures { (name rest : List ℕ) → IsInText self.old → self.old.errors ≡ None →
+        ensures follows { FollowsBareTag kind self.old self.new text.now read.new result }
+        ensures plain { (name rest : List ℕ) → IsInText self.old → self.old.errors ≡ None →
             IsPlainName name → text.now ≡ name ++ 62 ∷ rest → IfOk result (λ left.
             (left.now ≡ rest) × (read.new ≡ Some TokenKind.Tag)
             × EndsTag kind name self.old self.new) }
