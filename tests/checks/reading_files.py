@@ -100,7 +100,7 @@ def pipes(folder):
 def growing(folder):
     """Of a file that grows all the while, `hq` reads a beginning, and ends."""
     path = os.path.join(folder, "growing.html")
-    page(folder, "growing.html", b"<p>tea</p>" * 200_000)
+    page(folder, "growing.html", b"<p>tea</p>" * 20_000)
     seen = []
     with open(path, "ab", buffering=0) as end:
         with subprocess.Popen([built("hq"), "-c", "p", path], stdout=subprocess.PIPE, stderr=subprocess.PIPE) as ran:
@@ -111,7 +111,7 @@ def growing(folder):
             seen = ran.communicate(timeout=SECONDS)
     count = int(seen[0]) if seen[0].strip().isdigit() else -1
     most = os.path.getsize(path) // len(PAGE)
-    yield "a file that grows", (ran.returncode, seen[1], 200_000 <= count <= most), (0, b"", True)
+    yield "a file that grows", (ran.returncode, seen[1], 20_000 <= count <= most), (0, b"", True)
 
 
 def other_names(folder):
