@@ -1,5 +1,5 @@
 """Files that `hq --in-place` writes: what stays of a file is its mode, its owner and each link to it, and a run that fails or is
-killed leaves it as it was."""
+killed leaves it as it was. What another program writes to a file meanwhile isn't lost."""
 import os
 import pathlib
 import random
@@ -180,6 +180,24 @@ def stopped(folder):
     yield "a run that was stopped", got, (0, "", True, ["page.html"])
 
 
+def changed(folder):
+    """A file that another program writes to while `hq` is at it is refused, and loses nothing."""
+    made, _, _ = long_page(folder, "changed")
+    made.write_text(LONG)
+    added = 0
+    with subprocess.Popen([built("hq"), *WORDS, made], stderr=subprocess.PIPE, text=True) as ran:
+        with made.open("a") as end:
+            while ran.poll() is None:
+                end.write("<p>")
+                end.flush()
+                added += 1
+                time.sleep(0.001)
+        _, said = ran.communicate(timeout=SECONDS)
+    why = f"hq: {made}: not written: it changed meanwhile\n"
+    got = ran.returncode, said, made.read_text() == LONG + "<p>" * added, names(made.parent)
+    yield "a file that changes", got, (2, why, True, ["page.html"])
+
+
 def many(folder):
     """Many files in one call."""
     room = pathlib.Path(folder) / "many"
@@ -189,7 +207,7 @@ def many(folder):
     yield "2,000 files", (said, {it.read_text() for it in made}, len(names(room))), ((0, ""), {NEW}, 2_000)
 
 
-CASES = (modes, owners, symbolic_links, hard_links, left_files, other_kinds, refused_folder, full_disk, killed, stopped, many)
+CASES = (modes, owners, symbolic_links, hard_links, left_files, other_kinds, refused_folder, full_disk, killed, stopped, changed, many)
 
 
 def in_place():

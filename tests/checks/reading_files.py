@@ -12,7 +12,7 @@ from rows import SECONDS, built  # noqa: E402
 
 PAGE = b"<p>tea</p>"
 NOT_UTF8 = b"caf\xe9.html"
-REFUSED = (2, b"", b"hq: an argument isn't UTF-8\n")
+WHY = "hq: caf\ufffd.html: the name isn't UTF-8; read the file from standard input\n".encode()
 MANY = 10_000
 # A pause in which a program that is waiting for more would long have read what is there.
 PAUSE = 0.3
@@ -41,24 +41,35 @@ def line_feeds(folder):
 
 
 def not_utf8(folder):
-    """Arguments that aren't UTF-8 are refused, and a file of such a name can be read as standard input."""
+    """A file whose name isn't UTF-8 is reported, and the others are read; any other such argument is refused."""
     page(folder, NOT_UTF8)
     page(folder, "tea.html")
-    yield "a name that isn't UTF-8", hq(folder, b"p", NOT_UTF8, b"tea.html"), REFUSED
+    words = (b"--text", b"p", NOT_UTF8, b"tea.html")
+    yield "a name that isn't UTF-8", hq(folder, *words), (2, b"tea\n", WHY)
+    yield "the same with a count", hq(folder, b"-c", *words[1:]), (2, b"tea.html:1\n", WHY)
+    yield "the same without a selector", hq(folder, b"--tree", NOT_UTF8), (2, b"", WHY)
+    yield "the same in place", hq(folder, b"-i", b"-d", NOT_UTF8), (2, b"", WHY)
+    yield "the same with --jsonl", hq(folder, b"--jsonl", b"p", NOT_UTF8), (2, b"", WHY)
     with open(os.path.join(os.fsencode(folder), NOT_UTF8), "rb") as given:
         yield "the same as standard input", hq(folder, "-t", "p", stdin=given), (0, b"tea\n", b"")
-    yield "a selector that isn't UTF-8", hq(folder, b"p\xff", b"tea.html"), REFUSED
-    yield "an attribute that isn't UTF-8", hq(folder, b"-a", b"\xff", b"p", b"tea.html"), REFUSED
-    yield "an option that isn't UTF-8", hq(folder, b"--\xff", b"p", b"tea.html"), REFUSED
-    yield "both", hq(folder, b"-a", b"\xff", b"p", NOT_UTF8), REFUSED
+    refused = (2, b"", b"hq: an argument isn't UTF-8\n")
+    yield "a selector that isn't UTF-8", hq(folder, b"p\xff", b"tea.html"), refused
+    yield "an attribute that isn't UTF-8", hq(folder, b"-a", b"\xff", b"p", b"tea.html"), refused
+    yield "an option that isn't UTF-8", hq(folder, b"--\xff", b"p", b"tea.html"), refused
+    yield "both", hq(folder, b"-a", b"\xff", b"p", NOT_UTF8), refused
 
 
 def shut_folder(folder):
-    """In a folder whose name isn't UTF-8 files are read by their own names."""
+    """In a folder whose name isn't UTF-8 files are read and written by their own names."""
     room = os.path.join(os.fsencode(folder), b"\xff")
     os.mkdir(room)
-    page(room, "tea.html")
+    page(room, "tea.html", b"<!doctype html><p>tea</p><b>x</b>")
     yield "a folder that isn't UTF-8", hq(room, "-t", "p", "tea.html"), (0, b"tea\n", b"")
+    said = hq(room, "-i", "-d", "-r", "b", "tea.html")
+    with open(os.path.join(room, b"tea.html"), "rb") as made:
+        left = made.read()
+    whole = b"<!DOCTYPE html><html><head></head><body><p>tea</p></body></html>"
+    yield "the same in place", (said, left, os.listdir(room)), ((0, b"", b""), whole, [b"tea.html"])
 
 
 def standard_input(folder):
@@ -100,7 +111,7 @@ def pipes(folder):
 def growing(folder):
     """Of a file that grows all the while, `hq` reads a beginning, and ends."""
     path = os.path.join(folder, "growing.html")
-    page(folder, "growing.html", b"<p>tea</p>" * 200_000)
+    page(folder, "growing.html", b"<p>tea</p>" * 20_000)
     seen = []
     with open(path, "ab", buffering=0) as end:
         with subprocess.Popen([built("hq"), "-c", "p", path], stdout=subprocess.PIPE, stderr=subprocess.PIPE) as ran:
@@ -111,7 +122,7 @@ def growing(folder):
             seen = ran.communicate(timeout=SECONDS)
     count = int(seen[0]) if seen[0].strip().isdigit() else -1
     most = os.path.getsize(path) // len(PAGE)
-    yield "a file that grows", (ran.returncode, seen[1], 200_000 <= count <= most), (0, b"", True)
+    yield "a file that grows", (ran.returncode, seen[1], 20_000 <= count <= most), (0, b"", True)
 
 
 def other_names(folder):

@@ -17,7 +17,7 @@ pub trait DocumentMd {
 
     /// Returns the text below the root, laid out in lines and paragraphs by the kinds of its
     /// elements, without white space at its end. It differs from the text of the document in white
-    /// space only. It fails with `OutOfMemory` when memory is refused.
+    /// space only. Fails only when memory runs out.
     fn formatted_text(&self) -> Result<String, OutOfMemory>
         ensures text { IfOk result (λ text. string_bytes text
             ≡ formatted_below (forest self.now) 0) }
@@ -26,7 +26,7 @@ pub trait DocumentMd {
     /// Returns the Markdown of what is below the root, without the elements whose local names are
     /// in `skip_tags`; `None` leaves out `script`, `style`, `meta` and `head`. When there are only
     /// texts below the root, the Markdown, with its escapes resolved, is their words joined by one
-    /// space. It fails with `OutOfMemory` when memory is refused.
+    /// space. Fails only when memory runs out.
     fn md(&self, skip_tags: Option<&[&str]>) -> Result<String, OutOfMemory>
         ensures { IfOk result (ReadsAsWords (forest self.now) 0) };
 }

@@ -36,7 +36,7 @@ fn job_of(words: &[String]) -> Option<Job<'_>>
 }
 
 /// Reads everything from the reader. It fails with `DriveFault::Read` when the reader fails, and
-/// with `RunFault::Memory` when memory is refused.
+/// with `RunFault::Memory` when memory runs out.
 fn read_whole<R: Read>(alloc: Global, input: &mut R) -> Result<Vec<u8>, DriveFault>
     ensures ok { IfOk result (λ bytes.
         IfSome (R.remaining input.old) (λ known. bytes.items ≡ known)) }
@@ -86,7 +86,7 @@ fn run_words<R: Read, W: Write>(
 /// from `input` and writes to `out`; or it is `--md`, and then the Markdown of the markup and a
 /// line feed are written to `out`. Returns the exit status: 0 when everything was done; 64 when
 /// there isn't exactly one argument; 2 for a bad script; 3 for bad markup; 4 when an edit failed or
-/// no node id was left; 5 when memory was refused or the reader or the writer failed. When it isn't
+/// no node id was left; 5 when memory ran out, or the reader or the writer failed. When it isn't
 /// 0, one line on `err` says why.
 pub fn drive<R: Read, W: Write, E: Write>(
     alloc: Global,

@@ -18,7 +18,7 @@ pub enum DriveFault {
     Usage,
     /// The reader failed.
     Read,
-    /// Running the script failed, or memory was refused before that.
+    /// Running the script failed, or memory ran out before that.
     Run(RunFault),
 }
 

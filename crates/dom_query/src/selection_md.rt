@@ -15,8 +15,8 @@ pub trait SelectionMd {
     ghost nodes: { Self → List NodeRef };
 
     /// Returns the formatted texts of the nodes, joined. Each node is formatted as an element of
-    /// its own, and white space at the ends stays. For a document or a fragment it is empty. It
-    /// fails with `OutOfMemory` when memory is refused.
+    /// its own, and white space at the ends stays. For a document or a fragment it is empty. Fails
+    /// only when memory runs out.
     fn formatted_text(&self) -> Result<String, OutOfMemory>
         ensures { IfOk result (λ text. string_bytes text
             ≡ joined formatted_node (nodes self.now)) };

@@ -13,7 +13,7 @@ fn main(rt: HostRuntime) -> ExitCode {
     let args = match env::args(&rt) {
         Ok(all) => all.skip(1).collect(alloc),
         Err(fault) if fault.kind() == ErrorKind::OutOfMemory => Err(AllocError),
-        // An argument isn't UTF-8. It counts as a missing script, which is reported as wrong usage.
+        // An argument isn't UTF-8. No argument is passed on, so that wrong usage is reported.
         Err(_) => Ok(Vec::new(alloc)),
     };
     let (Ok(args), Ok(mut out)) = (args, BufWriter::new(alloc, rt.stdout())) else {

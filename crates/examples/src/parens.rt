@@ -17,8 +17,8 @@ pub fn read<S: TreeSink + Drop>(alloc: Global, text: &str, mut sink: S) -> Resul
     for (number, piece) in text.split('(').enumerate() {
         let mut rest = piece;
         if number > 0 {
-            let (tag, behind) = piece.split_once(' ').unwrap_or((piece, ""));
-            rest = behind;
+            let (tag, after) = piece.split_once(' ').unwrap_or((piece, ""));
+            rest = after;
             around.push(here).map_err(OutOfMemory::from)?;
             here = open(alloc, &mut sink, here, tag)?;
         }

@@ -9,9 +9,10 @@ mod rewriting;
 mod stream;
 
 use clap::Error;
-use hq_pages::command::{command, words_of};
+use hq_pages::command::command;
 use hq_pages::faults::{Fault, report, report_in};
 use hq_pages::options::Options;
+use hq_pages::words::{count_marked, count_marked_names, words_of};
 use pages::do_file;
 use std::io::{BufWriter, IsTerminal, Write};
 use std::process::ExitCode;
@@ -36,12 +37,26 @@ fn main(rt: HostRuntime) -> ExitCode {
 /// Does what the command line asks for, and returns the exit status.
 fn run_command_line(rt: &HostRuntime) -> Result<u8, Fault> {
     let words = words_of(rt)?;
+    let marked = count_marked(&words);
     match command(rt.alloc())?.try_get_matches_from(words.as_slice()) {
         Ok(matches) => {
             let terminal = rt.stdout().is_terminal();
-            do_files(rt, &Options::new(rt, &matches, terminal)?)
+            do_files(rt, &checked(Options::new(rt, &matches, terminal), marked)?)
         }
+        Err(_) if marked > 0 => Err(Fault::Argument),
         Err(refused) => Ok(show(rt, &refused)),
+    }
+}
+
+/// Returns the options of a command line with that many words that aren't UTF-8. Fails if one of
+/// these isn't the name of a file.
+fn checked<'a>(options: Result<Options<'a>, Fault>, marked: usize) -> Result<Options<'a>, Fault> {
+    if marked == 0 {
+        return options;
+    }
+    match options {
+        Ok(options) if count_marked_names(&options.files) == marked => Ok(options),
+        _ => Err(Fault::Argument),
     }
 }
 

@@ -2,7 +2,7 @@
 
 use crate::keeping::ErrorKeeper;
 use crate::output::{print_article, print_matches};
-use crate::rewriting::{print_document, write_back};
+use crate::rewriting::{print_document, state_of, write_back};
 use dom_query::{Document, DocumentSelect, RunFault, SelectionMut, clean_document, run_commands};
 use hq_pages::addresses::{make_absolute, make_absolute_at};
 use hq_pages::articles::take_article;
@@ -28,6 +28,11 @@ pub fn do_file<W: Write>(
     options: &Options<'_>,
     out: &mut W,
 ) -> Result<bool, Fault> {
+    let old = if options.in_place {
+        Some(state_of(rt, name)?)
+    } else {
+        None
+    };
     let (document, found) = read_document(rt, name, options.reading)?;
     if let Some(found) = found {
         report_found(rt, name, found, options.verbose, options.printing.json)?;
@@ -35,8 +40,8 @@ pub fn do_file<W: Write>(
     let mut page = Page { name, document };
     change(&mut page.document, None, options)?;
     let matched = do_job(&mut page, options, out)?;
-    if options.in_place {
-        write_back(rt, &page)?;
+    if let Some(old) = &old {
+        write_back(rt, &page, old)?;
     }
     Ok(matched)
 }

@@ -4,6 +4,7 @@ use crate::keeping::ErrorKeeper;
 use crate::pages::Page;
 use dom_query::{Document, NodeMarkup, TraversalScope, WriteFault};
 use hq_pages::faults::Fault;
+use hq_pages::words::check_name;
 use std::fs::{self, File, Metadata, OpenOptions};
 use std::io::{BufWriter, ErrorKind, Write};
 use std::os::unix::fs::{MetadataExt, OpenOptionsExt, chown};
@@ -39,17 +40,10 @@ fn write_document<W: Write>(document: &Document, out: &mut W) -> Result<(), Faul
 ///
 /// The document is written to a new file in the same folder, which then replaces the old one, so
 /// the old contents stay until the new ones are complete. A file with several names (hard links) is
-/// refused, because its other names would keep the old contents. No line feed is added: when the
-/// file is read again, it would be part of the body.
-pub fn write_back(rt: &HostRuntime, page: &Page<'_>) -> Result<(), Fault> {
-    let path = match fs::canonicalize(rt, page.name) {
-        Ok(path) => path,
-        Err(fault) => return Err(Fault::File(fault)),
-    };
-    let old = match fs::metadata(rt, path.as_path()) {
-        Ok(old) => old,
-        Err(fault) => return Err(Fault::File(fault)),
-    };
+/// refused, because its other names would keep the old contents, and so is one that isn't as it was
+/// before it was read (`old`), because what was written to it since would be lost. No line feed is
+/// added: when the file is read again, it would be part of the body.
+pub fn write_back(rt: &HostRuntime, page: &Page<'_>, old: &Metadata) -> Result<(), Fault> {
     if !old.is_file() {
         return Err(Fault::InPlace("it isn't a regular file"));
     }
@@ -58,7 +52,43 @@ pub fn write_back(rt: &HostRuntime, page: &Page<'_>) -> Result<(), Fault> {
             "it has other names (hard links), which would keep the old contents",
         ));
     }
-    replace(rt, page, path.as_str(), &old)
+    let path = path_of(rt, page.name)?;
+    replace(rt, page, path.as_str(), old)
+}
+
+/// Returns the owner, the mode, the length and the times of a file. Fails if there is no such file
+/// or its name isn't UTF-8.
+pub fn state_of(rt: &HostRuntime, name: &str) -> Result<Metadata, Fault> {
+    check_name(name)?;
+    match fs::metadata(rt, name) {
+        Ok(state) => Ok(state),
+        Err(fault) => Err(Fault::File(fault)),
+    }
+}
+
+/// Returns whether a file is still the same, and as it was, as far as its length and the time of
+/// its last change say.
+fn is_as_it_was(old: &Metadata, now: &Metadata) -> bool {
+    let same_file = old.ino() == now.ino() && old.dev() == now.dev();
+    let same_time = old.ctime() == now.ctime() && old.ctime_nsec() == now.ctime_nsec();
+    same_file && same_time && old.len() == now.len()
+}
+
+/// Returns the path of the file with that name, or of the one that a symbolic link leads to.
+fn path_of(rt: &HostRuntime, name: &str) -> Result<String, Fault> {
+    match fs::symlink_metadata(rt, name) {
+        Ok(state) if state.is_symlink() => target_of(rt, name),
+        Ok(_) => Ok(String::from_str(rt.alloc(), name)?),
+        Err(fault) => Err(Fault::File(fault)),
+    }
+}
+
+/// Returns the path of the file that a symbolic link leads to.
+fn target_of(rt: &HostRuntime, link: &str) -> Result<String, Fault> {
+    match fs::canonicalize(rt, link) {
+        Ok(path) => Ok(String::from_str(rt.alloc(), path.as_str())?),
+        Err(fault) => Err(Fault::File(fault)),
+    }
 }
 
 /// Replaces the file at that path by the document.
@@ -95,7 +125,7 @@ fn new_file(rt: &HostRuntime, path: &str) -> Result<(File, String), Fault> {
 }
 
 /// Writes the document to the new file, gives that file the owner and the mode of the old one, and
-/// puts it in the place of the old one.
+/// puts it in the place of the old one, unless that changed meanwhile.
 fn fill_and_rename(
     rt: &HostRuntime,
     page: &Page<'_>,
@@ -111,6 +141,9 @@ fn fill_and_rename(
         Ok(()) => {}
         Err(fault) => return Err(Fault::File(fault)),
     }
+    if !is_as_it_was(old.1, &state_of(rt, old.0)?) {
+        return Err(Fault::InPlace("it changed meanwhile"));
+    }
     match fs::rename(rt, beside, old.0) {
         Ok(()) => Ok(()),
         Err(fault) => Err(Fault::File(fault)),
@@ -119,10 +152,7 @@ fn fill_and_rename(
 
 /// Gives the new file the owner and the group of the old one, where they differ.
 fn keep_owner(rt: &HostRuntime, beside: &str, old: &Metadata) -> Result<(), Fault> {
-    let new = match fs::metadata(rt, beside) {
-        Ok(new) => new,
-        Err(fault) => return Err(Fault::File(fault)),
-    };
+    let new = state_of(rt, beside)?;
     if new.uid() == old.uid() && new.gid() == old.gid() {
         return Ok(());
     }

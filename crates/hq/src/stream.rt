@@ -11,9 +11,9 @@ use hq_pages::options::{Job, Options, Printing, Show};
 use hq_pages::page_lines::{PageLine, address_of, put, put_error, read_line};
 use hq_pages::pages::read_line_page;
 use hq_pages::showing::text_of;
+use hq_pages::words::open_file;
 use serde_json::{Map, Value};
 use std::alloc::Global;
-use std::fs;
 use std::io::{BufRead, BufReader, Write};
 use std::time::Instant;
 
@@ -115,13 +115,8 @@ fn answer_file<W: Write>(
         let mut reader = BufReader::new(alloc, rt.stdin())?;
         return answer_pages(alloc, &mut reader, options, counts, out);
     }
-    match fs::open(rt, name) {
-        Ok(file) => {
-            let mut reader = BufReader::new(alloc, file)?;
-            answer_pages(alloc, &mut reader, options, counts, out)
-        }
-        Err(fault) => Err(Fault::File(fault)),
-    }
+    let mut reader = BufReader::new(alloc, open_file(rt, name)?)?;
+    answer_pages(alloc, &mut reader, options, counts, out)
 }
 
 /// Writes the answer to each page of a reader: of each line, or of each record of a WARC file.

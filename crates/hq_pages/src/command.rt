@@ -1,10 +1,7 @@
 //! The command line.
 
-use crate::faults::Fault;
 use clap::{Arg, ArgAction, ArgGroup, Command};
 use std::alloc::{AllocError, Global};
-use std::env;
-use std::io::ErrorKind;
 
 const VERSION: &str = "1.0.0 (dom_query 0.29.0)";
 
@@ -91,16 +88,6 @@ static SHOWS: [&str; 10] = [
     "tree",
     "script",
 ];
-
-/// Returns the words of the command line; the first is the program's name. Fails if one of them
-/// isn't UTF-8, or when memory runs out.
-pub fn words_of(rt: &HostRuntime) -> Result<Vec<String>, Fault> {
-    match env::args(rt) {
-        Ok(words) => Ok(words.collect(rt.alloc())?),
-        Err(fault) if fault.kind() == ErrorKind::OutOfMemory => Err(Fault::Memory),
-        Err(_) => Err(Fault::Argument),
-    }
-}
 
 /// Returns the definition of the command line for the parser of arguments. Fails only when memory
 /// runs out.

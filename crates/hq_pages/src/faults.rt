@@ -2,6 +2,7 @@
 
 use crate::hints::hint_of;
 use crate::rule_faults::RuleFault;
+use crate::words::unmarked;
 use dom_query::{
     EditFault, MarkupFaultKind, OutOfMemory, PageFault, RunFault, SelectorFault,
     valid_selector_prefix,
@@ -16,7 +17,7 @@ use url::ParseError;
 pub enum Fault {
     Memory,
     TooManyNodes,
-    /// A word of the command line isn't UTF-8.
+    /// A word of the command line that isn't UTF-8 is no name of a file.
     Argument,
     /// Options of the command line can't be combined, or a value isn't one of those that its option
     /// takes.
@@ -227,6 +228,6 @@ pub fn shown(name: &str) -> &str {
     if name == "-" {
         "(standard input)"
     } else {
-        name
+        unmarked(name)
     }
 }

@@ -21,3 +21,4 @@ pub mod policy_files;
 pub mod rule_faults;
 pub mod showing;
 pub mod tree;
+pub mod words;

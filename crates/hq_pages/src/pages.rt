@@ -4,12 +4,12 @@ use crate::charset::Found;
 use crate::compressed::command_for;
 use crate::faults::Fault;
 use crate::options::{Options, Reading};
+use crate::words::open_file;
 use dom_query::{
     Charset, Document, Encoding, MarkupFault, MarkupFaultKind, NodeId, Options as PageOptions,
     PageParser, decode_page, read_page,
 };
 use std::alloc::Global;
-use std::fs;
 use std::io::Read;
 use text_decoding::label_in_content;
 
@@ -49,10 +49,8 @@ pub fn read_document(
     if name == "-" {
         return read_from(rt.alloc(), &mut rt.stdin(), reading);
     }
-    match fs::open(rt, name) {
-        Ok(mut file) => read_from(rt.alloc(), &mut file, reading),
-        Err(fault) => Err(Fault::File(fault)),
-    }
+    let mut file = open_file(rt, name)?;
+    read_from(rt.alloc(), &mut file, reading)
 }
 
 /// Reads everything from a reader and returns its document.

@@ -15,7 +15,7 @@ use dom_selection::selection::Selection;
 use dom_trees::tree::Tree;
 
 /// Returns the nodes that a selector selects, depending on the kind of the line and on the
-/// selection before it. It fails with `OutOfMemory` when memory is refused.
+/// selection before it. Fails only when memory runs out.
 pub fn query(
     tree: &Tree,
     selection: &[NodeId],
@@ -73,8 +73,8 @@ fn traverse<'a>(
     }
 }
 
-/// Returns the ids of the nodes in this direction from the selection. It fails with `OutOfMemory`
-/// when memory is refused.
+/// Returns the ids of the nodes in this direction from the selection. Fails only when memory runs
+/// out.
 pub fn navigate(
     tree: &Tree,
     selection: &[NodeId],

@@ -111,8 +111,8 @@ pub fn write_attr<W: Write>(
     write_bytes(out, b"\n")
 }
 
-/// Writes what a line asks for, and a line feed. It fails when the writer does, or when memory is
-/// refused.
+/// Writes what a line asks for, and a line feed. It fails when the writer does, or when memory runs
+/// out.
 pub fn render<W: Write>(
     tree: &Tree,
     selection: &[NodeId],
