@@ -33,6 +33,7 @@ int64_t dq_proved_found(HANDLE, uint32_t *, size_t);
 int64_t dq_proved_text(HANDLE, uint32_t, uint8_t *, size_t);
 int64_t dq_proved_html(HANDLE, uint32_t, uint8_t *, size_t);
 int64_t dq_proved_inner_html(HANDLE, uint32_t, uint8_t *, size_t);
+int64_t dq_proved_markdown(HANDLE, uint32_t, uint8_t *, size_t);
 int64_t dq_proved_md(HANDLE, uint32_t, uint8_t *, size_t);
 int64_t dq_proved_formatted_text(HANDLE, uint32_t, uint8_t *, size_t);
 int64_t dq_proved_name(HANDLE, uint32_t, uint8_t *, size_t);
@@ -387,6 +388,10 @@ int64_t dq_inner_html(dq_document *document, uint32_t node, dq_string *html) {
 }
 
 int64_t dq_markdown(dq_document *document, uint32_t node, dq_string *markdown) {
+    GIVE_TEXT(document, markdown, dq_proved_markdown(document, node, INTO(markdown)));
+}
+
+int64_t dq_md(dq_document *document, uint32_t node, dq_string *markdown) {
     GIVE_TEXT(document, markdown, dq_proved_md(document, node, INTO(markdown)));
 }
 

@@ -323,8 +323,11 @@ DQ_API int64_t dq_html(dq_document *document, uint32_t node, dq_string *html);
 /* The HTML of the node's children; of a template, that of its contents. */
 DQ_API int64_t dq_inner_html(dq_document *document, uint32_t node, dq_string *html);
 
-/* What is below the node as Markdown. */
+/* The node as CommonMark with GitHub's tables, which readers show as the page. */
 DQ_API int64_t dq_markdown(dq_document *document, uint32_t node, dq_string *markdown);
+
+/* What is below the node as Markdown, as the Rust crate dom_query writes it. */
+DQ_API int64_t dq_md(dq_document *document, uint32_t node, dq_string *markdown);
 
 /* What is below the node as text, with blocks on lines of their own. */
 DQ_API int64_t dq_formatted_text(dq_document *document, uint32_t node, dq_string *text);

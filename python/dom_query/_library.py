@@ -119,6 +119,7 @@ PARAMETERS: dict[str, tuple[Any, ...]] = {
     "dq_html": (HANDLE, NODE, STRING),
     "dq_inner_html": (HANDLE, NODE, STRING),
     "dq_markdown": (HANDLE, NODE, STRING),
+    "dq_md": (HANDLE, NODE, STRING),
     "dq_formatted_text": (HANDLE, NODE, STRING),
     "dq_name": (HANDLE, NODE, STRING),
     "dq_attr": (HANDLE, NODE, TEXT, SIZE, STRING),

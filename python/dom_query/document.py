@@ -207,8 +207,13 @@ class Document:
 
     @property
     def markdown(self) -> str:
-        """The document as Markdown."""
+        """The document as Markdown that readers show as the page: CommonMark with GitHub's tables."""
         return Node(self, 0).markdown
+
+    @property
+    def md(self) -> str:
+        """The document as Markdown, as the Rust crate `dom_query` writes it."""
+        return Node(self, 0).md
 
     @property
     def formatted_text(self) -> str:

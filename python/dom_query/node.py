@@ -286,8 +286,13 @@ class Node:
 
     @property
     def markdown(self) -> str:
-        """What is below the node as Markdown."""
+        """The node as Markdown that readers show as the page: CommonMark with GitHub's tables."""
         return self._get(self.document._slow.dq_markdown)
+
+    @property
+    def md(self) -> str:
+        """What is below the node as Markdown, as the Rust crate `dom_query` writes it."""
+        return self._get(self.document._slow.dq_md)
 
     @property
     def formatted_text(self) -> str:

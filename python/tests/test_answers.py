@@ -62,7 +62,7 @@ class Page:
         if way == 13:
             return first.inner_html, f"{word}<b>{word}b</b>"
         if way == 14:
-            return first.select_one("b").markdown, f"{word}b"
+            return first.select_one("b").markdown, f"**{word}b**"
         return first.next_element.name, "a"
 
     WAYS = 16

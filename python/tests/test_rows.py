@@ -95,7 +95,7 @@ class Rows(unittest.TestCase):
                         with self.assertRaises(MarkupError):
                             dom_query.parse_strict(markup)
                     elif case.get("args") == ["--md"]:
-                        self.assertEqual(dom_query.parse_strict(markup).markdown + "\n", output)
+                        self.assertEqual(dom_query.parse_strict(markup).md + "\n", output)
                     elif "script" not in case:
                         skipped += 1
                         continue

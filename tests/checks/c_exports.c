@@ -72,6 +72,7 @@ static void closed(dq_document *d) {
     IS(dq_html(d, 0, &text), DQ_CLOSED);
     IS(dq_inner_html(d, 0, &text), DQ_CLOSED);
     IS(dq_markdown(d, 0, &text), DQ_CLOSED);
+    IS(dq_md(d, 0, &text), DQ_CLOSED);
     IS(dq_formatted_text(d, 0, &text), DQ_CLOSED);
     IS(dq_name(d, 0, &text), DQ_CLOSED);
     IS(dq_attr(d, 0, T("id"), &text), DQ_CLOSED);
@@ -304,6 +305,9 @@ static void reading(dq_document *d) {
     SAYS(dq_html(d, 4, &text), "<b>hot</b>");
     SAYS(dq_inner_html(d, 2, &text), "Tea <b>hot</b>");
     SAYS(dq_markdown(d, 2, &text), "Tea **hot**");
+    SAYS(dq_markdown(d, 4, &text), "**hot**");
+    SAYS(dq_md(d, 2, &text), "Tea **hot**");
+    SAYS(dq_md(d, 4, &text), "hot");
     SAYS(dq_formatted_text(d, 1, &text), "Tea hot\n\nMilk");
     SAYS(dq_name(d, 4, &text), "b");
     IS(dq_name(d, 3, &text), DQ_NOTHING);
@@ -417,6 +421,7 @@ static void nulls(dq_document *d, dq_policy *p, dq_reader *r) {
     IS(dq_html(d, 0, NULL), DQ_NULL);
     IS(dq_inner_html(d, 0, NULL), DQ_NULL);
     IS(dq_markdown(d, 0, NULL), DQ_NULL);
+    IS(dq_md(d, 0, NULL), DQ_NULL);
     IS(dq_formatted_text(d, 0, NULL), DQ_NULL);
     IS(dq_name(d, 0, NULL), DQ_NULL);
     IS(dq_attr(d, 0, NULL, 1, &text), DQ_NULL);

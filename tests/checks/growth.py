@@ -215,9 +215,18 @@ PATTERNS = {
     "output: Markdown, a table": (page("<tr><td>a<td>b", "<table>"), MD + ["body"]),
     "output: Markdown, code": (page("<code>`a</code>"), MD + ["body"]),
     "output: Markdown, marks": (page("*_`<"), MD + ["body"]),
+    "output: Markdown, what may be addresses of mail": (page("&lt;1"), MD + ["body"]),
+    "output: Markdown, text in a list": (page("a<br>", "<ul>"), MD + ["body"]),
+    "output: Markdown, boxes of tasks": (page("<li><input type=checkbox>a", "<ul>"), MD + ["body"]),
+    "output: Markdown, code with bars in cells": (page("<tr><td><code>\\|</code><td>a", "<table>"), MD + ["body"]),
     "output: sanitised, nested": (page("<x>"), CLEAN + ["body"]),
     "output: sanitised, scripts": (page("<script>a</script>"), CLEAN + ["body"]),
     "output: without what a selector matches": (page("<p><b>a</b>"), ["--remove", "b", "--html", "body"]),
+}
+PATTERNS |= {
+    f"{name}, by the writer of the crate": (made, ["--md=crate", *words[1:]])
+    for name, (made, words) in PATTERNS.items()
+    if words[:1] == MD
 }
 # How often the part is repeated in the check, at first.
 SMALL = 4000

@@ -501,7 +501,6 @@ OPTION_ROWS = {
     "html": (["--html", "p"], "<p>1<b>2", "<p>1<b>2</b></p>\n"),
     "inner": (["--inner", "p"], "<p>1<b>2", "1<b>2</b>\n"),
     "text": (["--text", "p"], "<p>1<b>2", "12\n"),
-    "commonmark": (["--commonmark", "p"], "<p>1<b>2</b>", "1**2**\n\n"),
     "md": (["--md", "p"], "<p>1<b>2", "1**2**\n\n"),
     "attr": (["--attr", "a", "p"], "<p a=1><p b=2>", "1\n"),
     "count": (["--count", "p"], "<p a=1><p b=2>", "2\n"),
@@ -552,7 +551,7 @@ def conflict_rows(entries):
         "       hq [OPTIONS] --jsonl | --warc SELECTOR [FILE ..]\n\nFor more information, try '--help'.\n"
     )
     values = {"attr": ["a"], "script": ["text"]}
-    shown = {"attr": "--attr <NAME>", "script": "--script <LINES>"}
+    shown = {"attr": "--attr <NAME>", "md": "--md[=<WRITER>]", "script": "--script <LINES>"}
     for name in shows:
         other = "html" if name != "html" else "text"
         args = [f"--{name}", *values.get(name, []), f"--{other}", "p"]

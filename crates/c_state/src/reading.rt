@@ -1,7 +1,7 @@
 //! Questions to one node. A text is kept, its length is the answer, and as much is written as there
 //! is room for.
 
-ghost use Rattle.std.specs.Prelude.{◌≡◌, IfOk, Some, string_bytes};
+ghost use Rattle.std.specs.Prelude.{◌≡◌, IfOk, Some, string_bytes, ⊤};
 ghost use Rattle.std.specs.List.{flat_map};
 ghost use Rattle.dom_links.specs.Texts.{text_of};
 ghost use Rattle.dom_markup.specs.Html.{html_of, inner_html_of};
@@ -18,6 +18,8 @@ use crate::bytes::as_text;
 use crate::fault::Fault;
 use crate::pieces::Pieces;
 use crate::state::State;
+use dom_commonmark::options::Options;
+use dom_commonmark::writer::commonmark;
 use dom_query::prelude::*;
 use dom_query::{Attr, NodeData, NodeMd};
 use std::alloc::Global;
@@ -53,7 +55,18 @@ impl State {
         Ok(self.keep(text, to))
     }
 
-    /// The node's Markdown.
+    /// The node as Markdown that readers show as the page.
+    pub fn take_markdown(&mut self, node: u32, to: &mut [u8]) -> Result<usize, Fault>
+        ensures { GivesTextThat result self.old self.new to.old to.new (λ _. ⊤) }
+    {
+        let node = self.node(node)?;
+        let alloc = self.document.tree.allocator();
+        let node = self.document.tree.get_unchecked(&node);
+        let text = commonmark(alloc, &node, &Options::new())?;
+        Ok(self.keep(text, to))
+    }
+
+    /// The node's Markdown as the Rust crate writes it.
     pub fn take_md(&mut self, node: u32, to: &mut [u8]) -> Result<usize, Fault>
         ensures { GivesTextThat result self.old self.new to.old to.new
             (ReadsAsWords self.old.document.tree node) }

@@ -3,9 +3,9 @@ use Rattle.std.proofs.Common.{◌≡◌, ℕ, Bool, true, false, List, [], ◌�
 use Rattle.std.specs.Prelude.{◌==◌, ◌&&◌, ◌||◌, not, slice_index_or, if◌then◌else◌}
 use Rattle.std.specs.Char.{is_ascii_alphanumeric}
 use Rattle.std.proofs.lemmas.Bool.{cases_Bool, eqb-true}
-use Rattle.dom_nodes.specs.Ascii.{ampersand, asterisk, backslash, backtick, colon, dot, exclamation_mark, left_bracket, less_than, number_sign, right_bracket, semicolon, slash, space, tilde, underscore, vertical_bar}
+use Rattle.dom_nodes.specs.Ascii.{ampersand, asterisk, at_sign, backslash, backtick, colon, dot, exclamation_mark, left_bracket, less_than, number_sign, right_bracket, semicolon, slash, space, tilde, underscore, vertical_bar}
 use Rattle.dom_commonmark.specs.Escaping.{escaped, escaped_on, is_marked, is_nil}
-use Rattle.dom_commonmark.specs.Inline.{begins_address, begins_tag, can_begin, first_of, is_in_spaces, is_in_word, is_reference, is_www}
+use Rattle.dom_commonmark.specs.Inline.{begins_address, begins_mail, begins_tag, can_begin, first_of, is_in_mail, is_in_spaces, is_in_word, is_reference, is_www}
 use Rattle.dom_commonmark.specs.Reading.{IsBack, IsFront, Reads, behind, read_as_text}
 use Rattle.dom_commonmark.specs.declared.escaping.Place.{Place}
 use Rattle.dom_commonmark.proofs.MarkLemmas.{MarksPass, marked_punctuation, unmarked}
@@ -88,6 +88,13 @@ head_keeps : (Q : ℕ → Bool) → MarksPass (λ x. not (Q x)) → Q 0 ≡ fals
 head_keeps Q m none place before [] after h = never (sym h ∙ none) _
 head_keeps Q m none place before (c ∷ text) after h = rw (unmarked (λ x. not (Q x)) m place before c text (ap not h)) h
 
+or_left : (a b : Bool) → (a || b) ≡ false → a ≡ false
+or_left true b h = h
+or_left false b h = refl
+
+none_of : (a b : Bool) → a ≡ false → b ≡ false → (a || b) ≡ false
+none_of a b p q = rw (p, q) refl
+
 no_reference : (place : Place) (after : List ℕ) → IsBack place after → is_reference after ≡ false
 no_reference place [] back = refl
 no_reference place (c ∷ after) back = rw (back.no_semicolon, back.no_word, back.no_number_sign) refl
@@ -103,6 +110,21 @@ reference place before (c ∷ text) after back h = elim (cases_Bool (is_marked p
   | inl t ↦ rw t refl
   | inr f ↦ rw f (ref_step (c == semicolon) (is_ascii_alphanumeric c || c == number_sign) (is_reference text) (is_reference (escaped_on place (c ∷ before) text ++ after)) h (λ r. reference place (c ∷ before) text after back r))
 ]
+
+mail : (place : Place) (before text after : List ℕ) → begins_mail true text ≡ false → begins_mail false (escaped_on place before text ++ after) ≡ false
+mail place before [] after h = never h _
+mail place before (c ∷ text) after h = elim (cases_Bool (is_marked place before c text)) as (λ t. begins_mail false (escaped_on place before (c ∷ text) ++ after) ≡ false) [
+  | inl t ↦ rw t refl
+  | inr f ↦ rw f (ref_step (c == at_sign) (is_in_mail c) (begins_mail true text) (begins_mail false (escaped_on place (c ∷ before) text ++ after)) h (λ r. mail place (c ∷ before) text after r))
+]
+
+-- neither a tag nor an address of mail begins
+tag : (place : Place) (before text after : List ℕ) → begins_mail true text ≡ false → (begins_tag (first_of text) || begins_mail false text) ≡ false →
+    (begins_tag (first_of (escaped_on place before text ++ after)) || begins_mail false (escaped_on place before text ++ after)) ≡ false
+tag place before [] after h p = never h _
+tag place before (c ∷ text) after h p =
+    none_of (begins_tag (first_of (escaped_on place before (c ∷ text) ++ after))) (begins_mail false (escaped_on place before (c ∷ text) ++ after))
+    (head_some begins_tag refl place before (c ∷ text) after refl (or_left (begins_tag c) (begins_mail false (c ∷ text)) p)) (mail place before (c ∷ text) after h)
 
 address : (place : Place) (before text after : List ℕ) → IsBack place after → begins_address text ≡ false → begins_address (escaped_on place before text ++ after) ≡ false
 address place before [] after back h = rw back.no_slash refl
@@ -150,18 +172,18 @@ www_stays text made f h = elim (cases_Bool (is_www made)) [
 ]
 
 in_the_middle : (place : Place) (before made : List ℕ) (b : ℕ) (text after : List ℕ) → Follows before made → IsBack place after →
-    (b == less_than && is_nil text) ≡ false → (b == exclamation_mark && is_nil text) ≡ false → can_begin place.cell before b text ≡ false →
+    (b == less_than && begins_mail true text) ≡ false → (b == exclamation_mark && is_nil text) ≡ false → can_begin place.cell before b text ≡ false →
     can_begin place.cell made b (escaped_on place (b ∷ before) text ++ after) ≡ false
 in_the_middle place before made b text after f back lt bang h =
     let more = escaped_on place (b ∷ before) text ++ after in
     chain (b == backtick || b == left_bracket || b == right_bracket) (b == asterisk || b == tilde) (b == underscore) (b == less_than) (b == ampersand) (b == exclamation_mark) (b == colon) (b == dot)
-    (not (is_in_spaces before text)) (not (is_in_word before text)) (begins_tag (first_of text)) (is_reference text) (first_of text == left_bracket) (begins_address text) (is_www before) (b == vertical_bar && place.cell)
-    (not (is_in_spaces made more)) (not (is_in_word made more)) (begins_tag (first_of more)) (is_reference more) (first_of more == left_bracket) (begins_address more) (is_www made) h
+    (not (is_in_spaces before text)) (not (is_in_word before text)) (begins_tag (first_of text) || begins_mail false text) (is_reference text) (first_of text == left_bracket) (begins_address text) (is_www before) (b == vertical_bar && place.cell)
+    (not (is_in_spaces made more)) (not (is_in_word made more)) (begins_tag (first_of more) || begins_mail false more) (is_reference more) (first_of more == left_bracket) (begins_address more) (is_www made) h
     (λ p. let two = both (first_of before == space) (first_of text == space) p in
     joined (first_of made == space) (first_of more == space) (f.same (λ x. x == space) refl two.0) (head_keeps (λ x. x == space) spaces refl place (b ∷ before) text after two.1))
     (λ p. let two = both (is_ascii_alphanumeric (first_of before)) (is_ascii_alphanumeric (first_of text)) p in
     joined (is_ascii_alphanumeric (first_of made)) (is_ascii_alphanumeric (first_of more)) (f.same is_ascii_alphanumeric refl two.0) (head_keeps is_ascii_alphanumeric letters refl place (b ∷ before) text after two.1))
-    (λ c p. head_some begins_tag refl place (b ∷ before) text after (some_behind (b == less_than) (is_nil text) lt c) p)
+    (λ c p. tag place (b ∷ before) text after (some_behind (b == less_than) (begins_mail true text) lt c) p)
     (λ p. reference place (b ∷ before) text after back p)
     (λ c p. head_some (λ x. x == left_bracket) refl place (b ∷ before) text after (some_behind (b == exclamation_mark) (is_nil text) bang c) p)
     (λ p. address place (b ∷ before) text after back p)
@@ -186,7 +208,7 @@ at_the_end place before made b (c ∷ text) after back t l = never (sym (not_bot
 cannot_begin : (place : Place) (before made : List ℕ) (b : ℕ) (text after : List ℕ) → Follows before made → IsBack place after → is_marked place before b text ≡ false →
     ((b == backslash) ≡ false) × (can_begin place.cell made b (escaped_on place (b ∷ before) text ++ after) ≡ false)
 cannot_begin place before made b text after f back h =
-    let p = parts (b == backslash) (b == less_than && is_nil text) (b == exclamation_mark && is_nil text) place.before_link (can_begin place.cell before b text) h in (
+    let p = parts (b == backslash) (b == less_than && begins_mail true text) (b == exclamation_mark && is_nil text) place.before_link (can_begin place.cell before b text) h in (
       p.0,
       elim p.2 [
         | inl e ↦ at_the_end place before made b text after back e.0 e.1

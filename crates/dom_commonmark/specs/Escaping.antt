@@ -3,7 +3,7 @@ use Rattle.std.specs.Prelude.{◌≡◌, ◌<◌, ◌≤◌, ◌+◌, ℕ, ◌==
 use Rattle.std.specs.List.{slice_range}
 use Rattle.std.specs.Str.{IsCharBoundary}
 use Rattle.dom_nodes.specs.Ascii.{backslash, exclamation_mark, less_than}
-use Rattle.dom_commonmark.specs.Inline.{can_begin}
+use Rattle.dom_commonmark.specs.Inline.{begins_mail, can_begin}
 use Rattle.dom_commonmark.specs.declared.escaping.Place.{Place}
 use Rattle.dom_commonmark.specs.declared.escaping.Cut.{Cut}
 
@@ -15,7 +15,7 @@ is_nil (b ∷ text) = false
 abbrev pub is_marked : Place → List ℕ → ℕ → List ℕ → Bool
 is_marked place before b after =
     if b == backslash then true
-    else if b == less_than && is_nil after then true
+    else if b == less_than && begins_mail true after then true
     else if b == exclamation_mark && is_nil after then place.before_link
     else can_begin place.cell before b after
 

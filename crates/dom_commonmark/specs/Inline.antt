@@ -1,7 +1,7 @@
 -- Where an inline construct of CommonMark 0.31 or GFM can begin or end. `before` is what stands before a byte, the nearest first.
 use Rattle.std.specs.Prelude.{ℕ, ◌==◌, ◌&&◌, ◌||◌, not, Bool, true, false, List, [], ◌∷◌, slice_index_or, if◌then◌else◌}
-use Rattle.std.specs.Char.{is_ascii_alphabetic, is_ascii_alphanumeric}
-use Rattle.dom_nodes.specs.Ascii.{ampersand, asterisk, backtick, colon, dot, exclamation_mark, left_bracket, less_than, number_sign, question_mark, right_bracket, semicolon, slash, space, tilde, underscore, vertical_bar}
+use Rattle.std.specs.Char.{is_ascii_alphabetic, is_ascii_alphanumeric, is_ascii_graphic}
+use Rattle.dom_nodes.specs.Ascii.{ampersand, asterisk, at_sign, backslash, backtick, colon, dot, exclamation_mark, greater_than, left_bracket, less_than, number_sign, question_mark, right_bracket, semicolon, slash, space, tilde, underscore, vertical_bar}
 
 -- the nearest byte, and 0 if there is none
 abbrev pub first_of : List ℕ → ℕ
@@ -18,6 +18,15 @@ is_in_word before after = is_ascii_alphanumeric (first_of before) && is_ascii_al
 -- what follows the `<` of an autolink (6.5) or of HTML (6.6)
 abbrev pub begins_tag : ℕ → Bool
 begins_tag b = is_ascii_alphabetic b || b == slash || b == exclamation_mark || b == question_mark
+
+-- a byte that may stand before the `@` of an address of mail (6.5), and some that may not
+abbrev pub is_in_mail : ℕ → Bool
+is_in_mail b = if b == less_than || b == greater_than || b == backslash then false else is_ascii_graphic b
+
+-- what follows the `<` of an address of mail (6.5), up to its `@`; `at_end` is the answer where the text ends before one
+abbrev pub begins_mail : (at_end : Bool) → List ℕ → Bool
+begins_mail at_end [] = at_end
+begins_mail at_end (b ∷ after) = if b == at_sign then true else if is_in_mail b then begins_mail at_end after else false
 
 -- what follows the `&` of a character reference (2.5): letters, digits and `#`, up to a semicolon
 abbrev pub is_reference : List ℕ → Bool
@@ -39,7 +48,7 @@ can_begin cell before b after =
     if b == backtick || b == left_bracket || b == right_bracket then true
     else if b == asterisk || b == tilde then not (is_in_spaces before after)
     else if b == underscore then not (is_in_word before after)
-    else if b == less_than then begins_tag (first_of after)
+    else if b == less_than then begins_tag (first_of after) || begins_mail false after
     else if b == ampersand then is_reference after
     else if b == exclamation_mark then first_of after == left_bracket
     else if b == colon then begins_address after

@@ -61,10 +61,8 @@ pub(crate) fn own_address<'a>(node: &NodeRef<'a>) -> Option<&'a str> {
     if !address.starts_with("http://") && !address.starts_with("https://") {
         return None;
     }
-    for byte in address.as_bytes() {
-        if !is_plain(*byte) {
-            return None;
-        }
+    if !are_plain(address) {
+        return None;
     }
     if is_text_of(node.tree, first, address) {
         return Some(address);
@@ -80,6 +78,16 @@ fn is_text_of(tree: &Tree, id: NodeId, address: &str) -> bool {
         NodeData::Text { contents } => contents.as_str().trim_ascii() == address,
         _ => false,
     }
+}
+
+/// Returns whether no character of an address means anything to a reader.
+fn are_plain(address: &str) -> bool {
+    for byte in address.as_bytes() {
+        if !is_plain(*byte) {
+            return false;
+        }
+    }
+    true
 }
 
 fn is_plain(byte: u8) -> bool {
@@ -132,6 +140,9 @@ pub(crate) fn push_target(line: &mut String, target: Target<'_>) -> Result<(), O
 }
 
 fn push_address(line: &mut String, address: &str, cell: bool) -> Result<(), OutOfMemory> {
+    if !address.is_empty() && are_plain(address) {
+        return Ok(line.push_str(address)?);
+    }
     let is_enclosed = is_enclosed(address);
     if is_enclosed {
         line.push('<')?;

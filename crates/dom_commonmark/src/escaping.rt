@@ -6,8 +6,9 @@ ghost use Rattle.std.specs.Char.{is_ascii_alphanumeric};
 ghost use Rattle.std.specs.Str.{IsCharBoundary};
 ghost use Rattle.dom_nodes.specs.Ascii.{number_sign};
 ghost use Rattle.dom_commonmark.specs.Escaping.{AppendsEscaped, Cuts, FindsMark, is_marked};
-ghost use Rattle.dom_commonmark.specs.Inline.{begins_address, begins_tag, can_begin, is_in_spaces};
-ghost use Rattle.dom_commonmark.specs.Inline.{is_in_word, is_reference, is_www};
+ghost use Rattle.dom_commonmark.specs.Inline.{begins_address, begins_mail, begins_tag, can_begin};
+ghost use Rattle.dom_commonmark.specs.Inline.{is_in_mail, is_in_spaces, is_in_word};
+ghost use Rattle.dom_commonmark.specs.Inline.{is_reference, is_www};
 ghost use Rattle.dom_commonmark.specs.Reading.{ReadsAsText};
 
 use dom_nodes::fault::OutOfMemory;
@@ -89,7 +90,7 @@ fn is_marked(before: &[u8], byte: u8, after: &[u8], place: Place) -> bool
     if byte == b'\\' {
         return true;
     }
-    if byte == b'<' && after.is_empty() {
+    if byte == b'<' && begins_mail(after, true) {
         return true;
     }
     if byte == b'!' && after.is_empty() {
@@ -112,7 +113,10 @@ fn can_begin(before: &[u8], byte: u8, after: &[u8], cell: bool) -> bool
         return !is_in_word(before, after);
     }
     if byte == b'<' {
-        return begins_tag(byte_at(after, 0));
+        if begins_tag(byte_at(after, 0)) {
+            return true;
+        }
+        return begins_mail(after, false);
     }
     if byte == b'&' {
         return is_reference(after);
@@ -143,11 +147,38 @@ fn is_in_word(before: &[u8], after: &[u8]) -> bool
     byte_back(before, 0).is_ascii_alphanumeric() && byte_at(after, 0).is_ascii_alphanumeric()
 }
 
-/// Returns whether a `<` before the byte begins a tag, a comment or an address.
+/// Returns whether a `<` before the byte begins a tag, a comment or an address of the web.
 fn begins_tag(byte: u8) -> bool
     ensures { result ≡ begins_tag byte }
 {
     byte.is_ascii_alphabetic() || byte == b'/' || byte == b'!' || byte == b'?'
+}
+
+/// Returns whether a `<` before the bytes may begin an address of mail; `at_end` is the answer if
+/// they end before its `@`.
+fn begins_mail(after: &[u8], at_end: bool) -> bool
+    ensures { result ≡ begins_mail at_end after.now }
+{
+    let mut rest = after;
+    while let Some((first, behind)) = rest.split_first() {
+        if *first == b'@' {
+            return true;
+        }
+        if !is_in_mail(*first) {
+            return false;
+        }
+        rest = behind;
+    }
+    at_end
+}
+
+fn is_in_mail(byte: u8) -> bool
+    ensures { result ≡ is_in_mail byte }
+{
+    if byte == b'<' || byte == b'>' || byte == b'\\' {
+        return false;
+    }
+    byte.is_ascii_graphic()
 }
 
 /// Returns whether a `&` before the bytes may begin a character reference: letters, digits and `#`

@@ -44,6 +44,8 @@ pub(crate) struct Inlines<'a> {
     last: char,
     /// Marks, breaks or code began or ended after the text.
     is_changed: bool,
+    /// The box of a task, which is written before the text that comes next.
+    task_box: Option<&'static str>,
 }
 
 impl<'a> Inlines<'a> {
@@ -61,19 +63,49 @@ impl<'a> Inlines<'a> {
             is_in_code: false,
             last: ' ',
             is_changed: false,
+            task_box: None,
         }
     }
 
     /// Appends a text of the page.
     pub(crate) fn push_text(&mut self, text: &str) -> Result<(), OutOfMemory> {
-        for c in text.chars() {
+        let mut begin: usize = 0;
+        let mut last = ' ';
+        for (at, c) in text.char_indices() {
             if c.is_whitespace() {
+                self.push_word(text, begin, at, last)?;
                 self.push_space(c)?;
+                begin = at.saturating_add(c.len_utf8());
             } else {
-                self.push_char(c)?;
+                last = c;
             }
         }
-        Ok(())
+        self.push_word(text, begin, text.len(), last)
+    }
+
+    /// Appends the word between two indices of a text, if there is one, which has that last
+    /// character.
+    fn push_word(
+        &mut self,
+        text: &str,
+        begin: usize,
+        end: usize,
+        last: char,
+    ) -> Result<(), OutOfMemory> {
+        let Some(word) = text.get(begin..end) else {
+            return Ok(());
+        };
+        let Some(first) = word.chars().next() else {
+            return Ok(());
+        };
+        self.push_char(first)?;
+        if !self.is_in_code {
+            self.last = last;
+        }
+        match word.get(first.len_utf8()..) {
+            Some(rest) => Ok(self.text.push_str(rest)?),
+            None => Ok(()),
+        }
     }
 
     /// Appends whitespace, which is written once something visible follows. A run of ASCII
@@ -130,6 +162,7 @@ impl<'a> Inlines<'a> {
 
     /// Writes what changed before the next character.
     fn change(&mut self, next: char) -> Result<bool, OutOfMemory> {
+        self.write_box()?;
         self.settle_breaks()?;
         let kept = self.kept_marks();
         let begins_link = self.begins_link(kept);
@@ -455,14 +488,25 @@ impl<'a> Inlines<'a> {
         Ok(self.line.push('>')?)
     }
 
-    /// Writes the box of a task.
-    pub(crate) fn push_box(&mut self, is_checked: bool) -> Result<(), OutOfMemory> {
+    /// Puts the box of a task before the text that comes next.
+    pub(crate) fn put_box(&mut self, is_checked: bool) {
+        self.task_box = Some(if is_checked { "[x] " } else { "[ ] " });
+        self.is_changed = true;
+    }
+
+    /// No text comes that a box can stand before.
+    pub(crate) fn drop_box(&mut self) {
+        self.task_box = None;
+    }
+
+    fn write_box(&mut self) -> Result<(), OutOfMemory> {
+        let Some(task_box) = self.task_box else {
+            return Ok(());
+        };
+        self.task_box = None;
         self.space.clear();
         self.last = ' ';
-        Ok(
-            self.line
-                .push_str(if is_checked { "[x] " } else { "[ ] " })?,
-        )
+        Ok(self.line.push_str(task_box)?)
     }
 
     /// Returns whether nothing is written yet.

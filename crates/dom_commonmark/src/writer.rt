@@ -216,7 +216,7 @@ impl<'a> Writer<'a> {
                 self.inlines.push_break();
                 Ok(())
             }
-            Tag::Input => self.write_box(id),
+            Tag::Input => self.put_box(id),
             _ => self.open_block(id, tag),
         }
     }
@@ -264,13 +264,14 @@ impl<'a> Writer<'a> {
         }
     }
 
-    /// Writes the box of a task, if it begins an item; nothing for other inputs.
-    fn write_box(&mut self, id: NodeId) -> Result<(), OutOfMemory> {
+    /// Puts the box of a task at the start of an item; nothing is written for other inputs.
+    fn put_box(&mut self, id: NodeId) -> Result<(), OutOfMemory> {
         let node = NodeRef::new(id, self.tree);
         let is_box = node.attr_or("type", "").eq_ignore_ascii_case("checkbox");
-        if !is_box || !self.lines.is_at_item || !self.inlines.is_empty() {
-            return Ok(());
+        let is_at_start = self.lines.is_at_item && self.inlines.is_empty();
+        if is_box && is_at_start && self.inlines.flow == Flow::Lines {
+            self.inlines.put_box(node.has_attr("checked"));
         }
-        self.inlines.push_box(node.has_attr("checked"))
+        Ok(())
     }
 }

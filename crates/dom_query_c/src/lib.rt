@@ -325,7 +325,21 @@ pub extern "C" fn dq_proved_inner_html(
     ask!(alloc, handle, state => state.take_inner_html(node, to))
 }
 
-/// Takes the Markdown of the node: its length.
+/// Takes the node as Markdown that readers show as the page: its length.
+#[unsafe(no_mangle)]
+pub extern "C" fn dq_proved_markdown(
+    alloc: Global,
+    handle: &mut Handle,
+    node: u32,
+    to: &mut [u8],
+) -> i64
+    ensures { Asks handle.old.slot.state handle.new.slot.state result
+        (λ given s t. GivesTextThat given s t to.old to.new (λ _. ⊤)) }
+{
+    ask!(alloc, handle, state => state.take_markdown(node, to))
+}
+
+/// Takes the Markdown of the node as the Rust crate writes it: its length.
 #[unsafe(no_mangle)]
 pub extern "C" fn dq_proved_md(alloc: Global, handle: &mut Handle, node: u32, to: &mut [u8]) -> i64
     ensures { Asks handle.old.slot.state handle.new.slot.state result

@@ -5,9 +5,9 @@ use crate::faults::Fault;
 use crate::json::add;
 use crate::linked_data::linked_data_of;
 use crate::options::{Options, Printing, Show};
-use crate::showing::commonmark_of;
+use crate::showing::{crate_markdown_of, markdown_of};
 use dom_article::{Article, article_of_known};
-use dom_query::{Document, NodeId, NodeMarkup, NodeMd, NodeRef, clean_document, serialize_md};
+use dom_query::{Document, NodeId, NodeMarkup, NodeMd, NodeRef, clean_document};
 use serde_json::{Map, Value};
 use std::alloc::Global;
 
@@ -68,13 +68,6 @@ impl TakenArticle {
         self.document.tree.get_unchecked(&self.top)
     }
 
-    /// Returns the article as Markdown.
-    fn markdown(&self, alloc: Global) -> Result<String, Fault> {
-        let written = serialize_md(&self.node(), false, None)?;
-        let text = written.as_str().trim_start_matches('\n').trim_end();
-        Ok(String::from_str(alloc, text)?)
-    }
-
     /// Returns what is printed of the article, without the byte that ends it.
     pub fn answer(&self, printing: Printing<'_>, file: Option<&str>) -> Result<String, Fault> {
         let alloc = self.document.tree.allocator();
@@ -84,8 +77,8 @@ impl TakenArticle {
         match printing.show {
             Show::Html => Ok(self.node().inner_html()?),
             Show::Text => Ok(self.node().formatted_text()?),
-            Show::CommonMark => commonmark_of(alloc, &self.node(), true),
-            _ => self.markdown(alloc),
+            Show::CrateMarkdown => crate_markdown_of(alloc, &self.node(), true),
+            _ => markdown_of(alloc, &self.node(), true),
         }
     }
 
@@ -104,7 +97,7 @@ impl TakenArticle {
         add_text(alloc, &mut members, "image", &metadata.image)?;
         let sure = Value::Bool(self.article.sure);
         add(alloc, &mut members, "sure", sure)?;
-        let markdown = Value::String(self.markdown(alloc)?);
+        let markdown = Value::String(markdown_of(alloc, &self.node(), true)?);
         add(alloc, &mut members, "markdown", markdown)?;
         let html = Value::String(self.node().inner_html()?);
         add(alloc, &mut members, "html", html)?;

@@ -28,12 +28,12 @@ const NONE: char = ' ';
 
 /// All options, in the order in which `--help` lists them.
 #[rattlefmt::skip]
-static OPTIONS: [Choice; 38] = [
+static OPTIONS: [Choice; 37] = [
     ("html", NONE, "", "", "Print each match as HTML (the default)"),
     ("inner", NONE, "", "", "Print what is inside each match: HTML, or with --md Markdown"),
     ("text", 't', "", "", "Print the text of each match"),
-    ("md", 'm', "", "", "Print each match as Markdown"),
-    ("commonmark", NONE, "", "", "Print each match as CommonMark, with tables as GitHub has them"),
+    ("md", 'm', "WRITER", "",
+        "Print each match as Markdown; with --md=crate as the Rust crate writes it"),
     ("attr", 'a', "NAME", "", "Print this attribute of each match that has it"),
     ("count", 'c', "", "json", "Print how many matches there are"),
     ("csv", NONE, "", "json", "Print the rows of each matched table as CSV"),
@@ -76,17 +76,8 @@ static OPTIONS: [Choice; 38] = [
 ];
 
 /// The options that say what is printed, of which at most one can be used.
-static SHOWS: [&str; 10] = [
-    "html",
-    "text",
-    "md",
-    "commonmark",
-    "attr",
-    "count",
-    "csv",
-    "document",
-    "tree",
-    "script",
+static SHOWS: [&str; 9] = [
+    "html", "text", "md", "attr", "count", "csv", "document", "tree", "script",
 ];
 
 /// Returns the definition of the command line for the parser of arguments. Fails only when memory
@@ -132,6 +123,12 @@ fn option<'a>(alloc: Global, choice: &Choice) -> Result<Arg<'a>, AllocError> {
     }
     if !value.is_empty() {
         option = option.value_name(value);
+    }
+    if name == "md" {
+        option = option
+            .num_args(0..=1)
+            .require_equals(true)
+            .default_missing_value("");
     }
     if !other.is_empty() {
         option = option.conflicts_with(other)?;

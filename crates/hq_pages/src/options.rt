@@ -106,9 +106,10 @@ pub enum Show<'a> {
     Html,
     Text,
     Attr(&'a str),
-    Markdown,
     /// CommonMark with the tables of GitHub Flavored Markdown.
-    CommonMark,
+    Markdown,
+    /// The Markdown of the Rust crate.
+    CrateMarkdown,
     /// How many matches there are.
     Count,
     /// The rows of tables.
@@ -215,7 +216,7 @@ impl<'a> Options<'a> {
         }
         let has_inside = matches!(
             self.printing.show,
-            Show::Html | Show::Markdown | Show::CommonMark
+            Show::Html | Show::Markdown | Show::CrateMarkdown
         );
         if self.printing.inner && !has_inside {
             return Some("--inner: only HTML and Markdown have an inside");
@@ -299,7 +300,7 @@ fn script_of(alloc: Global, texts: &[&str]) -> Result<Job, Fault> {
 
 fn printing_of<'a>(matches: &ArgMatches<'a>, terminal: bool) -> Result<Printing<'a>, Fault> {
     Ok(Printing {
-        show: show_of(matches),
+        show: show_of(matches)?,
         inner: matches.get_flag("inner"),
         first: matches.get_flag("first"),
         json: matches.get_flag("json"),
@@ -377,19 +378,27 @@ fn matcher_of(alloc: Global, text: &str, place: &'static str) -> Result<Matcher,
 }
 
 /// The flags that say what is printed of a match.
-static SHOWN: [(&str, Show<'static>); 6] = [
+static SHOWN: [(&str, Show<'static>); 4] = [
     ("html", Show::Html),
     ("text", Show::Text),
-    ("md", Show::Markdown),
-    ("commonmark", Show::CommonMark),
     ("count", Show::Count),
     ("csv", Show::Csv),
 ];
 
-fn show_of<'a>(matches: &ArgMatches<'a>) -> Show<'a> {
+fn show_of<'a>(matches: &ArgMatches<'a>) -> Result<Show<'a>, Fault> {
     if let Some(name) = matches.get_str("attr") {
-        return Show::Attr(name);
+        return Ok(Show::Attr(name));
     }
+    match matches.get_str("md") {
+        None => Ok(show_by_flag(matches)),
+        Some("") => Ok(Show::Markdown),
+        Some("crate") => Ok(Show::CrateMarkdown),
+        Some(_) => Err(Fault::Usage("--md: nothing, or crate, after a =")),
+    }
+}
+
+/// Returns what is printed of a match if neither `--attr` nor `--md` says it.
+fn show_by_flag<'a>(matches: &ArgMatches<'a>) -> Show<'a> {
     for (name, show) in &SHOWN {
         if matches.get_flag(name) {
             return *show;

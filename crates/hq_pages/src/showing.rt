@@ -21,26 +21,32 @@ pub fn answer_of(
     if let Show::All = printing.show {
         return Ok(Some(summary_json(alloc, node, file)?));
     }
-    if let Show::Markdown = printing.show
+    if let Show::CrateMarkdown = printing.show
         && !printing.json
     {
-        return Ok(Some(markdown_answer(alloc, node, printing.inner)?));
+        return Ok(Some(crate_answer(alloc, node, printing.inner)?));
     }
     let Some(text) = text_of(node, printing)? else {
         return none_as(alloc, printing.json);
     };
-    if let Show::CommonMark = printing.show
+    if let Show::Markdown = printing.show
         && !printing.json
     {
-        return Ok(Some(apart(text, !printing.inner && is_block(node))?));
+        return Ok(Some(apart(text, !printing.inner && stands_apart(node))?));
     }
     Ok(Some(shown_as(alloc, text, printing.json)?))
 }
 
-/// Returns the text of a match, with an empty line after it if the match is a block.
-fn apart(text: String, is_block: bool) -> Result<String, Fault> {
+/// Returns whether an empty line follows the Markdown of a node, so that the next one doesn't join
+/// it. Items of a list follow each other.
+fn stands_apart(node: &NodeRef<'_>) -> bool {
+    is_block(node) && !node.has_name("li")
+}
+
+/// Returns the text of a match, with an empty line after it if it stands apart.
+fn apart(text: String, stands_apart: bool) -> Result<String, Fault> {
     let mut text = text;
-    if is_block {
+    if stands_apart {
         text.push('\n')?;
     }
     Ok(text)
@@ -62,47 +68,59 @@ pub fn text_of(node: &NodeRef<'_>, printing: Printing<'_>) -> Result<Option<Stri
     match printing.show {
         Show::Attr(name) => attr_of(alloc, node, name, printing.trims),
         Show::Text => Ok(Some(trimmed(alloc, node.text()?, printing.trims)?)),
-        Show::Markdown => Ok(Some(markdown_of(alloc, node, printing.inner)?.0)),
-        Show::CommonMark => Ok(Some(commonmark_of(alloc, node, printing.inner)?)),
+        Show::Markdown => Ok(Some(markdown_of(alloc, node, printing.inner)?)),
+        Show::CrateMarkdown => Ok(Some(crate_markdown_of(alloc, node, printing.inner)?)),
         Show::Csv => Ok(Some(csv_of(node)?)),
         _ if printing.inner => Ok(Some(node.inner_html()?)),
         _ => Ok(Some(node.html()?)),
     }
 }
 
-/// Returns a match as CommonMark, or what is inside it.
-pub fn commonmark_of(alloc: Global, node: &NodeRef<'_>, inner: bool) -> Result<String, Fault> {
+/// Returns a match as Markdown, or what is inside it. An item of a list is written with a marker.
+pub fn markdown_of(alloc: Global, node: &NodeRef<'_>, inner: bool) -> Result<String, Fault> {
     if inner {
         return Ok(commonmark_inside(alloc, node, &Options::new())?);
     }
-    Ok(commonmark(alloc, node, &Options::new())?)
+    let text = commonmark(alloc, node, &Options::new())?;
+    if !node.has_name("li") {
+        return Ok(text);
+    }
+    as_item(alloc, node, text.as_str())
 }
 
-/// Returns what is printed of a match as Markdown. A block, such as a paragraph, is followed by an
-/// empty line, so that the next one doesn't join it.
-fn markdown_answer(alloc: Global, node: &NodeRef<'_>, inner: bool) -> Result<String, Fault> {
-    let (mut text, is_block) = markdown_of(alloc, node, inner)?;
+/// Returns what is printed of a match as the Markdown of the Rust crate. A block, such as a
+/// paragraph, is followed by an empty line, so that the next one doesn't join it.
+fn crate_answer(alloc: Global, node: &NodeRef<'_>, inner: bool) -> Result<String, Fault> {
+    let (mut text, is_block) = crate_parts(alloc, node, inner)?;
     if is_block {
         text.push('\n')?;
     }
     Ok(text)
 }
 
-/// Returns a match as Markdown, or what is inside it, without white space around it, and whether it
-/// is a block. An item of a list is written with a marker: `-`, or `1.` in an ordered list.
-fn markdown_of(alloc: Global, node: &NodeRef<'_>, inner: bool) -> Result<(String, bool), Fault> {
+/// Returns a match as the Markdown of the Rust crate, or what is inside it.
+pub fn crate_markdown_of(alloc: Global, node: &NodeRef<'_>, inner: bool) -> Result<String, Fault> {
+    Ok(crate_parts(alloc, node, inner)?.0)
+}
+
+/// Returns the Markdown of the Rust crate, without white space around it, and whether the node is a
+/// block. An item of a list is written with a marker.
+fn crate_parts(alloc: Global, node: &NodeRef<'_>, inner: bool) -> Result<(String, bool), Fault> {
     let written = serialize_md(node, !inner, None)?;
     let text = written.as_str().trim_start_matches('\n').trim_end();
     if inner || !node.has_name("li") {
         let is_block = !inner && written.ends_with('\n');
         return Ok((String::from_str(alloc, text)?, is_block));
     }
-    let (marker, indent) = if is_in_ordered_list(node) {
-        ("1. ", "   ")
-    } else {
-        ("- ", "  ")
-    };
-    Ok((marked(alloc, text, marker, indent)?, false))
+    Ok((as_item(alloc, node, text)?, false))
+}
+
+/// Returns the text of an item after a marker: `1.` in an ordered list, else `-`.
+fn as_item(alloc: Global, item: &NodeRef<'_>, text: &str) -> Result<String, Fault> {
+    if is_in_ordered_list(item) {
+        return marked(alloc, text, "1. ", "   ");
+    }
+    marked(alloc, text, "- ", "  ")
 }
 
 fn is_in_ordered_list(item: &NodeRef<'_>) -> bool {

@@ -14,6 +14,9 @@ impl<'a> Writer<'a> {
             return self.open_flat(id, tag);
         }
         self.end_paragraph()?;
+        if tag != Tag::Block {
+            self.inlines.drop_box();
+        }
         match tag {
             Tag::Heading(level) => self.begin_heading(id, level),
             Tag::Quote => self.begin_quote(id),

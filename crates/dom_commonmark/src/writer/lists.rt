@@ -1,7 +1,7 @@
 //! Lists and their items.
 
 use crate::lines::Beginning;
-use crate::tags::{Tag, is_blank, tag_of};
+use crate::tags::{Tag, tag_of};
 use crate::writer::{MAX_DEPTH, Task, Writer};
 use dom_nodes::fault::OutOfMemory;
 use dom_nodes::node_id::NodeId;
@@ -22,6 +22,8 @@ pub(super) struct List {
     is_loose: bool,
     /// No item was begun.
     is_first: bool,
+    /// It may follow a paragraph without a blank line.
+    is_direct: bool,
     /// Where the item began that is being written.
     item: Option<Beginning>,
 }
@@ -36,10 +38,6 @@ impl<'a> Writer<'a> {
             return Ok(());
         };
         let list = self.new_list(&node, tag == Tag::OrderedList);
-        if !list.is_ordered || list.number == 1 {
-            let is_direct = self.is_in_tight_item();
-            self.lines.begin_list(is_direct);
-        }
         self.depth = self.depth.saturating_add(1);
         push_list(&mut self.lists, list)?;
         self.push(Task::EndList)?;
@@ -63,18 +61,21 @@ impl<'a> Writer<'a> {
         } else {
             self.lines.bullet(self.options.bullet.as_char(), outer)
         };
+        let number = first_number(node);
         List {
             is_ordered,
-            number: first_number(node),
+            number,
             marker,
             is_loose: is_loose(node),
             is_first: true,
+            is_direct: self.is_in_tight_item() && (!is_ordered || number == 1),
             item: None,
         }
     }
 
     /// Writes a child of a list, and pushes a task for the later ones. What is not an item belongs
-    /// to the item before it.
+    /// to the item before it. Before the first item, a list in the list begins one; anything else
+    /// is written before the list.
     pub(super) fn write_items(&mut self, id: NodeId) -> Result<(), OutOfMemory> {
         let node = NodeRef::new(id, self.tree);
         if let Some(next) = node.next_sibling() {
@@ -85,16 +86,13 @@ impl<'a> Writer<'a> {
             self.begin_item()?;
             return self.begin_plain(id);
         }
-        if is_blank(&node) || tag == Tag::Skipped {
-            return Ok(());
-        }
         if holds_items(&node, tag) {
             return match node.first_child() {
                 Some(first) => self.push(Task::Items { id: first.id }),
                 None => Ok(()),
             };
         }
-        if !self.is_in_item() {
+        if holds_list(&node) && !self.is_in_item() {
             self.begin_item()?;
         }
         self.push(Task::Node { id })
@@ -112,7 +110,9 @@ impl<'a> Writer<'a> {
         let Some(mut list) = self.lists.pop() else {
             return Ok(());
         };
-        if !list.is_first {
+        if list.is_first {
+            self.lines.begin_list(list.is_direct);
+        } else {
             self.lines.part_items(list.is_loose);
         }
         let marker = self.item_marker(list.is_ordered, list.number, list.marker)?;
@@ -138,6 +138,7 @@ impl<'a> Writer<'a> {
     /// Ends the item that is being written, if there is one.
     fn end_item(&mut self) -> Result<(), OutOfMemory> {
         self.end_paragraph()?;
+        self.inlines.drop_box();
         let Some(mut list) = self.lists.pop() else {
             return Ok(());
         };
@@ -152,7 +153,9 @@ impl<'a> Writer<'a> {
         self.end_item()?;
         self.depth = self.depth.saturating_sub(1);
         if let Some(list) = self.lists.pop() {
-            self.lines.end_list(list.marker);
+            if !list.is_first {
+                self.lines.end_list(list.marker);
+            }
         }
         Ok(())
     }
@@ -188,6 +191,20 @@ fn number_in(value: &str) -> u32 {
         Ok(_) => MAX_NUMBER,
         Err(_) => 1,
     }
+}
+
+/// Returns whether a node is a list with children, or one of its children is a list.
+fn holds_list(node: &NodeRef<'_>) -> bool {
+    for child in node.children_it(false) {
+        if is_list(node) || is_list(&child) {
+            return true;
+        }
+    }
+    false
+}
+
+fn is_list(node: &NodeRef<'_>) -> bool {
+    matches!(tag_of(node), Tag::UnorderedList | Tag::OrderedList)
 }
 
 /// Returns whether an element in a list only groups items of it.

@@ -1,7 +1,6 @@
 //! Preformatted text, as fenced code blocks.
 
 use crate::spans::{longest_run, push_times};
-use crate::tags::{Tag, tag_of};
 use crate::writer::Writer;
 use dom_nodes::fault::OutOfMemory;
 use dom_nodes::node_data::NodeData;
@@ -52,23 +51,41 @@ fn without_end(text: &str) -> &str {
 fn content_of(alloc: Global, node: &NodeRef<'_>) -> Result<String, OutOfMemory> {
     let mut content = String::new(alloc);
     for below in node.descendants_it() {
-        if tag_of(&below) == Tag::Break {
-            content.push('\n')?;
-        }
         push_contents(&mut content, &below)?;
     }
     Ok(content)
 }
 
-/// Appends the text of a node that is a text.
+/// Appends the text of a node that is a text, and a line feed for a `br`.
 fn push_contents(content: &mut String, node: &NodeRef<'_>) -> Result<(), OutOfMemory> {
     let Some(node) = node.tree.tree_node(&node.id) else {
         return Ok(());
     };
     match &node.content {
-        NodeData::Text { contents } => Ok(content.push_str(contents.as_str())?),
+        NodeData::Text { contents } => push_lines(content, contents.as_str()),
+        NodeData::Element(element) => push_break(content, element.node_name()),
         _ => Ok(()),
     }
+}
+
+fn push_break(content: &mut String, name: &str) -> Result<(), OutOfMemory> {
+    if name == "br" {
+        content.push('\n')?;
+    }
+    Ok(())
+}
+
+/// Appends a text, with line feeds in place of carriage returns, at which readers end lines.
+fn push_lines(content: &mut String, text: &str) -> Result<(), OutOfMemory> {
+    let mut is_first = true;
+    for piece in text.split('\r') {
+        if !is_first && !piece.starts_with('\n') {
+            content.push('\n')?;
+        }
+        content.push_str(piece)?;
+        is_first = false;
+    }
+    Ok(())
 }
 
 /// Returns the language of a code block: that in a class of the element, of the first element in it
