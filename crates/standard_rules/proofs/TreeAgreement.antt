@@ -551,8 +551,7 @@ row84 = refl
 
 row85 : built
     (ADoctype (doctype_named (codes "html")) ∷ AStart (codes "html") [] false ∷ AStart (codes "head") [] false ∷ AnEnd (codes "head") ∷ AStart (codes "body") [] false ∷ AStart (codes "table") [] false ∷ AnEnd (codes "tr") ∷ AStart (codes "tr") [] false ∷ AnEnd (codes "tbody") ∷ AnEnd (codes "tbody")
-    ∷ []) ≡ Some
-    (doctype_node (codes "html") (element_node (codes "html") [] (element_node (codes "head") [] no_trees (element_node (codes "body") [] (element_node (codes "table") [] (element_node (codes "tbody") [] (element_node (codes "tr") [] no_trees no_trees) no_trees) no_trees) no_trees)) no_trees))
+    ∷ []) ≡ None
 unfolding tree_step run taken act in_scope rules
 row85 = refl
 

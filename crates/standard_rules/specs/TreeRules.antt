@@ -216,10 +216,9 @@ rules InRow =
     (InScope TableScope (These (codes "tr" ∷ []))) (ClearStackTo (codes "tr" ∷ []) ∷ Pop ∷ []) (ReprocessIn InTableBody) ∷
     rule (EndOf (codes "table" ∷ [])) (InScope TableScope (These (codes "tr" ∷ []))) (ClearStackTo (codes "tr" ∷ []) ∷ Pop ∷ [])
     (ReprocessIn InTableBody) ∷
-    rule (EndOf groups) (InScope TableScope Own) (ClearStackTo (codes "tr" ∷ []) ∷ Pop ∷ []) (ReprocessIn InTableBody) ∷
+    rule (EndOf groups) Always ([]) NoRule ∷
     rule (StartOf (groups ++ codes "caption" ∷ codes "col" ∷ codes "colgroup" ∷ codes "tr" ∷ [])) Always ([]) Stay ∷
-    rule (EndOf
-    (groups ++ outer ++ codes "table" ∷ codes "tr" ∷ codes "caption" ∷ codes "col" ∷ codes "colgroup" ∷ codes "td" ∷ codes "th" ∷ []))
+    rule (EndOf (outer ++ codes "table" ∷ codes "tr" ∷ codes "caption" ∷ codes "col" ∷ codes "colgroup" ∷ codes "td" ∷ codes "th" ∷ []))
     Always ([]) Stay ∷
     rule AnythingElse Always ([]) (UseRulesFor InTable) ∷ []
 rules InCell =

@@ -1,0 +1,17 @@
+pub mod Acting
+pub mod Acts
+pub mod Choosing
+pub mod Computed
+pub mod Deciding
+pub mod Following
+pub mod Listing
+pub mod Names
+pub mod Pages
+pub mod Parts
+pub mod Preorder
+pub mod Resetting
+pub mod Stack
+pub mod Stepping
+pub mod Steps
+pub mod Store
+pub mod Writing
