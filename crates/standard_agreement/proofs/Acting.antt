@@ -70,7 +70,7 @@ adopted_top : (t : GrowingTree) (n : ℕ) (ns name : List ℕ) (again : GrowingT
 adopted_top t n ns name again is =
     ap (λ s. elim (is_member n s) [
       | false ↦ unlisted n t
-      | true ↦ elim (in_scope (nat_eq n) (ends_scope Scope t) s) [ | false ↦ t | true ↦ adopted_once n (last_special t None (before_in n s)) again t ]
+      | true ↦ elim (in_scope (nat_eq n) (ends_scope Scope t) s) [ false ↦ t | true ↦ adopted_once n (last_special t None (before_in n s)) again t ]
     ]) is
     ∙ ap (λ x. elim (x || is_member n ns) [
       | false ↦ unlisted n t

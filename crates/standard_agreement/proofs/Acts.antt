@@ -192,8 +192,11 @@ set_form_act around (Some name) b after c is f s h =
           fits = p.fits;
           stack = p.stack;
           listed = p.listed;
-          pointer = (o.attrs, subst (λ other. Linked c.tree.nodes b.next b.document (o ∷ os) o.number other o.attrs (free b.document os))
-              (n ∙ (bytes_eq-Decides name (codes "form")).0 is) (current_linked b.document o os b.listed b.form b.next around c.tree p));
+          pointer = (
+            o.attrs,
+            subst (λ other. Linked c.tree.nodes b.next b.document (o ∷ os) o.number other o.attrs (free b.document os))
+                (n ∙ (bytes_eq-Decides name (codes "form")).0 is) (current_linked b.document o os b.listed b.form b.next around c.tree p),
+          );
           below = p.below;
           fostering = p.fostering;
           around = p.around;

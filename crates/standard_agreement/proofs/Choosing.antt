@@ -362,4 +362,3 @@ in_halves test (suc n) (name ∷ names) h k = by_first (test name) h (λ j. in_h
     by_first : (x : Bool) → x && list_all test (take n names) ≡ true → (list_all test (take n names) ≡ true → list_all test names ≡ true) → x && list_all test names ≡ true
     by_first true j later = later j
     by_first false j later = cc
-

@@ -58,7 +58,12 @@ unfolding rules old_rules
 in_body_starts5 = refl
 
 in_body_starts : list_all (start_agrees O.InBody) start_names ≡ true
-in_body_starts = (in_halves (start_agrees O.InBody) 20 start_names in_body_starts0 (in_halves (start_agrees O.InBody) 20 (drop 20 start_names) in_body_starts1 (in_halves (start_agrees O.InBody) 20 (drop 20 (drop 20 start_names)) in_body_starts2 (in_halves (start_agrees O.InBody) 20 (drop 20 (drop 20 (drop 20 start_names))) in_body_starts3 (in_halves (start_agrees O.InBody) 20 (drop 20 (drop 20 (drop 20 (drop 20 start_names)))) in_body_starts4 (in_halves (start_agrees O.InBody) 20 (drop 20 (drop 20 (drop 20 (drop 20 (drop 20 start_names))))) in_body_starts5 refl))))))
+in_body_starts =
+    (in_halves (start_agrees O.InBody) 20 start_names in_body_starts0
+    (in_halves (start_agrees O.InBody) 20 (drop 20 start_names) in_body_starts1
+    (in_halves (start_agrees O.InBody) 20 (drop 20 (drop 20 start_names)) in_body_starts2
+    (in_halves (start_agrees O.InBody) 20 (drop 20 (drop 20 (drop 20 start_names))) in_body_starts3
+    (in_halves (start_agrees O.InBody) 20 (drop 20 (drop 20 (drop 20 (drop 20 start_names)))) in_body_starts4 (in_halves (start_agrees O.InBody) 20 (drop 20 (drop 20 (drop 20 (drop 20 (drop 20 start_names))))) in_body_starts5 refl))))))
 
 in_body_ends0 : list_all (end_agrees O.InBody) (take 20 known) ≡ true
 unfolding rules old_rules
@@ -85,7 +90,12 @@ unfolding rules old_rules
 in_body_ends5 = refl
 
 in_body_ends : list_all (end_agrees O.InBody) known ≡ true
-in_body_ends = (in_halves (end_agrees O.InBody) 20 known in_body_ends0 (in_halves (end_agrees O.InBody) 20 (drop 20 known) in_body_ends1 (in_halves (end_agrees O.InBody) 20 (drop 20 (drop 20 known)) in_body_ends2 (in_halves (end_agrees O.InBody) 20 (drop 20 (drop 20 (drop 20 known))) in_body_ends3 (in_halves (end_agrees O.InBody) 20 (drop 20 (drop 20 (drop 20 (drop 20 known)))) in_body_ends4 (in_halves (end_agrees O.InBody) 20 (drop 20 (drop 20 (drop 20 (drop 20 (drop 20 known))))) in_body_ends5 refl))))))
+in_body_ends =
+    (in_halves (end_agrees O.InBody) 20 known in_body_ends0
+    (in_halves (end_agrees O.InBody) 20 (drop 20 known) in_body_ends1
+    (in_halves (end_agrees O.InBody) 20 (drop 20 (drop 20 known)) in_body_ends2
+    (in_halves (end_agrees O.InBody) 20 (drop 20 (drop 20 (drop 20 known))) in_body_ends3
+    (in_halves (end_agrees O.InBody) 20 (drop 20 (drop 20 (drop 20 (drop 20 known)))) in_body_ends4 (in_halves (end_agrees O.InBody) 20 (drop 20 (drop 20 (drop 20 (drop 20 (drop 20 known))))) in_body_ends5 refl))))))
 
 in_body_others : others_agree O.InBody ≡ true
 unfolding rules old_rules

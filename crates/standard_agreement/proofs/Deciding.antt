@@ -25,7 +25,8 @@ use Rattle.standard_agreement.proofs.Stack.{AreKnown, kind_now}
 use Rattle.standard_agreement.proofs.Listing.{FormIs, FoundIs, last_is}
 use Rattle.standard_agreement.proofs.Parts.{Parts, alike_self, has_scope, new_scope}
 use Rattle.standard_agreement.proofs.Acting.{ContextIs, Stands, top_test}
-use Rattle.standard_agreement.proofs.Choosing.{Case, Ever, Never, Unsure, Verdict, agrees, agrees_on, by_case, case, char_like, decided, follows, ignored_in, is_always, is_none, is_outside, is_scope, like, like_lists, like_names, likeness, new_list, none_among, old_list, resolved, same_lists, tested, unsure_or, verdict}
+use Rattle.standard_agreement.proofs.Choosing.{Case, Ever, Never, Unsure, Verdict, agrees, agrees_on, by_case, case, char_like, decided, follows, ignored_in, is_always, is_none, is_outside, is_scope, like, like_lists, like_names, likeness, new_list, none_among, old_list, resolved, same_lists}
+use Rattle.standard_agreement.proofs.Choosing.{tested, unsure_or, verdict}
 
 abbrev pub is_doctype : Token → Bool
 is_doctype (ADoctype doctype) = true

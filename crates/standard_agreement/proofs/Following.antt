@@ -20,7 +20,8 @@ use Rattle.standard_agreement.proofs.Names.{alike}
 use Rattle.standard_agreement.proofs.Parts.{pop_op}
 use Rattle.standard_agreement.proofs.Acting.{Stands, stack_act, top_test}
 use Rattle.standard_agreement.proofs.Acts.{Done, FreshIs, Quiet, act_sound, by_stack}
-use Rattle.standard_agreement.proofs.Choosing.{Case, Ever, Never, Unsure, Verdict, ends, first_fits, fits_act, follows, fresh_after, goes_fit, is_empty, is_idle, is_later, is_mode, is_none, is_text_state, last_act, like_lists, new_list, only_reprocess, only_text, pops_if, switch_of, to_mode, verdict, without_first, without_idle}
+use Rattle.standard_agreement.proofs.Choosing.{Case, Ever, Never, Unsure, Verdict, ends, first_fits, fits_act, follows, fresh_after, goes_fit, is_empty, is_idle, is_later, is_mode, is_none, is_text_state, last_act, like_lists, new_list, only_reprocess, only_text, pops_if, switch_of, to_mode}
+use Rattle.standard_agreement.proofs.Choosing.{verdict, without_first, without_idle}
 use Rattle.standard_agreement.proofs.Deciding.{CaseHolds, IsPage, VerdictIs, alike_lists, both, new_names, verdict_is}
 
 -- ---- modes
@@ -340,27 +341,56 @@ last_sound around resets again more b after c calls _ _ acts e reads leaves ends
 idle_run : (around : Option Kind) (turn : Option N.Mode) (b : Building) (c : WholeBuilding) (action : N.Action) → is_idle action ≡ true → Run around turn b c →
     Run around turn b (perform action c) × ((perform action c).token ≡ c.token)
 unfolding perform
-idle_run around turn b c N.FramesetNotOk h r = (record {
-  stands = record { parts = r.stands.parts; context = r.stands.context; templates = r.stands.templates; quirks = r.stands.quirks; skip = r.stands.skip };
-  attrs = r.attrs; quiet = r.quiet; mode = r.mode; original = r.original; later = r.later; silent = r.silent;
-}, refl)
-idle_run around turn b c N.SetHeadPointer h r = (record {
-  stands = record {
-    parts = record {
-      fits = r.stands.parts.fits; stack = r.stands.parts.stack; listed = r.stands.parts.listed; pointer = r.stands.parts.pointer; below = r.stands.parts.below;
-      fostering = r.stands.parts.fostering; around = r.stands.parts.around;
+idle_run around turn b c N.FramesetNotOk h r = (
+  record {
+    stands = record { parts = r.stands.parts; context = r.stands.context; templates = r.stands.templates; quirks = r.stands.quirks; skip = r.stands.skip };
+    attrs = r.attrs;
+    quiet = r.quiet;
+    mode = r.mode;
+    original = r.original;
+    later = r.later;
+    silent = r.silent;
+  },
+  refl,
+)
+idle_run around turn b c N.SetHeadPointer h r = (
+  record {
+    stands = record {
+      parts = record {
+        fits = r.stands.parts.fits;
+        stack = r.stands.parts.stack;
+        listed = r.stands.parts.listed;
+        pointer = r.stands.parts.pointer;
+        below = r.stands.parts.below;
+        fostering = r.stands.parts.fostering;
+        around = r.stands.parts.around;
+      };
+      context = r.stands.context;
+      templates = r.stands.templates;
+      quirks = r.stands.quirks;
+      skip = r.stands.skip;
     };
-    context = r.stands.context; templates = r.stands.templates; quirks = r.stands.quirks; skip = r.stands.skip;
-  };
-  attrs = r.attrs; quiet = r.quiet; mode = r.mode; original = r.original; later = r.later; silent = r.silent;
-}, refl)
+    attrs = r.attrs;
+    quiet = r.quiet;
+    mode = r.mode;
+    original = r.original;
+    later = r.later;
+    silent = r.silent;
+  },
+  refl,
+)
 idle_run around turn b c _ h r = cc
 
 -- the frameset flag of the one definition is not looked at
 bare_run : (around : Option Kind) (turn : Option N.Mode) (b : Building) (c : WholeBuilding) → Run around turn b c → Run around turn (record b { frameset_ok = false }) c
 bare_run around turn b c r = record {
   stands = record { parts = r.stands.parts; context = r.stands.context; templates = r.stands.templates; quirks = r.stands.quirks; skip = r.stands.skip };
-  attrs = r.attrs; quiet = r.quiet; mode = r.mode; original = r.original; later = r.later; silent = r.silent;
+  attrs = r.attrs;
+  quiet = r.quiet;
+  mode = r.mode;
+  original = r.original;
+  later = r.later;
+  silent = r.silent;
 }
 
 pub record Facts (around : Option Kind) (t : Token) (next : O.Next) (turn : Option N.Mode) (old : List O.Action) (b : Building) (c : WholeBuilding) : Type 0 where
@@ -414,8 +444,13 @@ pop_sound around page ignored t again more next acts after rest turn N.Pop (N.is
     popped_one (Some mid) g k =
         let d : Done around None b mid c (with_tree c (with_stack c.tree (drop 1 c.tree.stack))) = by_stack around popped (λ u. with_stack u (drop 1 u.stack)) pop_op b mid c f.run.stands g in
         rest None turn None old mid (with_tree c (with_stack c.tree (drop 1 c.tree.stack))) e
-        (record { token = f.token; run = run_done around turn b mid c (with_tree c (with_stack c.tree (drop 1 c.tree.stack))) f.run d.0 d.2;
-        comments = comments_first (O.PopIf others) old t f.comments; leaves = λ k. d.2.mode ∙ f.leaves k; uses = λ m k. ap (allowed m) d.2.mode ∙ f.uses m k }) tt tt k
+        (record {
+          token = f.token;
+          run = run_done around turn b mid c (with_tree c (with_stack c.tree (drop 1 c.tree.stack))) f.run d.0 d.2;
+          comments = comments_first (O.PopIf others) old t f.comments;
+          leaves = λ k. d.2.mode ∙ f.leaves k;
+          uses = λ m k. ap (allowed m) d.2.mode ∙ f.uses m k;
+        }) tt tt k
 
     by_tests : (x y : Bool) → x ≡ y → option_and_then (goes_on again next) (option_and_then (all_acts old t) (elim y [ true ↦ on_stack b (popped b.stack) | false ↦ Some b ])) ≡ Some after →
         Outcome around (performed more acts) t (elim (x && true) [ true ↦ with_tree c (with_stack c.tree (drop 1 c.tree.stack)) | false ↦ c ]) after
@@ -450,8 +485,13 @@ act_first around page ignored t again more next acts after rest fresh turn actio
         act_sound around fresh action a b mid c (ap (λ u. fits_act (own_name u) fresh action a) f.token ∙ is) f.run.stands g f.run.attrs
         (λ j. let w = comment_is a old t f.comments j in (w.0, f.token ∙ w.1)) (ap (λ u. act a u b) f.token ∙ i) in
         rest (fresh_after (own_name t) action) turn None old mid (perform action c) e
-        (record { token = d.2.token ∙ f.token; run = run_done around turn b mid c (perform action c) f.run d.0 d.2; comments = comments_first a old t f.comments;
-        leaves = λ k. d.2.mode ∙ f.leaves k; uses = λ m k. ap (allowed m) d.2.mode ∙ f.uses m k })
+        (record {
+          token = d.2.token ∙ f.token;
+          run = run_done around turn b mid c (perform action c) f.run d.0 d.2;
+          comments = comments_first a old t f.comments;
+          leaves = λ k. d.2.mode ∙ f.leaves k;
+          uses = λ m k. ap (allowed m) d.2.mode ∙ f.uses m k;
+        })
         (subst (λ u. FreshIs (fresh_after (own_name u) action) mid (perform action c)) f.token d.1) tt k
 
 pub follows_sound : (around : Option Kind) (page : Bool) → IsPage page around → ResetsWell around → (t : Token) (again : O.Mode → Building → Option Building)
@@ -463,8 +503,8 @@ follows_sound around page is resets t again more calls ignored ignores next read
       c,
       refl,
       subst (λ u. Meets around u after c) f.token
-      (ends_sound around again more ignored ignores turn next b after c parts.1 f.run
-      (sym (ap (λ l. option_and_then (goes_on again next) (all_acts l t b)) (nothing_left old parts.0)) ∙ h)),
+          (ends_sound around again more ignored ignores turn next b after c parts.1 f.run
+          (sym (ap (λ l. option_and_then (goes_on again next) (all_acts l t b)) (nothing_left old parts.0)) ∙ h)),
     )
 follows_sound around page is resets t again more calls ignored ignores next reads ends_tag after (N.goes way ∷ acts) fresh turn now old b c e f g w h =
     let parts = both (is_empty old) (is_empty acts && goes_fit turn next way) e in
@@ -503,7 +543,12 @@ follows_sound around page is resets t again more calls ignored ignores next read
           token = f.token;
           run = record {
             stands = record { parts = f.run.stands.parts; context = f.run.stands.context; templates = f.run.stands.templates; quirks = f.run.stands.quirks; skip = f.run.stands.skip };
-            attrs = f.run.attrs; quiet = f.run.quiet; mode = refl; original = f.run.original; later = f.run.later; silent = f.run.silent;
+            attrs = f.run.attrs;
+            quiet = f.run.quiet;
+            mode = refl;
+            original = f.run.original;
+            later = f.run.later;
+            silent = f.run.silent;
           };
           comments = f.comments;
           leaves = f.leaves;

@@ -112,9 +112,11 @@ past_is t document names numbered tests o (p ∷ os) rest h f =
 
 pub beyond_is : (t : GrowingTree) (document : Trees) (named : List ℕ → Bool) (numbered : ℕ → Bool) → Tests t named numbered → named (codes "html") ≡ false → (o : Open) (os : List Open) →
     Fits t.nodes document (o ∷ os) → Left t document (beyond numbered (numbers document (o ∷ os))) (popped_while_from named o os)
-beyond_is t document named numbered tests root o [] f =
-    (f, ap (λ x. elim x [ true ↦ [] | false ↦ numbers document (o ∷ []) ])
-    (tests (free document []) o.name o.attrs (kind_now t document o [] [] f.0) f.2.0 ∙ ap named f.3 ∙ root))
+beyond_is t document named numbered tests root o [] f = (
+  f,
+  ap (λ x. elim x [ true ↦ [] | false ↦ numbers document (o ∷ []) ])
+      (tests (free document []) o.name o.attrs (kind_now t document o [] [] f.0) f.2.0 ∙ ap named f.3 ∙ root),
+)
 beyond_is t document named numbered tests root o (p ∷ os) f =
     by_test (named o.name) (tests (free document (p ∷ os)) o.name o.attrs (kind_now t document o (p ∷ os) [] f.0) f.2.0)
     (beyond_is t document named numbered tests root (holding p o) os (fits_popped t.nodes document o p os f))

@@ -169,8 +169,11 @@ end_agreeing : (around : Option Kind) (mode : O.Mode) (name : List ℕ) → end_
 end_agreeing around O.AfterBody name h html = by_name (bytes_eq name (codes "html")) refl h
   where
     by_name : (x : Bool) → bytes_eq name (codes "html") ≡ x → x || agree_in O.AfterBody (AnEnd name) ≡ true → Agreeing around O.AfterBody (AnEnd name)
-    by_name true e k = (true, λ p. html e,
-      ap (λ n. agrees true (AnEnd n) None (rules N.AfterBody) (old_rules O.AfterBody)) ((bytes_eq-Decides name (codes "html")).0 e) ∙ html_ends)
+    by_name true e k = (
+      true,
+      λ p. html e,
+      ap (λ n. agrees true (AnEnd n) None (rules N.AfterBody) (old_rules O.AfterBody)) ((bytes_eq-Decides name (codes "html")).0 e) ∙ html_ends,
+    )
     by_name false e k = (false, no_page around, k)
 end_agreeing around _ name h html = (false, no_page around, h)
 

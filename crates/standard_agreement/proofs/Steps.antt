@@ -192,8 +192,13 @@ lagging_step page around is t plain b after c l h =
 
     still : (x : WholeBuilding) → Stands around b (flushed c) → x.skip ≡ false → x.quirks ≡ c.quirks → x.template_modes ≡ c.template_modes → x.tree ≡ (flushed c).tree → Stands around b0 x
     still x s skip quirks modes tree =
-        record { parts = subst (λ (u : GrowingTree). Parts b.document b.stack b.listed b.form b.next around u) (sym tree) s.parts; context = s.context;
-        templates = modes ∙ s.templates; quirks = quirks ∙ s.quirks; skip = skip }
+        record {
+          parts = subst (λ (u : GrowingTree). Parts b.document b.stack b.listed b.form b.next around u) (sym tree) s.parts;
+          context = s.context;
+          templates = modes ∙ s.templates;
+          quirks = quirks ∙ s.quirks;
+          skip = skip;
+        }
 
     by_char : (d : ℕ) → old_run 12 (AChar d) b.mode b0 ≡ Some after → Outcome around (run deep N.Dispatcher) (AChar d) (with_next (AChar d) c) after
     by_char d k =
