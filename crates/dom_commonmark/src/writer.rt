@@ -223,10 +223,15 @@ impl<'a> Writer<'a> {
 
     /// Begins a marked text. Within one of the same kind nothing is marked.
     fn begin_mark(&mut self, id: NodeId, kind: MarkKind) -> Result<(), OutOfMemory> {
+        self.put_mark(id, kind)?;
+        self.push_children(id)
+    }
+
+    fn put_mark(&mut self, id: NodeId, kind: MarkKind) -> Result<(), OutOfMemory> {
         if self.inlines.put_mark(kind, id)? {
             self.push(Task::EndMark)?;
         }
-        self.push_children(id)
+        Ok(())
     }
 
     /// Begins a link. For one without an address, and for one in another link, the contents are
@@ -245,11 +250,16 @@ impl<'a> Writer<'a> {
     }
 
     fn begin_code(&mut self, id: NodeId) -> Result<(), OutOfMemory> {
+        self.put_code()?;
+        self.push_children(id)
+    }
+
+    fn put_code(&mut self) -> Result<(), OutOfMemory> {
         if !self.inlines.is_in_code() {
             self.inlines.set_code(true);
             self.push(Task::EndCode)?;
         }
-        self.push_children(id)
+        Ok(())
     }
 
     /// Writes an image; nothing for an image without an address.

@@ -1,5 +1,6 @@
 //! Lists and their items.
 
+use crate::flanks::MarkKind;
 use crate::lines::Beginning;
 use crate::tags::{Tag, tag_of};
 use crate::writer::{MAX_DEPTH, Task, Writer};
@@ -87,15 +88,27 @@ impl<'a> Writer<'a> {
             return self.begin_plain(id);
         }
         if holds_items(&node, tag) {
-            return match node.first_child() {
-                Some(first) => self.push(Task::Items { id: first.id }),
-                None => Ok(()),
-            };
+            return self.begin_group(&node, tag);
         }
-        if holds_list(&node) && !self.is_in_item() {
+        if holds_list(&node, tag) && !self.is_in_item() {
             self.begin_item()?;
         }
         self.push(Task::Node { id })
+    }
+
+    /// Begins an element around items of a list, which marks the contents of each.
+    fn begin_group(&mut self, node: &NodeRef<'_>, tag: Tag) -> Result<(), OutOfMemory> {
+        match tag {
+            Tag::Strong => self.put_mark(node.id, MarkKind::Strong)?,
+            Tag::Emphasis => self.put_mark(node.id, MarkKind::Emphasis)?,
+            Tag::Strike => self.put_mark(node.id, MarkKind::Strike)?,
+            Tag::Code => self.put_code()?,
+            _ => {}
+        }
+        match node.first_child() {
+            Some(first) => self.push(Task::Items { id: first.id }),
+            None => Ok(()),
+        }
     }
 
     fn is_in_item(&self) -> bool {
@@ -193,10 +206,16 @@ fn number_in(value: &str) -> u32 {
     }
 }
 
-/// Returns whether a node is a list with children, or one of its children is a list.
-fn holds_list(node: &NodeRef<'_>) -> bool {
+/// Returns whether a node is a list with children, or a block of which a child is a list.
+fn holds_list(node: &NodeRef<'_>, tag: Tag) -> bool {
+    if is_list(node) {
+        return node.first_child().is_some();
+    }
+    if tag != Tag::Block {
+        return false;
+    }
     for child in node.children_it(false) {
-        if is_list(node) || is_list(&child) {
+        if is_list(&child) {
             return true;
         }
     }
@@ -207,9 +226,17 @@ fn is_list(node: &NodeRef<'_>) -> bool {
     matches!(tag_of(node), Tag::UnorderedList | Tag::OrderedList)
 }
 
+fn groups_items(tag: Tag) -> bool {
+    match tag {
+        Tag::Block | Tag::Inline | Tag::Link | Tag::Code => true,
+        Tag::Strong | Tag::Emphasis | Tag::Strike => true,
+        _ => false,
+    }
+}
+
 /// Returns whether an element in a list only groups items of it.
 fn holds_items(node: &NodeRef<'_>, tag: Tag) -> bool {
-    if !matches!(tag, Tag::Block | Tag::Inline | Tag::Link) {
+    if !groups_items(tag) {
         return false;
     }
     for child in node.children_it(false) {
