@@ -1,4 +1,4 @@
--- Several texts in one answer: all of them, one behind the other, and the length of each.
+-- Several texts in one answer: all of them, one after the other, and the length of each.
 use Rattle.std.specs.Prelude.{ℕ, ◌≡◌, List, [], ◌∷◌, Option, None, Some, Result, IfOk, length, map, string_bytes}
 use Rattle.std.specs.List.{flat_map}
 use Rattle.dom_nodes.specs.declared.name.Attr.{Attr}

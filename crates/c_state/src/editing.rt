@@ -80,7 +80,7 @@ impl State {
     }
 
     /// Reads explicit markup and puts it at the node, at the place of that number: in the place of
-    /// its children (0), behind them (1), in front of them (2), right before the node (3), right
+    /// its children (0), after them (1), in front of them (2), right before the node (3), right
     /// after it (4), or in its place (5). Refused as `Argument` for any other number.
     pub fn put_html(&mut self, node: u32, place: u32, html: &[u8]) -> Result<usize, Fault>
         ensures { ChangesTree result self.old self.new (IsPut place node html.now) }

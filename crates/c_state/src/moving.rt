@@ -39,7 +39,7 @@ impl State {
         Ok(made.value())
     }
 
-    /// Moves the node with what is below it to the place of that number: behind the children of the
+    /// Moves the node with what is below it to the place of that number: after the children of the
     /// target (1), in front of them (2), right before the target (3), right after it (4), or in its
     /// place (5). Refused as `Argument` for any other number.
     pub fn move_node(&mut self, node: u32, place: u32, target: u32) -> Result<usize, Fault>

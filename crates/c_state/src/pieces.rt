@@ -7,7 +7,7 @@ ghost use Rattle.c_state.specs.Pieces.{piece_length, piece_text};
 use crate::fault::Fault;
 use std::alloc::Global;
 
-/// Several texts: all of them, one behind the other, and the length of each.
+/// Several texts: all of them, one after the other, and the length of each.
 #[derive(Drop)]
 pub struct Pieces {
     pub text: String,

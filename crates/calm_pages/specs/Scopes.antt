@@ -16,7 +16,7 @@ scope_below scope (AnElement element) = if admits scope (kind_of element.name.lo
     else None
 scope_below scope _ = None
 
--- the scope of a child: the first child is in the scope itself, a later one in what is behind it
+-- the scope of a child: the first child is in the scope itself, a later one in what is after it
 abbrev pub scope_at : Bool → Scope → Scope
 scope_at is_first scope = if is_first then scope else behind scope
 

@@ -12,7 +12,7 @@ use Rattle.dom_clean.specs.Written.{attribute_text}
 abbrev pub texts : List Attribute → List ℕ
 texts attributes = flat_map attribute_text attributes
 
--- what is still to be written behind so many attributes
+-- what is still to be written after so many attributes
 abbrev pub left_at : Policy → List ℕ → List Attr → ℕ → List ℕ
 left_at policy element attrs at = texts (attrs_behind policy element (take at attrs) (drop at attrs))
 
@@ -29,6 +29,6 @@ step policy element attrs at d before attr text now whole h before_is attr_is no
     ap (λ t. t ++ texts rest) (now_is ∙ ap (λ b. text ++ texts (cleaned_attr policy element b attr)) before_is ∙ ap (λ a. text ++ texts (cleaned_attr policy element (take at attrs) a)) attr_is)
     ∙ append_assoc text mine (texts rest) ∙ ap (λ t. text ++ t) (sym cut) ∙ is
 
--- behind all of them nothing is
+-- after all of them nothing is
 pub left_none : (policy : Policy) (element : List ℕ) (attrs : List Attr) (at : ℕ) → length attrs ≤ at → left_at policy element attrs at ≡ []
 left_none policy element attrs at all = ap (λ l. texts (attrs_behind policy element (take at attrs) l)) (drop_all at attrs all)

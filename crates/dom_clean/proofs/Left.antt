@@ -31,7 +31,7 @@ use Rattle.dom_clean.specs.Policy.{Policy}
 both : (a b : Bool) → a ≡ true → b ≡ true → (a && b) ≡ true
 both a b p q = rw (p, q) refl
 
--- what stands behind nodes stands as they do
+-- what stands after nodes stands as they do
 abbrev IsSettled : Scope → Type 0
 IsSettled scope = behind scope ≡ scope
 

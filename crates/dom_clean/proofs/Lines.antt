@@ -45,7 +45,7 @@ text_char_other c f =
     (λ _. cond_both (c == 60) (codes "&lt;") _ IsOther (λ _. record { stays = λ rest. refl })
     (λ _. cond_both (c == 62) (codes "&gt;") _ IsOther (λ _. record { stays = λ rest. refl }) (λ _. spaced_other c f)))
 
--- the characters behind line feeds
+-- the characters after line feeds
 abbrev drop_lines : List ℕ → List ℕ
 drop_lines [] = []
 drop_lines (c ∷ cs) = if c == 10 then drop_lines cs else c ∷ cs

@@ -1,4 +1,4 @@
--- Texts that can be written, one behind the other.
+-- Texts that can be written, one after the other.
 use Rattle.std.proofs.Common.{ℕ, List, [], ◌∷◌, ◌++◌, sym, subst}
 use Rattle.std.specs.Str.{chars}
 use Rattle.std.proofs.lemmas.Str.{IsUtf8-append, chars-append}

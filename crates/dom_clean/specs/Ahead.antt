@@ -34,11 +34,11 @@ abbrev pub is_nil : List ℕ → Bool
 is_nil [] = true
 is_nil (b ∷ text) = false
 
--- what is written of a text; right behind the start tag of a `pre` no line feeds are
+-- what is written of a text; right after the start tag of a `pre` no line feeds are
 abbrev pub seen : Bool → List ℕ → List ℕ
 seen in_front text = if in_front then after_lines text else text
 
--- whether what follows a node stands right behind the start tag of a `pre`
+-- whether what follows a node stands right after the start tag of a `pre`
 abbrev pub front_below : Bool → NodeData → Bool
 front_below in_front (Text contents) = in_front && is_nil (after_lines (spellable contents))
 front_below in_front (AnElement element) = not (is_among element.name.local void_names) && is_pre (kind_of element.name.local)
@@ -48,7 +48,7 @@ abbrev pub front_after : Fate → Bool → NodeData → Bool
 front_after Stays in_front content = front_below in_front content
 front_after fate in_front content = in_front
 
--- the same behind the end of a node
+-- the same after the end of a node
 abbrev pub front_past : Bool → Option NodeData → Bool
 front_past in_front (Some (AnElement element)) = false
 front_past in_front content = in_front

@@ -37,7 +37,7 @@ abbrev pub without_lines : ValueTrees → ValueTrees
 without_lines (text_node contents later) = text_or (after_lines contents) later (without_lines later)
 without_lines trees = trees
 
--- what an element of that kind is left with: a line feed right behind the tag of a `pre` is none of its text
+-- what an element of that kind is left with: a line feed right after the tag of a `pre` is none of its text
 abbrev pub held_by : ElementCategory → ValueTrees → ValueTrees
 held_by Pre trees = without_lines trees
 held_by kind trees = trees

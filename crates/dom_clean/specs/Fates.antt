@@ -131,13 +131,13 @@ allowed_attr policy element name value = kept_attr policy element name (cleaned_
 abbrev pub is_named : List ℕ → Attr → Bool
 is_named name attr = is_nowhere attr.name.ns && bytes_eq attr.name.local name
 
--- what is left of an attribute behind those: it is the first of its name
+-- what is left of an attribute after those: it is the first of its name
 abbrev pub cleaned_attr : Policy → List ℕ → List Attr → Attr → List Attribute
 cleaned_attr policy element before attr =
     if is_nowhere attr.name.ns && not (list_any (is_named attr.name.local) before)
     then allowed_attr policy element attr.name.local (spellable attr.value) else []
 
--- what is left of attributes behind those
+-- what is left of attributes after those
 abbrev pub attrs_behind : Policy → List ℕ → List Attr → List Attr → List Attribute
 attrs_behind policy element before [] = []
 attrs_behind policy element before (attr ∷ later) =
