@@ -11,7 +11,7 @@ sys.path.insert(0, str(ROOT / "tests" / "standard"))
 import parsing  # noqa: E402
 
 # how many rows have a tree by the tables
-COMPARED = 488
+COMPARED = 487
 DOCTYPE = "<!DOCTYPE html>"
 
 
