@@ -41,23 +41,24 @@ fn run_command_line(rt: &HostRuntime) -> Result<u8, Fault> {
     match command(rt.alloc())?.try_get_matches_from(words.as_slice()) {
         Ok(matches) => {
             let terminal = rt.stdout().is_terminal();
-            do_files(rt, &checked(Options::new(rt, &matches, terminal), marked)?)
+            match Options::new(rt, &matches, terminal) {
+                Ok(options) => do_named(rt, &options, marked),
+                Err(_) if marked > 0 => Err(Fault::Argument),
+                Err(fault) => Err(fault),
+            }
         }
         Err(_) if marked > 0 => Err(Fault::Argument),
         Err(refused) => Ok(show(rt, &refused)),
     }
 }
 
-/// Returns the options of a command line with that many words that aren't UTF-8. Fails if one of
-/// these isn't the name of a file.
-fn checked<'a>(options: Result<Options<'a>, Fault>, marked: usize) -> Result<Options<'a>, Fault> {
-    if marked == 0 {
-        return options;
+/// Prints what is asked for of each file, and returns the exit status. Fails if one of the `marked`
+/// words, which aren't UTF-8, isn't the name of a file.
+fn do_named(rt: &HostRuntime, options: &Options<'_>, marked: usize) -> Result<u8, Fault> {
+    if marked > 0 && count_marked_names(&options.files) != marked {
+        return Err(Fault::Argument);
     }
-    match options {
-        Ok(options) if count_marked_names(&options.files) == marked => Ok(options),
-        _ => Err(Fault::Argument),
-    }
+    do_files(rt, options)
 }
 
 /// Prints what is wrong with the command line, or the text of --help or --version, and returns the
