@@ -375,7 +375,8 @@ DQ_API int64_t dq_select_attrs(dq_document *document, uint32_t root, const char 
  * elements. A name is refused as DQ_BAD_NAME
  * if it would be read again as something else: the name of an element begins with a letter from A to z, and no name has
  * white space, U+0000, / or >, that of an attribute no = either. Texts are escaped where they are written, but not in
- * script, style, xmp, iframe, noembed, noframes and plaintext: there a text that has the end tag ends the element. */
+ * script, style, xmp, iframe, noembed, noframes and plaintext: there a text that has the end tag ends the element, and in
+ * a script <!-- can hide it. docs/C.md says which calls to guard. */
 
 /* Gives the element's first attribute of that local name the value, or adds one. DQ_BAD_KIND, DQ_BAD_NAME. */
 DQ_API int64_t dq_set_attr(dq_document *document, uint32_t node, const char *name, size_t name_length, const char *value, size_t value_length);

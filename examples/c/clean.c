@@ -1,4 +1,4 @@
-/* Prints what a policy leaves of the comment on standard input: a few harmless elements, links, and no scripts.
+/* Prints what a policy leaves of the comment on standard input, of less than 64 KiB: a few harmless elements, links, and no scripts.
  *
  *   gcc -o clean clean.c $(pkg-config --cflags --libs dom_query)
  *   echo '<p onclick=x()>Tea <a href=javascript:x()>free</a><script>x()</script>' | ./clean
@@ -28,6 +28,10 @@ static int64_t make(dq_policy *policy) {
 int main(void) {
     static char comment[1 << 16];
     size_t length = fread(comment, 1, sizeof comment, stdin);
+    if (length == sizeof comment) {
+        fprintf(stderr, "clean: the comment is too long\n");
+        return 1;
+    }
     dq_policy policy = DQ_POLICY_INIT;
     dq_string cleaned = DQ_STRING_INIT;
     int64_t answer = make(&policy);

@@ -63,11 +63,17 @@ def check_raw(name: str | None, text: str) -> None:
         raise EditError(f"the text would not be read again as the text of a {name}", BAD_NAME)
 
 
+# Where a comment begins that isn't ended at once, where one ends, and where a start tag of a script begins.
+_IN_SCRIPTS = re.compile(r"<!--(?!-?>)|-->|<script(?=[\t\n\f\r />])", re.IGNORECASE)
+
+
 def _hides_end(text: str) -> bool:
     """Whether a script with that text would not end at its end tag: it has a start tag of a script in a comment."""
-    for begin in re.finditer("<!--", text):
-        end = text.find("-->", begin.start() + 2)
-        if re.search(r"<script(?=[\t\n\f\r />])", text[begin.end() : end if end >= 0 else len(text)], re.IGNORECASE):
+    in_comment = False
+    for found in _IN_SCRIPTS.finditer(text):
+        if found[0] in ("<!--", "-->"):
+            in_comment = found[0] == "<!--"
+        elif in_comment:
             return True
     return False
 
@@ -266,12 +272,15 @@ class Node:
         return html
 
     def write_html(self, file: str | os.PathLike[str] | IO[bytes] | IO[str]) -> None:
-        """Writes the node as HTML, in UTF-8, into the file of that path, or into a file that is open."""
+        """Writes the node as HTML, in UTF-8, into the file of that path, or into a file that is open. One that takes texts, which has
+        an `encoding`, writes in that."""
         if isinstance(file, (str, os.PathLike)):
             with open(file, "wb") as opened:
                 opened.write(self.html_bytes())
-        elif isinstance(file, io.TextIOBase):
-            file.write(self.html)
+        elif not hasattr(file, "write"):
+            raise TypeError(f"a path or a file that is open is wanted, not {type(file).__name__}")
+        elif isinstance(file, io.TextIOBase) or hasattr(file, "encoding"):
+            file.write(self.html)  # type: ignore[arg-type]
         else:
             file.write(self.html_bytes())  # type: ignore[arg-type]
 

@@ -93,6 +93,7 @@ class Cleaning(unittest.TestCase):
         for same in (copy.copy(policy), copy.deepcopy(policy), pickle.loads(pickle.dumps(policy)), policy.changed()):
             self.assertEqual((same, hash(same)), (policy, hash(policy)))
             self.assertEqual(same.clean("<b id=1>1</b><i>2</i>"), '<b id="1">1</b>2')
+        self.assertEqual(policy.__replace__(tags={"i"}), policy.changed(tags={"i"}))  # (copy.replace of Python 3.13)
         self.assertNotEqual(policy, more)
         self.assertEqual(repr(Policy()), "Policy()")
         self.assertEqual(repr(Policy(max_depth=3, link_rel=None)), "Policy(link_rel=None, max_depth=3)")
@@ -391,6 +392,9 @@ class Rows(unittest.TestCase):
                         self.assertEqual(dom_query.clean(dom_query.parse(html, max_depth=0), policy), wanted)
                     else:
                         self.assertEqual(dom_query.clean(html, policy), wanted)
+                        # What is left can be put into a document, and what that writes is read as the same.
+                        again = dom_query.parse_strict(wanted).html
+                        self.assertEqual(dom_query.parse_fragment(again).html, dom_query.parse_fragment(wanted).html)
                     asked += 1
         self.assertGreater(asked, 900)
 

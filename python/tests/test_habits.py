@@ -1,5 +1,6 @@
 """What users try: names, types, paths, iteration, templates, names and texts from strangers."""
 
+import codecs
 import gc
 import io
 import pathlib
@@ -35,6 +36,18 @@ class Arguments(unittest.TestCase):
         document.write_html(binary)
         document.write_html(text)
         self.assertEqual((binary.getvalue(), text.getvalue()), ("<p>é</p>".encode(), "<p>é</p>"))
+        # (what these return is no io.TextIOBase)
+        with tempfile.NamedTemporaryFile("w+", encoding="utf-16") as named, tempfile.NamedTemporaryFile() as unnamed:
+            document.write_html(named)
+            document.write_html(unnamed)
+            named.seek(0)
+            unnamed.seek(0)
+            self.assertEqual((named.read(), unnamed.read()), ("<p>é</p>", "<p>é</p>".encode()))
+        with tempfile.TemporaryDirectory() as folder, codecs.open(f"{folder}/page", "w", "utf-8") as old:
+            document.write_html(old)
+        for wrong in (5, None, b"page.html"):
+            with self.assertRaisesRegex(TypeError, "a path or a file that is open is wanted"):
+                document.write_html(wrong)
         self.assertEqual(document.html_bytes(), "<p>é</p>".encode())
         self.assertEqual(document.select_one("p").html_bytes(), "<p>é</p>".encode())
         document.close()
@@ -429,6 +442,9 @@ class Strangers(unittest.TestCase):
         for text in ("<!-- a --><script>", "<!--><script>", "<!--<scriptx>", "<script>"):
             script.text = text
             self.assertEqual(dom_query.parse(script.html).select_one("script").text, text)
+        for text in ("<!--" * 200_000, "<!-- <scriptx " * 100_000):  # each part of a text is looked at once
+            script.text = text
+            self.assertEqual(script.text, text)
         holder = document.new_element("div")
         holder.text = "</script>"
         with self.assertRaises(EditError):

@@ -4,14 +4,74 @@ import copy
 import ctypes
 import gc
 import pickle
+import re
 import threading
 import unittest
 
 import dom_query
 from dom_query import ClosedError, NodeError, PageReader, PolicyError, SelectorError
 from dom_query import _library as library
+from dom_query import names
 
 DEEP = 1_000_000
+# What each name of another library is told to be here.
+HINTS = {
+    "find_all": "select('p.note')",
+    "find": "select_one('p.note')",
+    "findAll": "select('p.note')",
+    "css": "select(selectors)",
+    "css_first": "select_one(selectors)",
+    "cssselect": "select(selectors)",
+    "xpath": "select(selectors), with CSS selectors",
+    "get_text": "text, or formatted_text",
+    "text_content": "text",
+    "string": "text",
+    "stripped_strings": "formatted_text.split('\\n')",
+    "prettify": "html, or formatted_text",
+    "tostring": "html",
+    "textContent": "text",
+    "inner_text": "formatted_text",
+    "write": "write_html(file)",
+    "tail": "next.text",
+    "innerHTML": "inner_html",
+    "outerHTML": "html",
+    "decode": "html",
+    "decode_contents": "inner_html",
+    "decompose": "remove()",
+    "extract": "remove()",
+    "detach": "remove()",
+    "replaceWith": "replace_with(content)",
+    "querySelector": "select_one(selectors)",
+    "querySelectorAll": "select(selectors)",
+    "getAttribute": "get(name)",
+    "set": "node[name] = value",
+    "drop_tree": "remove()",
+    "drop_tag": "unwrap()",
+    "tag": "name",
+    "contents": "children",
+    "getparent": "parent",
+    "getchildren": "children",
+    "iterdescendants": "descendants",
+    "iterancestors": "ancestors",
+    "parents": "ancestors",
+    "next_sibling": "next",
+    "previous_sibling": "previous",
+    "getnext": "next_element",
+    "getprevious": "previous_element",
+    "find_next_sibling": "next_element",
+    "find_previous_sibling": "previous_element",
+    "attributes": "attrs",
+    "attrib": "attrs",
+    "has_attr": "the operator in: 'href' in node",
+    "insert_before": "before(content)",
+    "insert_after": "after(content)",
+    "new_tag": "new_element(name)",
+    "new_string": "new_text(text)",
+}
+TAGS = (
+    "a article body button code div footer form h1 h2 h3 h4 head header img input label li main nav ol option p pre section "
+    "span table tbody td th title tr ul"
+)
 LIBC = ctypes.CDLL(None)
 
 
@@ -140,6 +200,20 @@ class Misuse(unittest.TestCase):
         with self.assertRaisesRegex(AttributeError, "Node has no 'frobnicate'$"):
             node.frobnicate
         self.assertFalse(hasattr(node, "xpath"))
+
+    def test_every_hint(self):
+        node = dom_query.parse("<p>a").select_one("p")
+        self.assertEqual((names.ELSEWHERE, names.TAGS), (HINTS, set(TAGS.split())))
+        for owner in (node, node.document):
+            for name, hint in HINTS.items() | {(name, f"select_one({name!r})") for name in TAGS.split()}:
+                if hasattr(type(owner), name):
+                    continue
+                with self.subTest(name=name), self.assertRaises(AttributeError) as caught:
+                    getattr(owner, name)
+                self.assertEqual(str(caught.exception), f"{type(owner).__name__} has no {name!r}; write {hint}")
+        for hint in HINTS.values():
+            for word in re.findall(r"^(\w+)(?=$|[(.,])|, or (\w+)$", hint):
+                self.assertTrue(any(hasattr(it, "".join(word)) for it in (node, node.document)), hint)
 
     def test_threads_with_a_document_each(self):
         def work(answers):

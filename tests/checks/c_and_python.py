@@ -4,6 +4,7 @@
 
 - The archive is the one that the gate built, or an earlier run on this machine of the same; what was built last is kept in
   ~/.cache/dom_query. Where there is none, it is built over the libraries that the gate left in crates/*/out, which proves it once more.
+  `unproved()` takes the archive that tests/tools/programs.py built, and leaves the library in python/dom_query as it was.
 - `./install-c` links the archive into a folder of its own, by gcc and, where it is there, by the kit's clang.
 - tests/checks/c_exports.c asks every function of include/dom_query.h: as C99 and as C++, linked statically, under Valgrind, under the sanitizers
   for addresses and for undefined behaviour, with c/dom_query.c compiled with them too, and with each request for memory refused in turn
@@ -11,8 +12,9 @@
 - Each function of the header is one that the shared library shows, and the other way around, each proved function is called by
   c/dom_query.c, and c_exports.c and the package name each.
 - The programs of examples/c are built with the pkg-config file and run, and so is each program that docs/C.md shows.
-- The tests of the package (python/tests), which ask the rows of `dq` and of the test program's part `clean` again, and the programs of examples/python are run, those
-  that edit also with each other Python from 3.10 on that the machine has, and its types are checked, where mypy is there. A wheel is made and installed."""
+- The tests of the package (python/tests), which ask the rows of `dq` and of the test program's part `clean` again, and the programs of
+  examples/python are run; those of edits, exceptions and habits also with each other Python from 3.10 on that the machine has. The package's
+  types are checked, where mypy is there. A wheel is made and installed."""
 import hashlib
 import os
 import pathlib
@@ -26,6 +28,7 @@ sys.path.insert(0, str(pathlib.Path(__file__).resolve().parents[1] / "tools"))
 sys.path.insert(0, str(pathlib.Path(__file__).resolve().parents[2] / "tools" / "release"))
 import contents  # noqa: E402
 import documents  # noqa: E402
+import programs as unproved_programs  # noqa: E402
 from rows import ROOT  # noqa: E402
 
 HERE = pathlib.Path(__file__).resolve().parent
@@ -198,8 +201,8 @@ def package(checks, folder):
     for version, python in sorted(pythons().items()):
         is_this = version == sys.version_info[:2]
         words = [python, "-W", "error::ResourceWarning", "-m", "unittest", "discover", "-s", ROOT / "python" / "tests", "-t", ROOT / "python"]
-        # All tests take minutes, so the other versions are asked what they may read otherwise: the calls that edit.
-        words += [] if is_this else ["-p", "test_editing.py"]
+        # All tests take minutes, so the other versions are asked what they may read otherwise: edits, exceptions, habits.
+        words += [] if is_this else ["-p", "test_[e-h]*.py"]
         status, printed = run(words, env=env)
         count = re.search(r"Ran (\d+) tests?", printed)
         name = ".".join(str(number) for number in version)
@@ -346,6 +349,23 @@ def c_and_python(archive=None):
             linked(checks, archive, pathlib.Path(made))
     print(f"C and Python: {checks.passed} passed, {checks.failed} failed")
     return checks.passed, checks.failed
+
+
+def unproved():
+    """All checks over the archive that was built without proofs. The package keeps the library that it has; what asks for one later
+    finds the unproved one by its path."""
+    beside, copied = ROOT / "python" / "dom_query" / "libdom_query.so", unproved_programs.OUT / "libdom_query.so"
+    kept = beside.read_bytes() if beside.exists() else None
+    try:
+        counts = c_and_python(unproved_programs.OUT / unproved_programs.ARCHIVE)
+        if beside.exists():
+            shutil.copy2(beside, copied)
+            os.environ["DOM_QUERY_LIBRARY"] = str(copied)
+        return counts
+    finally:
+        beside.unlink(missing_ok=True)
+        if kept is not None:
+            beside.write_bytes(kept)
 
 
 def linked(checks, archive, folder):

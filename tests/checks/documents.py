@@ -8,7 +8,8 @@ A fenced block is checked by the words after its fence:
 - `text output`, or another word before `output`: what the `sh` block before it must print, on standard output and standard error.
 - `rust`: part of a file of crates/examples/src, line for line, apart from its indentation.
 - `text`: part of tests/programs/print_examples/stdout, which is what the program `print_examples` must print.
-- `python`: run by python3, where the Python package has its library (`python output` is compared like `text output`).
+- `python`: run by python3, where the Python package has its library, or DOM_QUERY_LIBRARY names one (`python output` is compared
+  like `text output`).
 - `c` and `c output`: built and run by tests/checks/c_and_python.py.
 - Any other word (`ebnf`, `toml`, `html`, `css`): shown, not checked.
 
@@ -79,7 +80,8 @@ def fault_of_run(block, words, folder):
 
 def has_python():
     """Whether the Python package and its library are there."""
-    return (ROOT / "python" / "dom_query" / "__init__.py").exists() and any((ROOT / "python" / "dom_query").glob("*.so"))
+    package = ROOT / "python" / "dom_query"
+    return (package / "__init__.py").exists() and (any(package.glob("*.so")) or "DOM_QUERY_LIBRARY" in os.environ)
 
 
 def faults_of(page, sources, printed_by_examples, counted):

@@ -8,6 +8,8 @@ A pattern of n, 2n and 4n repetitions has an exponent: 1 where the cost is in pr
     growth.py HQ            prints the exponents of all patterns, and then those over STEEP
     growth.py HQ WORD..     the same of the patterns whose names have one of these words
 
+Each page is also cleaned, and asked for its article, by a pattern of its own with ", cleaned" or ", its article" behind its name.
+
 GROWTH_N=n sets n, and GROWTH_BY=seconds measures by processor time in any case.
 
 `growth()` is the part of it that runs in `check`: the processor time of each pattern, but for those in KNOWN, at four times a small
@@ -32,6 +34,8 @@ KNOWN = {"formatting: a over many span and div, closed", "formatting: three of e
 
 TEXT, HTML, MD, JSON, COUNT = ["--text"], ["--html"], ["--md"], ["--json"], ["--count"]
 CLEAN = ["--sanitize", "--html"]
+ARTICLE = ["--article", "--any"]
+PARAGRAPH = "<p>Tea, as it is grown here, is picked by hand, leaf by leaf, in the cool of the morning."
 ALL, NONE = ["*"], ["nothing"]
 
 
@@ -219,15 +223,53 @@ PATTERNS = {
     "output: Markdown, text in a list": (page("a<br>", "<ul>"), MD + ["body"]),
     "output: Markdown, boxes of tasks": (page("<li><input type=checkbox>a", "<ul>"), MD + ["body"]),
     "output: Markdown, code with bars in cells": (page("<tr><td><code>\\|</code><td>a", "<table>"), MD + ["body"]),
+    "article: nested": (page("<div>"), ARTICLE),
+    "article: nested with text": (page("<div>a", closing="</div>b"), ARTICLE),
+    "article: nested with paragraphs": (page(f"<div>{PARAGRAPH}", closing=f"</div>{PARAGRAPH}"), ARTICLE),
+    "article: nested, all saying that they are the article": (page(f"<article>{PARAGRAPH}"), ARTICLE),
+    "article: nested inline elements": (page("<b>a"), ARTICLE),
+    "article: nested links": (page("<div><a href=b>c</a>"), ARTICLE),
+    "article: nested lists": (page("<ul><li>a"), ARTICLE),
+    "article: nested hidden elements": (page("<div hidden>a"), ARTICLE),
+    "article: paragraphs": (page(PARAGRAPH), ARTICLE),
+    "article: short paragraphs": (page("<p>a"), ARTICLE),
+    "article: blocks of one kind": (page(f"<div class=a>{PARAGRAPH}</div>"), ARTICLE),
+    "article: lists of links": (page("<ul><li><a href=b>c</a></ul>"), ARTICLE),
+    "article: headings": (page("<h2>a</h2>"), ARTICLE),
+    "article: first headings with a title": (page("<h1>a b</h1>", "<title>a b c</title>"), ARTICLE),
+    "article: nested headings": (page("<h1><h2><h3>a", "<title>a b c</title>"), ARTICLE),
+    "article: line breaks": (page("a<br>"), ARTICLE),
+    "article: images": (page("<img src=a>"), ARTICLE),
+    "article: a table": (page("<tr><td>a<td>b", "<table>"), ARTICLE),
+    "article: one long class": (page("toc x", "<p class='", "'>a"), ARTICLE),
+    "article: one long class of the looks of text": (page("text-center ", "<p class='", "'>a"), ARTICLE),
+    "article: one long class of one word": (page("a", "<p class='", "'>a"), ARTICLE),
+    "article: one long class with capitals": (page("aB", "<p class='", "'>a"), ARTICLE),
+    "article: one long style": (page("d i s p l a y :", "<p style='", "'>a"), ARTICLE),
+    "article: one long style of spaces": (page("d    ", "<p style='", "'>a"), ARTICLE),
+    "article: classes": (page("<p class='share menu main'>a"), ARTICLE),
+    "article: one long title": (page("a | ", "<title>", "</title><h1>a b</h1><p>a"), ARTICLE),
+    "article: meta elements": (page("<meta name='author date og:title' content=a>"), ARTICLE),
+    "article: one long name of a meta element": (page("author ", "<meta name='", "' content=a><p>a"), ARTICLE),
+    "article: names of authors": (page("<p rel=author>a"), ARTICLE),
+    "article: JSON-LD": (page('<script type="application/ld+json">{"@type":"a"}</script>'), ARTICLE),
+    "article: one long JSON-LD": (page("[", '<script type="application/ld+json">', "</script><p>a"), ARTICLE),
     "output: sanitised, nested": (page("<x>"), CLEAN + ["body"]),
     "output: sanitised, scripts": (page("<script>a</script>"), CLEAN + ["body"]),
     "output: without what a selector matches": (page("<p><b>a</b>"), ["--remove", "b", "--html", "body"]),
 }
+# The pages, each once, with the first pattern that has it.
+PAGES = {}
+for name, (made, _) in PATTERNS.items():
+    PAGES.setdefault(made(2), (name, made))
+PAGES = dict(PAGES.values())
 PATTERNS |= {
     f"{name}, by the writer of the crate": (made, ["--md=crate", *words[1:]])
     for name, (made, words) in PATTERNS.items()
     if words[:1] == MD
 }
+PATTERNS |= {f"{name}, cleaned": (made, CLEAN + ["body"]) for name, made in PAGES.items()}
+PATTERNS |= {f"{name}, its article": (made, ARTICLE) for name, made in PAGES.items()}
 # How often the part is repeated in the check, at first.
 SMALL = 4000
 # How often a pattern is measured before it counts as one that grows too fast.
@@ -297,6 +339,11 @@ def exponent(measure, program, name, n):
     return math.log(costs[2] / costs[0], 4), costs
 
 
+def is_known(name):
+    """Whether a pattern grows too fast for the check, in whatever way its page is read."""
+    return any(name.startswith(known) for known in KNOWN)
+
+
 def is_steep(program, name):
     """Whether a pattern grows too fast, by processor time, each time that it is measured."""
     made, words = PATTERNS[name]
@@ -314,7 +361,7 @@ def growth(program=None):
         from rows import built
 
         program = built("hq")
-    tried = [name for name in PATTERNS if name not in KNOWN]
+    tried = [name for name in PATTERNS if not is_known(name)]
     steep = [name for name in tried if is_steep(program, name)]
     print(f"growth: {len(tried) - len(steep)} patterns passed, {len(steep)} failed")
     return len(tried) - len(steep), len(steep)

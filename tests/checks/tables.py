@@ -1,7 +1,7 @@
-"""Looks whether every entry of every table of the crates that read pages has a row: each name in an array or in a function that
-matches names of elements, each identifier, reference, attribute and option. tools/source_tables.py reads the tables, and
-tools/table_rows.py makes the rows. A new entry, array or function that has no rows fails, and so does a name in the lists of
-source_tables.py that no source has any more. `tables.py` alone prints how many rows each table has."""
+"""Looks whether every entry of every table of the crates that read pages, and of the crate that finds articles, has a row: each name
+in an array or in a function that matches names of elements, each identifier, reference, attribute, option and word.
+tools/source_tables.py reads the tables, and tools/table_rows.py and tools/article_rows.py make the rows. A new entry, array or
+function that has no rows fails, and so does a name in the lists of source_tables.py that no source has any more. `tables.py` alone prints how many rows each table has."""
 import collections
 import json
 import pathlib
@@ -60,6 +60,18 @@ def text_faults(known, rows):
     yield from (f"source_tables.py: there is no array {name}" for name in sorted(listed - arrays))
 
 
+def article_faults(known):
+    """The entries of the arrays of `dom_article` that have no row, and those that source_tables.py names and no array has."""
+    entries = list(source_tables.article_entries())
+    for array, text, rest in entries:
+        entry = source_tables.article_entry(array, text, rest)
+        if entry not in known and not source_tables.shows_in_no_article(array, text):
+            yield f"{entry} has no row"
+    there = {(array, text) for array, text, _ in entries} | {(array, "*") for array, _, _ in entries}
+    for array, (texts, _) in source_tables.NOT_IN_ARTICLES.items():
+        yield from (f"source_tables.py: {array} has no entry {text}" for text in texts if (array, text) not in there)
+
+
 def page_faults():
     """The beginnings of entries in docs/STANDARD.md that no row has, and those that rows have and the page hasn't."""
     page = (ROOT / "docs" / "STANDARD.md").read_text(encoding="utf-8").partition("## The rows for each rule")[2]
@@ -80,10 +92,11 @@ def tables():
     """Returns how many entries have rows, and how many haven't."""
     rows = list(rows_of("*.jsonl"))
     known = {row["entry"] for row in rows if "entry" in row}
-    faults = list(dict.fromkeys([*named_faults(known), *text_faults(known, rows), *page_faults()]))
+    faults = list(dict.fromkeys([*named_faults(known), *text_faults(known, rows), *article_faults(known), *page_faults()]))
     for fault in faults[:40]:
         print(f"tables: {fault}")
-    entries = {*source_tables.named_entries(), *source_tables.text_entries()}
+    articles = {source_tables.article_entry(*entry) for entry in source_tables.article_entries()}
+    entries = {*source_tables.named_entries(), *source_tables.text_entries(), *articles}
     passed = len(entries) - len(faults)
     print(f"entries of tables with rows: {passed} passed, {len(faults)} failed")
     return (passed, len(faults)) if passed > 500 else (0, 1)

@@ -1,6 +1,6 @@
-"""Parsing by the two tables: the tokenizer (machine.py) hands its tokens to tree construction (rules/tree_builder.py), which switches the
-tokenizer's state behind the start tag of an element whose text it reads next. This is what crates/standard_laws/specs/Parsing.antt
-defines. Trees are as in tree_builder.py; None stands for a text for which tree construction has no rule."""
+"""Parsing by two tables, that of the tokenizer and that of the rules of a part of tree construction: the tokenizer (machine.py) hands its tokens to
+tree construction (rules/tree_builder.py), which switches the tokenizer's state behind the start tag of an element whose text it reads next.
+trees/whole_parsing.py is for all of tree construction. Trees are as in tree_builder.py; None stands for a text for which there is no rule."""
 import pathlib
 import sys
 

@@ -12,9 +12,9 @@ It does this, in this order:
    callers of tests/must-not-compile.
 4. Where nothing failed, it leaves a record of that for `./release` in out/gate-passed.json (tests/tools/passed.py).
 
-`check --rows` leaves out the gate and the record. `check --quick` leaves them out, too, and builds the programs without proofs: it needs nothing that
-was built before, and leaves out the library for C with the package for Python, which are built of what was proved, and the callers
-of tests/must-not-compile. `check --edits` tries the must-fail edits, too, that were refused before over the same files, and then
+`check --rows` leaves out the gate and the record. `check --quick` leaves them out, too, and builds the programs and the library for C without
+proofs: it needs nothing that was built before, and leaves out what needs proved libraries: the files of a release, and the callers of
+tests/must-not-compile. `check --edits` tries the must-fail edits, too, that were refused before over the same files, and then
 writes tests/must-fail/refused.txt, where it finds them the next time. What an earlier run on this machine showed of the same files is kept; `check --anew`
 shows all of it again.
 
@@ -311,13 +311,13 @@ def main():
     os.environ.setdefault("MIMALLOC_PURGE_DELAY", "-1")
     clock, is_quick = Clock(), "--quick" in sys.argv
     sources = None if is_quick or "--rows" in sys.argv else record.begin()
-    UNPROVED.update(("dq", "hq") if is_quick else ())
+    UNPROVED.update(("dq", "hq", programs.ARCHIVE) if is_quick else ())
     with ThreadPoolExecutor(1) as pool:
         building = pool.submit(clock.timed, "building without proofs", built_unproved)
         counts, edits_left = (None, lambda: (0, 0)) if is_quick or "--rows" in sys.argv else gate(clock)
     built_well = building.result()
     tables = [rows, cleaned, followed, asked_each_way]
-    tables += [] if is_quick else [c_and_python.c_and_python, releases.releases]
+    tables += [c_and_python.unproved] if is_quick else [c_and_python.c_and_python, releases.releases]
     tables += [documents.documents, reference.reference, options.options, articles.articles, standard.standard]
     tables += [standard_rules.checked, standard_parsing.checked, standard_trees.checked, wrong_bodies, line_lengths.line_lengths, coverage.coverage]
     tables += [entries_of_tables.tables, hostile.hostile, decoded, pictures.checked]

@@ -38,6 +38,7 @@ FUNCTIONS = {
     # modes
     "imply_html": ["before html"],
     "before_html_tag": ["before html"],
+    "is_early_end": ["before html"],
     "imply_head": ["before head"],
     "before_head_tag": ["before head"],
     "start_head": ["before head"],
@@ -236,6 +237,61 @@ def matched_texts():
             if name in ("is_refused_attribute", "may_lead", "mathml_attr"):
                 found = dict.fromkeys(STRING.findall(body))
                 yield from ((name, it) for it in found if it != "definitionURL")
+
+
+# The entries of the arrays of `dom_article` that no row of a page shows, with the reason; `*` stands for all of an array.
+NOT_IN_ARTICLES = {
+    "BASES": (["*"], "the points that an element begins with are one part of a score among others"),
+    "TAGS": (["*"], "the elements that other rules name one by one"),
+    "FRAMES": (["*"], "their attribute `hidden` has rows in articles.jsonl"),
+    "NEVER": (["head", "frame", "frameset"], "the parser drops or moves such a tag in `body`"),
+    "NEVER_BAD": (["body", "html"], "all that is shown is in them"),
+    "NOT_BY_WORDS": (["html"], "the row of `body` has both rules"),
+    "PLACES": (["a", "td", "tr"], "words don't leave these out, so that an id only adds to a score"),
+    "ROWS": (["tr"], "a block that is never bad, so that it stays in any case"),
+    "BLOCKS": (
+        "blockquote body caption dd dialog dt figcaption h1 h2 h3 h4 h5 h6 hr html li main menu nav p pre summary tbody td tfoot th thead".split(),
+        "a block that is never bad or never in an article, a heading, or empty",
+    ),
+}
+
+
+def shows_in_no_article(array, text):
+    """Whether an entry of an array of `dom_article` is one that no row of a page shows."""
+    texts, _ = NOT_IN_ARTICLES.get(array, ([], ""))
+    return "*" in texts or text in texts
+
+
+def article_arrays():
+    """The name and the contents of each array of `dom_article`."""
+    for file in sorted((ROOT / "crates" / "dom_article" / "src").rglob("*.rt")):
+        yield from ARRAY.findall(file.read_text(encoding="utf-8").replace("pub(crate) static", "static"))
+
+
+def article_entries():
+    """The entries of the arrays of `dom_article`: the array, the text, and what else the entry has."""
+    for name, inside in article_arrays():
+        if name == "WORDS":
+            for word, way, group in re.findall(r'\("([^"]+)", Way::(\w+), List::(\w+)\)', inside):
+                yield name, word, (way, group)
+        elif name == "NAMES":
+            for field, text in re.findall(r'\(Field::(\w+), "([^"]+)"\)', inside):
+                yield name, text, (field,)
+        else:
+            for text in STRING.findall(inside):
+                yield name, plain(text), ()
+
+
+def article_entry(array, text, rest):
+    """The text that rows have as the entry."""
+    return f"article {array}: {text}" + (f" {rest[1]}" if array == "WORDS" else "")
+
+
+def whole_words():
+    """The words that count as whole words alone and in no other list as parts, each with how it counts and its list."""
+    words = [(text, rest) for array, text, rest in article_entries() if array == "WORDS"]
+    parts = [text for text, rest in words if rest[0] == "Part"]
+    return [(text, rest) for text, rest in words if rest[0] == "Whole" and not any(part in text for part in parts)]
 
 
 def options(text):

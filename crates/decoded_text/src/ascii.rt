@@ -25,7 +25,9 @@ fn ascii_len(bytes: &[u8]) -> usize
     ensures ascii { IsAscii (take result bytes.now) }
 {
     let mut end = 0;
-    while bytes.len() - end >= BLOCK && bytes[end..end + BLOCK].is_ascii() {
+    // The first byte of a block is tested by itself: behind a character of several bytes it mostly
+    // isn't ASCII, and to test the block takes longer.
+    while bytes.len() - end >= BLOCK && bytes[end] < 128 && bytes[end..end + BLOCK].is_ascii() {
         end += BLOCK;
     }
     end

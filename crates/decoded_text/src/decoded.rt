@@ -78,6 +78,9 @@ impl Decoded {
         ensures appends { OnOk result (Appends self.old self.new (map Some ascii.now)) }
         ensures counted { IsCounted self.new }
     {
+        if ascii.is_empty() {
+            return Ok(());
+        }
         self.text.push_str(ascii)?;
         Ok(())
     }

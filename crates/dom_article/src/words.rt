@@ -1,5 +1,7 @@
 //! The words of the lists in a class or an id.
 
+ghost use Rattle.std.specs.Prelude.{◌≤◌};
+
 use crate::tables::{CONTENT_LOOKS, List, TEXT_LOOKS, WORDS, Way};
 use dom_nodes::fault::OutOfMemory;
 use std::alloc::Global;
@@ -38,10 +40,13 @@ impl Found {
     }
 }
 
-/// The words of the lists, by their first letters.
+/// How many numbers of two letters there are.
+const PAIRS: usize = 27 * 27;
+
+/// The words of the lists, by their first two letters.
 #[derive(Drop)]
 pub(crate) struct Words {
-    /// Where the words with each first letter begin.
+    /// Where the words with each two first letters begin.
     starts: Vec<usize>,
     /// A text in lower case; it is kept for the next one.
     low: Vec<u8>,
@@ -50,9 +55,9 @@ pub(crate) struct Words {
 impl Words {
     /// Returns the words of the lists. Fails only when memory runs out.
     pub(crate) fn new(alloc: Global) -> Result<Words, OutOfMemory> {
-        let mut starts: Vec<usize> = vec![in alloc; 0; 27]?;
+        let mut starts: Vec<usize> = vec![in alloc; 0; PAIRS + 1]?;
         for (word, _, _) in &WORDS {
-            let number = letter_number(word.as_bytes()).saturating_add(1);
+            let number = pair_number(word.as_bytes()).saturating_add(1);
             if let Some(start) = starts.get_mut(number) {
                 *start = start.saturating_add(1);
             }
@@ -123,16 +128,14 @@ impl Words {
 
     /// Finds the words at the start of a text. `begins` says that no letter or digit is before it.
     fn find_at(&self, text: &[u8], begins: bool, found: &mut Found) {
-        let second = text.get(1).copied();
-        for (word, way, list) in self.beginning_with(letter_number(text)) {
-            let word = word.as_bytes();
-            if word.get(1).copied() == second && is_here(word, *way, text, begins) {
+        for (word, way, list) in self.beginning_with(pair_number(text)) {
+            if is_here(word.as_bytes(), *way, text, begins) {
                 found.add(*list);
             }
         }
     }
 
-    /// Returns the words that begin with the letter of this number.
+    /// Returns the words that begin with the two letters of this number.
     fn beginning_with(&self, number: usize) -> &'static [(&'static str, Way, List)] {
         let start = self.starts.get(number).copied().unwrap_or(WORDS.len());
         let next = number.saturating_add(1);
@@ -144,12 +147,20 @@ impl Words {
     }
 }
 
-/// Returns the number of the first letter of a text: 0 for `a`; 26 or more if it is no letter.
-fn letter_number(text: &[u8]) -> usize {
-    match text.first() {
-        Some(byte) => byte.wrapping_sub(b'a') as usize,
-        None => 255,
-    }
+/// Returns the number of the first two letters of a text, by which the words are in order.
+fn pair_number(text: &[u8]) -> usize {
+    letter_number(text.first()) * 27 + letter_number(text.get(1))
+}
+
+/// Returns the number of a small letter: 1 for `a`; 0 for what is none.
+fn letter_number(byte: Option<&u8>) -> usize
+    ensures { result ≤ 26 }
+{
+    let Some(byte) = byte else {
+        return 0;
+    };
+    let number = byte.wrapping_sub(b'a');
+    if number < 26 { number as usize + 1 } else { 0 }
 }
 
 /// Returns whether a text begins with the word, and if that counts as a whole word alone, whether

@@ -16,7 +16,7 @@ use Rattle.dom_clean.specs.Fates.{allowed_attr, attrs_behind, cleaned_attr, clea
 use Rattle.dom_clean.specs.Joined.{AreTidyAttributes, IsWritable}
 use Rattle.dom_clean.specs.Policy.{Policy, is_sound, link_names}
 use Rattle.dom_clean.proofs.AgainValues.{spellable_stays, value-again}
-use Rattle.dom_clean.proofs.SafeText.{bytes_eq-swapped}
+use Rattle.dom_markup.proofs.plain.WrittenTrees.{bytes_eq-swapped}
 use Rattle.dom_clean.proofs.SoundNames.{no_rel}
 
 -- the policy has these attributes, and leaves their values as they are

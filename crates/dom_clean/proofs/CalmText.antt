@@ -15,7 +15,8 @@ use Rattle.dom_markup.specs.ValueTrees.ValueTrees.{no_trees, text_node, comment_
 use Rattle.dom_markup.proofs.html.InertLemmas.{encode_lacks}
 use Rattle.calm_pages.specs.Calm.{begins_other_tag, is_calm_byte, is_calm_text}
 use Rattle.dom_clean.specs.Spelled.{AreQuiet, AreSpelled, Front, IsQuietName, IsSpellable, IsSpelled}
-use Rattle.dom_clean.specs.Written.{attribute_text, safe_char, safe_value, start_of, text_of}
+use Rattle.dom_markup.specs.WrittenTrees.{safe_char}
+use Rattle.dom_clean.specs.Written.{attribute_text, safe_value, start_of, text_of}
 
 both : (a b : List ℕ) → Front a → Front b → Front (a ++ b)
 both a b p q = record { front = λ rest calm. ap is_calm_text (append_assoc a b rest) ∙ p.front (b ++ rest) (q.front rest calm) }

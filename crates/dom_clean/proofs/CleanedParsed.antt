@@ -11,15 +11,17 @@ use Rattle.standard_rules.specs.PlainTrees.{flow_contexts}
 use Rattle.standard_rules.specs.TreeTokens.{is_among}
 use Rattle.standard_laws.specs.CalmTrees.{nodes_of}
 use Rattle.standard_laws.specs.ReadableTrees.{AreReadable}
-use Rattle.standard_laws.specs.Values.{safe_char, safe_piece}
-use Rattle.standard_laws.specs.WrittenTrees.{text_by}
+use Rattle.standard_laws.specs.Values.{safe_piece}
+use Rattle.dom_markup.specs.WrittenTrees.{safe_char, text_by}
 use Rattle.standard_laws.proofs.Pieces.{safe_writes_values}
-use Rattle.standard_laws.specs.ParsingLaws.{CalmFragmentsAreParsed, CalmPagesAreParsed, FragmentsAreParsedOneWay, PagesAreParsedOneWay}
-use Rattle.standard_laws.specs.Parsing.{IsFragmentOf, IsPageOf, IsPageOnlyOf}
+use Rattle.standard_trees.specs.Laws.{DocumentsAreParsedOneWay, FragmentsAreParsedOneWay}
+use Rattle.standard_laws.specs.ParsingLaws.{CalmFragmentsAreParsed, CalmPagesAreParsed}
+use Rattle.standard_laws.specs.Parsing.{IsFragmentIn, IsPageOf, IsPageOnlyOf}
 use Rattle.standard_laws.proofs.CalmParsed.{OneMeaning, ReadIsPlain, StandForTheirTrees}
 use Rattle.standard_laws.proofs.CalmReadable.{document_readable}
 use Rattle.standard_laws.proofs.Kept.{calm_kept, safe_shows}
 use Rattle.standard_laws.proofs.Utf8Pieces.{document_bare, document_utf8}
+use Rattle.standard_laws.proofs.WrittenPages.{fragment_alone, page_alone}
 use Rattle.dom_clean.specs.Cleaned.{cleaned_below}
 use Rattle.dom_clean.specs.Laws.{IsSafe, left_below, page_around, page_of}
 use Rattle.dom_clean.specs.Policy.{Policy, is_sound}
@@ -39,12 +41,11 @@ text_is policy sound text trees safe = safe.is ∙ sym (same_text policy sound t
 
 -- ---- pages
 
-pub pages_parsed : CalmPagesAreParsed safe_char → PagesAreParsedOneWay → CleanedPagesAreParsed
+pub pages_parsed : CalmPagesAreParsed safe_char → DocumentsAreParsedOneWay → CleanedPagesAreParsed
 pages_parsed calm once policy sound text trees utf8 safe =
     let is : page_around text ≡ text_by safe_char false (page_of trees) = page_is policy sound text trees safe in
-    let parsed : IsPageOf (chars (page_around text)) (nodes_of (page_of trees)) =
-    subst (λ t. IsPageOf (chars t) (nodes_of (page_of trees))) (sym is) (calm (page_of trees) (subst IsUtf8 is utf8) (subst (λ t. IsCalmPage t (page_of trees)) is safe.page)) in
-    record { parsed = parsed; only = λ other p. once (chars (page_around text)) other (nodes_of (page_of trees)) p parsed }
+    page_alone once (chars (page_around text)) (nodes_of (page_of trees))
+    (subst (λ t. IsPageOf (chars t) (nodes_of (page_of trees))) (sym is) (calm (page_of trees) (subst IsUtf8 is utf8) (subst (λ t. IsCalmPage t (page_of trees)) is safe.page)))
 
 -- ---- fragments
 
@@ -54,7 +55,7 @@ page_plain meaning read stand text trees utf8 page =
     let plain : IsPlain (document_of trees) = read text trees utf8 page.spelled (document_bare trees page.document) in
     subst (IsPlainTrees true) (meaning (document_of trees) (children_of (document_of trees) 0) plain.trees trees plain.below (stand trees)) plain.plain
 
-pub texts_parsed : OneMeaning → ReadIsPlain → StandForTheirTrees → CalmPagesAreParsed safe_char → CalmFragmentsAreParsed safe_char → PagesAreParsedOneWay → FragmentsAreParsedOneWay →
+pub texts_parsed : OneMeaning → ReadIsPlain → StandForTheirTrees → CalmPagesAreParsed safe_char → CalmFragmentsAreParsed safe_char → DocumentsAreParsedOneWay → FragmentsAreParsedOneWay →
     CleanedTextsAreParsed
 texts_parsed meaning read stand calm pieces page_once fragment_once policy sound text trees utf8 safe =
     let is : page_around text ≡ text_by safe_char false (page_of trees) = page_is policy sound text trees safe in
@@ -64,12 +65,12 @@ texts_parsed meaning read stand calm pieces page_once fragment_once policy sound
     let readable : AreReadable (page_of trees) =
     document_readable safe_char safe_shows (page_of trees) page.document plain (document_utf8 safe_char safe_piece safe_writes_values (page_of trees) page.document plain page_is_utf8)
     (calm_kept (text_by safe_char false (page_of trees)) page.bytes) in
-    let fragment : (context : List ℕ) → is_among context flow_contexts ≡ true → IsFragmentOf context (chars text) (nodes_of trees) =
-    λ context among. subst (λ t. IsFragmentOf context (chars t) (nodes_of trees)) (sym (text_is policy sound text trees safe))
+    let fragment : (context : List ℕ) → is_among context flow_contexts ≡ true → IsFragmentIn context (chars text) (nodes_of trees) =
+    λ context among. subst (λ t. IsFragmentIn context (chars t) (nodes_of trees)) (sym (text_is policy sound text trees safe))
     (pieces context trees among (fragment_calm trees page.document.calm context among) plain.4.5.6.5 readable.1.3.4.3) in
     record {
       page = pages_parsed calm page_once policy sound text trees (page_utf8 text utf8) safe;
-      fragment = λ context among. record { parsed = fragment context among; only = λ other p. fragment_once context (chars text) other (nodes_of trees) p (fragment context among) };
+      fragment = λ context among. fragment_alone fragment_once context (chars text) (nodes_of trees) (fragment context among);
     }
 
 -- ---- what is returned

@@ -10,8 +10,7 @@ use Rattle.dom_markup.specs.Html.{end_tag}
 use Rattle.dom_markup.specs.Names.{raw_names, void_names}
 use Rattle.dom_markup.specs.ValueTrees.{ValueTrees}
 use Rattle.dom_markup.specs.ValueTrees.ValueTrees.{no_trees, text_node, comment_node, doctype_node, element_node}
-use Rattle.standard_laws.specs.Values.{safe_char}
-use Rattle.standard_laws.specs.WrittenTrees.{text_by}
+use Rattle.dom_markup.specs.WrittenTrees.{safe_char, text_by}
 use Rattle.dom_clean.specs.Laws.{AreAllowed, page_around, page_of}
 use Rattle.dom_clean.specs.Policy.{Policy, is_sound}
 use Rattle.dom_clean.specs.Written.{start_of, text_of}
@@ -29,13 +28,13 @@ same_text policy sound (element_node name attributes children later) p =
     ∙ ap (λ t. start_of name attributes ++ ((cond (is_among name void_names) [] (t ++ end)) ++ text_by safe_char false later)) (same_text policy sound children p.2)
     ∙ ap (λ t. start_of name attributes ++ ((cond (is_among name void_names) [] (text_of children ++ end)) ++ t)) (same_text policy sound later p.3)
 
-abbrev front_of_page : List ℕ
+abbrev pub front_of_page : List ℕ
 front_of_page = codes "<!DOCTYPE html><html><head><meta charset=\"utf-8\"></head><body>"
 
-abbrev end_of_page : List ℕ
+abbrev pub end_of_page : List ℕ
 end_of_page = codes "</body></html>"
 
-page_text : (body : ValueTrees) → text_by safe_char false (page_of body) ≡ page_around (text_by safe_char false body)
+pub page_text : (body : ValueTrees) → text_by safe_char false (page_of body) ≡ page_around (text_by safe_char false body)
 unfolding void_names raw_names chars encode
 page_text body =
     let text : List ℕ = text_by safe_char false body in

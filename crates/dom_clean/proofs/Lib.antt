@@ -21,7 +21,6 @@ pub mod Names
 pub mod Owns
 pub mod Pages
 pub mod Results
-pub mod SafeText
 pub mod SafeValues
 pub mod SchemeBytes
 pub mod Schemes

@@ -20,29 +20,18 @@ use Rattle.dom_clean.specs.Cleaned.{cleaned_below, in_body}
 use Rattle.dom_clean.specs.Joined.{AreTidy}
 use Rattle.dom_clean.specs.Laws.{AreAllowed, CleansSafely, IsSafe, left_below, page_around, page_of, utf8_meta}
 use Rattle.dom_clean.specs.Policy.{Policy, is_sound}
-use Rattle.dom_clean.specs.SafeText.{text_by}
+use Rattle.dom_markup.proofs.plain.WrittenTrees.{written_spells}
+use Rattle.dom_markup.specs.WrittenTrees.{safe_char, text_by}
 use Rattle.dom_clean.specs.Spelled.{Front, IsSpellable}
 use Rattle.dom_clean.specs.Written.{text_of}
 use Rattle.dom_clean.proofs.CalmJoined.{calm_joined}
 use Rattle.dom_clean.proofs.CalmText.{text-front}
+use Rattle.dom_clean.proofs.CleanedText.{end_of_page, front_of_page, page_text}
 use Rattle.dom_clean.proofs.Left.{cleans}
-use Rattle.dom_clean.proofs.SafeText.{plain_spells}
+use Rattle.dom_clean.proofs.SafeValues.{safe_is_read_back}
 use Rattle.dom_clean.proofs.Tidy.{cleaned_tidy, plain_joined, same_text, spelled_tidy, text_joined, tidy_joined}
 
-abbrev end_of_page : List ℕ
-end_of_page = codes "</body></html>"
-
-abbrev front_of_page : List ℕ
-front_of_page = codes "<!DOCTYPE html><html><head><meta charset=\"utf-8\"></head><body>"
-
 -- ---- its text
-
-page_text : (body : ValueTrees) → text_by false (page_of body) ≡ page_around (text_by false body)
-unfolding void_names raw_names chars encode
-page_text body =
-    let text = text_by false body in
-    ap (λ t. front_of_page ++ t) (append-nil (((text ++ codes "</body>") ++ []) ++ codes "</html>") ∙ ap (λ t. t ++ codes "</html>") (append-nil (text ++ codes "</body>"))
-    ∙ append_assoc text (codes "</body>") (codes "</html>"))
 
 page_framed : (text : List ℕ) → IsFramed (page_around text)
 page_framed text =
@@ -139,12 +128,12 @@ safe policy sound forest n =
     let body = joined ts in
     let tidy_body : AreTidy body = tidy_joined ts tidy in
     let same : text_of body ≡ text_of ts = text_joined ts tidy in
-    let text : text_by false (page_of body) ≡ page_around (text_of ts) = page_text body ∙ ap page_around (same_text body tidy_body ∙ same) in
+    let text : text_by safe_char false (page_of body) ≡ page_around (text_of ts) = page_text body ∙ ap page_around (same_text body tidy_body ∙ same) in
     record {
       is = sym same;
       allowed = allowed_joined policy ts is.allowed;
       page = record {
-        spelled = subst (λ (t : List ℕ). Spells t (page_of body)) text (plain_spells (page_of body) (page_plain body (plain_joined ts tidy)));
+        spelled = subst (λ (t : List ℕ). Spells t (page_of body)) text (written_spells safe_char safe_is_read_back (page_of body) (page_plain body (plain_joined ts tidy)));
         framed = page_framed (text_of ts);
         bytes = ap (λ t. is_calm_text (page_around t)) (sym same) ∙ page_calm body (spelled_tidy body tidy_body);
         document = page_document policy body (calm_joined (in_body policy).scope ts tidy refl is.calm);

@@ -31,7 +31,7 @@ use Rattle.dom_clean.specs.declared.fates.Fate.TheVariants.{Stays, Unwrapped, Va
 use Rattle.dom_clean.specs.Fates.{fate_of, is_dropped, may_stay, place_below, spellable}
 use Rattle.dom_clean.specs.Joined.{AreTidy, AreTidyAttributes, IsMarkupName, IsWritable}
 use Rattle.dom_clean.specs.Policy.{Policy, is_sound}
-use Rattle.dom_clean.specs.SafeText.{text_by}
+use Rattle.dom_markup.specs.WrittenTrees.{safe_char, text_by}
 use Rattle.dom_clean.specs.Spelled.{AreQuiet, IsSpellable}
 use Rattle.dom_clean.specs.Written.{start_of, text_of}
 use Rattle.dom_clean.proofs.Lines.{after_lines_writable}
@@ -116,15 +116,15 @@ spelled_tidy (doctype_node n u s later) tidy = absurd tidy
 spelled_tidy (element_node n a children later) tidy = (tidy.0.1, quiet_attrs a tidy.1, spelled_tidy children tidy.3, spelled_tidy later tidy.4)
 
 -- no text among them is written as it is
-pub same_text : (ts : ValueTrees) → AreTidy ts → text_by false ts ≡ text_of ts
+pub same_text : (ts : ValueTrees) → AreTidy ts → text_by safe_char false ts ≡ text_of ts
 same_text no_trees tidy = refl
 same_text (text_node c later) tidy = ap (λ t. escaped_text c ++ t) (same_text later tidy.2)
 same_text (comment_node c later) tidy = absurd tidy
 same_text (doctype_node n u s later) tidy = absurd tidy
 same_text (element_node n a children later) tidy =
     let end = end_tag n in
-    ap (λ b. start_of n a ++ ((cond (is_among n void_names) [] (text_by b children ++ end)) ++ text_by false later)) tidy.0.0.2
-    ∙ ap (λ t. start_of n a ++ ((cond (is_among n void_names) [] (t ++ end)) ++ text_by false later)) (same_text children tidy.3)
+    ap (λ b. start_of n a ++ ((cond (is_among n void_names) [] (text_by safe_char b children ++ end)) ++ text_by safe_char false later)) tidy.0.0.2
+    ∙ ap (λ t. start_of n a ++ ((cond (is_among n void_names) [] (t ++ end)) ++ text_by safe_char false later)) (same_text children tidy.3)
     ∙ ap (λ t. start_of n a ++ ((cond (is_among n void_names) [] (text_of children ++ end)) ++ t)) (same_text later tidy.4)
 
 -- ---- what is left

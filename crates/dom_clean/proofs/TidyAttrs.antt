@@ -23,7 +23,7 @@ use Rattle.dom_clean.specs.Policy.{Policy, Relative, address_names, attribute_na
 use Rattle.dom_clean.specs.Policy.Relative.{kept, dropped, resolved}
 use Rattle.dom_clean.specs.Spelled.{AreSpelled}
 use Rattle.dom_clean.proofs.Names.{among_passes, simple_name_front, simple_plain}
-use Rattle.dom_clean.proofs.SafeText.{bytes_eq-swapped}
+use Rattle.dom_markup.proofs.plain.WrittenTrees.{bytes_eq-swapped}
 use Rattle.dom_clean.proofs.SoundNames.{has_simple, no_rel, passes}
 use Rattle.dom_clean.proofs.Spellings.{spellable_spelled, spellable_utf8}
 use Rattle.dom_clean.proofs.Writable.{writable_append}

@@ -13,8 +13,8 @@ use Rattle.standard_laws.specs.Parsing.{IsFragmentOnlyOf, IsPageOnlyOf}
 use Rattle.dom_clean.specs.Laws.{IsSafe, page_around, page_of}
 use Rattle.dom_clean.specs.Policy.{Policy, is_sound}
 
--- the text is parsed as these trees and as no others: in the body of a page, and as a fragment in a `body`, `div`, `li`, `td` or
--- `blockquote`
+-- the text is parsed as these trees and as no others, with and without scripting: in the body of a page, and as a fragment in a `body`,
+-- `div`, `li`, `td` or `blockquote` that is outside of forms, in a document in no-quirks mode
 pub record IsParsedAs (text : List ℕ) (trees : ValueTrees) : Type 0 where
   pub page : IsPageOnlyOf (chars (page_around text)) (nodes_of (page_of trees))
   pub fragment : (context : List ℕ) → is_among context flow_contexts ≡ true → IsFragmentOnlyOf context (chars text) (nodes_of trees)

@@ -1,27 +1,23 @@
 -- The text of what is left, in which `<` and `>` are escaped in values too.
-use Rattle.std.specs.Prelude.{ℕ, ◌==◌, List, [], ◌++◌, codes, if◌then◌else◌}
+use Rattle.std.specs.Prelude.{ℕ, List, [], ◌++◌, codes, if◌then◌else◌}
 use Rattle.std.specs.List.{flat_map}
 use Rattle.std.specs.Str.{chars}
-use Rattle.dom_nodes.specs.Ascii.{double_quote}
 use Rattle.dom_nodes.specs.Words.{is_among}
-use Rattle.dom_markup.specs.Escaping.{escaped_text, text_char}
+use Rattle.dom_markup.specs.Escaping.{escaped_text}
 use Rattle.dom_markup.specs.Html.{end_tag}
 use Rattle.dom_markup.specs.Names.{void_names}
 use Rattle.dom_markup.specs.ValueTrees.{Attribute, ValueTrees}
 use Rattle.dom_markup.specs.ValueTrees.ValueTrees.{no_trees, text_node, comment_node, doctype_node, element_node}
-
--- what a character of a value is written as
-abbrev pub safe_char : ℕ → List ℕ
-safe_char c = if c == double_quote then codes "&quot;" else text_char c
+use Rattle.dom_markup.specs.WrittenTrees.{attr_by, safe_char, start_by}
 
 abbrev pub safe_value : List ℕ → List ℕ
 safe_value value = flat_map safe_char (chars value)
 
 abbrev pub attribute_text : Attribute → List ℕ
-attribute_text attribute = codes " " ++ (attribute.name ++ (codes "=\"" ++ (safe_value attribute.value ++ codes "\"")))
+attribute_text = attr_by safe_char
 
 abbrev pub start_of : List ℕ → List Attribute → List ℕ
-start_of name attributes = codes "<" ++ (name ++ (flat_map attribute_text attributes ++ codes ">"))
+start_of = start_by safe_char
 
 -- the text of trees
 abbrev pub text_of : ValueTrees → List ℕ

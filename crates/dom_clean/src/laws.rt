@@ -12,7 +12,8 @@ ghost use Rattle.dom_clean.specs.Policy.{Policy, is_sound};
 use dom_markup::laws::plain::{
     documents_stand_for_their_trees, one_meaning, what_is_read_is_plain,
 };
-use standard_laws::parsing::{one_parse, safe_html_is_parsed};
+use standard_laws::parsing::safe_html_is_parsed;
+use standard_trees::one_parse;
 
 /// Whatever the base is, the parser of the URL Standard gives an address the scheme that is in
 /// front of it, or else the scheme of the base, if it accepts the address.

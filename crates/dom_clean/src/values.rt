@@ -11,7 +11,8 @@ ghost use Rattle.dom_nodes.specs.Classes.{with_word};
 ghost use Rattle.dom_nodes.specs.Words.{is_among, words_of};
 ghost use Rattle.dom_clean.specs.Cleaned.{after_lines};
 ghost use Rattle.dom_clean.specs.Policies.{policy_of};
-ghost use Rattle.dom_clean.specs.Written.{safe_char, safe_value};
+ghost use Rattle.dom_markup.specs.WrittenTrees.{safe_char};
+ghost use Rattle.dom_clean.specs.Written.{safe_value};
 ghost use Rattle.dom_markup.specs.Escaping.{escaped_text, text_char};
 
 use crate::lists::{Lists, is_among};

@@ -1,3 +1,4 @@
+pub mod LineLemmas
 pub mod MarkLemmas
 pub mod ReadingLemmas
 pub mod StepLemmas

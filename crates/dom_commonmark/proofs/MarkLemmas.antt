@@ -1,10 +1,11 @@
 -- Which bytes get a backslash: only thirteen, all of them punctuation.
 use Rattle.std.proofs.Common.{◌≡◌, ℕ, ◌<◌, Bool, true, false, List, refl, sym, ◌∙◌, ap, inl, inr}
-use Rattle.std.specs.Prelude.{◌==◌, nat_lt}
+use Rattle.std.specs.Prelude.{◌==◌, not, nat_lt}
 use Rattle.std.specs.Char.{is_ascii_punctuation}
 use Rattle.std.proofs.lemmas.Bool.{cases_Bool, eqb-true, ltb-true}
 use Rattle.dom_nodes.specs.Ascii.{ampersand, asterisk, backslash, backtick, colon, dot, exclamation_mark, left_bracket, less_than, right_bracket, tilde, underscore, vertical_bar}
 use Rattle.dom_commonmark.specs.Escaping.{is_marked}
+use Rattle.dom_commonmark.specs.Inline.{is_plain}
 use Rattle.dom_commonmark.specs.declared.escaping.Place.{Place}
 
 -- the test passes for each of them
@@ -23,7 +24,7 @@ pub record MarksPass (Q : ℕ → Bool) : Type 0 where
   pub m12 : Q dot ≡ true
   pub m13 : Q vertical_bar ≡ true
 
-differ : (Q : ℕ → Bool) (b x : ℕ) → Q b ≡ false → Q x ≡ true → (b == x) ≡ false
+pub differ : (Q : ℕ → Bool) (b x : ℕ) → Q b ≡ false → Q x ≡ true → (b == x) ≡ false
 differ Q b x fails passes = elim (cases_Bool (b == x)) [
   | inl t ↦ (let h : true ≡ false = sym (ap Q (eqb-true b x t) ∙ passes) ∙ fails in absurd (cc))
   | inr f ↦ f
@@ -47,3 +48,11 @@ pub marked_ascii : (place : Place) (before : List ℕ) (b : ℕ) (after : List �
 marked_ascii place before b after marked =
     let low : nat_lt b 128 ≡ true = marked_pass (λ x. nat_lt x 128) (record { m1 = refl; m2 = refl; m3 = refl; m4 = refl; m5 = refl; m6 = refl; m7 = refl; m8 = refl; m9 = refl; m10 = refl; m11 = refl; m12 = refl; m13 = refl }) place before b after marked in
     ltb-true b 128 low
+
+negated : (a : Bool) → a ≡ true → not a ≡ false
+negated true h = refl
+negated false h = absurd (cc)
+
+pub plain_unmarked : (place : Place) (before : List ℕ) (b : ℕ) (after : List ℕ) → is_plain b ≡ true → is_marked place before b after ≡ false
+plain_unmarked place before b after plain =
+    unmarked (λ x. not (is_plain x)) (record { m1 = refl; m2 = refl; m3 = refl; m4 = refl; m5 = refl; m6 = refl; m7 = refl; m8 = refl; m9 = refl; m10 = refl; m11 = refl; m12 = refl; m13 = refl }) place before b after (negated (is_plain b) plain)

@@ -4,11 +4,12 @@ use Rattle.std.specs.Prelude.{◌==◌, ◌&&◌, ◌||◌, not, slice_index_or,
 use Rattle.std.specs.Char.{is_ascii_alphanumeric}
 use Rattle.std.proofs.lemmas.Bool.{cases_Bool, eqb-true}
 use Rattle.dom_nodes.specs.Ascii.{ampersand, asterisk, at_sign, backslash, backtick, colon, dot, exclamation_mark, left_bracket, less_than, number_sign, right_bracket, semicolon, slash, space, tilde, underscore, vertical_bar}
-use Rattle.dom_commonmark.specs.Escaping.{escaped, escaped_on, is_marked, is_nil}
+use Rattle.dom_commonmark.specs.Escaping.{escaped, escaped_on, is_marked}
 use Rattle.dom_commonmark.specs.Inline.{begins_address, begins_mail, begins_tag, can_begin, first_of, is_in_mail, is_in_spaces, is_in_word, is_reference, is_www}
 use Rattle.dom_commonmark.specs.Reading.{IsBack, IsFront, Reads, behind, read_as_text}
 use Rattle.dom_commonmark.specs.declared.escaping.Place.{Place}
-use Rattle.dom_commonmark.proofs.MarkLemmas.{MarksPass, marked_punctuation, unmarked}
+use Rattle.dom_commonmark.specs.Lines.{begins_mark, is_nil}
+use Rattle.dom_commonmark.proofs.MarkLemmas.{MarksPass, differ, marked_punctuation, unmarked}
 
 and_left : (a b : Bool) → (a && b) ≡ true → a ≡ true
 and_left true b h = refl
@@ -224,9 +225,39 @@ reads_on place before made (b ∷ text) after f back = elim (cases_Bool (is_mark
       rw (n, c.0, c.1) (ap (behind b) (reads_on place (b ∷ before) (b ∷ made) text after (follows_plain before made b f) back)))
 ]
 
+-- ---- at the beginning of a line
+
+less_parts : (m t l : Bool) → (if m then true else t || l) ≡ false → (m ≡ false) × (t ≡ false)
+less_parts true t l h = never h _
+less_parts false true l h = never h _
+less_parts false false l h = (refl, refl)
+
+some_text : (text : List ℕ) → begins_mail true text ≡ false → is_nil text ≡ false
+some_text [] h = never h _
+some_text (b ∷ text) h = refl
+
+less_than_alone : (place : Place) (text : List ℕ) → is_marked place [] less_than text ≡ false → (begins_mail true text ≡ false) × (begins_tag (first_of text) ≡ false)
+less_than_alone place text f = less_parts (begins_mail true text) (begins_tag (first_of text)) (begins_mail false text) f
+
+no_tag : (place : Place) (b : ℕ) (text after : List ℕ) → is_marked place [] b text ≡ false → (b == less_than && begins_tag (first_of (escaped_on place (b ∷ []) text ++ after))) ≡ false
+no_tag place b text after f = elim (cases_Bool (b == less_than)) as (λ t. (b == less_than && begins_tag (first_of (escaped_on place (b ∷ []) text ++ after))) ≡ false) [
+  | inl t ↦ (let p = less_than_alone place text (sym (ap (λ x. is_marked place [] x text) (eqb-true b less_than t)) ∙ f) in
+      rw t (head_some begins_tag refl place (b ∷ []) text after (some_text text p.0) p.1))
+  | inr n ↦ rw n refl
+]
+
+starts_as_text : (place : Place) (text after : List ℕ) → is_nil text ≡ false → begins_mark (escaped place text ++ after) ≡ false
+starts_as_text place [] after some = never some _
+starts_as_text place (b ∷ text) after some = elim (cases_Bool (is_marked place [] b text)) as (λ t. begins_mark (escaped place (b ∷ text) ++ after) ≡ false) [
+  | inl t ↦ rw t refl
+  | inr f ↦ (let Q = λ (x : ℕ). is_marked place [] x text in
+      rw (f, differ Q b asterisk f refl, differ Q b underscore f refl, differ Q b backtick f refl, differ Q b tilde f refl, differ Q b left_bracket f refl) (no_tag place b text after f))
+]
+
 pub reads-escaped : (place : Place) (old new text : List ℕ) → new ≡ old ++ escaped place text → Reads place old new text
 reads-escaped place old new text is = record {
   piece = escaped place text;
   is = is;
   reads = λ before after front back. reads_on place [] before text after (follows_start before front) back;
+  starts = λ some after. starts_as_text place text after some;
 }

@@ -4,12 +4,9 @@ use Rattle.std.specs.List.{slice_range}
 use Rattle.std.specs.Str.{IsCharBoundary}
 use Rattle.dom_nodes.specs.Ascii.{backslash, exclamation_mark, less_than}
 use Rattle.dom_commonmark.specs.Inline.{begins_mail, can_begin}
+use Rattle.dom_commonmark.specs.Lines.{is_nil}
 use Rattle.dom_commonmark.specs.declared.escaping.Place.{Place}
 use Rattle.dom_commonmark.specs.declared.escaping.Cut.{Cut}
-
-abbrev pub is_nil : List ℕ → Bool
-is_nil [] = true
-is_nil (b ∷ text) = false
 
 -- the byte needs a backslash: it is one, or a construct can begin or end at it, or could with what follows the text
 abbrev pub is_marked : Place → List ℕ → ℕ → List ℕ → Bool

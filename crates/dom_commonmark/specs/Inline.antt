@@ -7,6 +7,10 @@ use Rattle.dom_nodes.specs.Ascii.{ampersand, asterisk, at_sign, backslash, backt
 abbrev pub first_of : List ℕ → ℕ
 first_of text = slice_index_or text 0 0
 
+-- a letter, a digit or a space, at which nothing begins or ends
+abbrev pub is_plain : ℕ → Bool
+is_plain b = b == space || is_ascii_alphanumeric b
+
 -- a delimiter run with whitespace on both sides is neither left-flanking nor right-flanking (6.2)
 abbrev pub is_in_spaces : List ℕ → List ℕ → Bool
 is_in_spaces before after = first_of before == space && first_of after == space

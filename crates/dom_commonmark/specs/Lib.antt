@@ -1,3 +1,4 @@
 pub mod Escaping
 pub mod Inline
+pub mod Lines
 pub mod Reading

@@ -3,6 +3,7 @@ use Rattle.std.specs.Prelude.{◌≡◌, ℕ, ◌==◌, Bool, true, false, List,
 use Rattle.std.specs.Char.{is_ascii_alphanumeric, is_ascii_punctuation}
 use Rattle.dom_nodes.specs.Ascii.{backslash, left_bracket, number_sign, semicolon, slash}
 use Rattle.dom_commonmark.specs.Inline.{can_begin, first_of}
+use Rattle.dom_commonmark.specs.Lines.{begins_mark, is_nil}
 use Rattle.dom_commonmark.specs.declared.escaping.Place.{Place}
 
 -- the byte before a text that was read
@@ -37,11 +38,12 @@ pub record IsBack (place : Place) (after : List ℕ) : Type 0 where
   pub no_slash : (first_of after == slash) ≡ false
   pub only_links : (first_of after == left_bracket) ≡ true → place.before_link ≡ true
 
--- a piece was appended that is read as the text, between any two such neighbours
+-- a piece was appended that is read as the text, between any two such neighbours, and that begins no block at the beginning of a line
 pub record Reads (place : Place) (old new text : List ℕ) : Type 0 where
   pub piece : List ℕ
   pub is : new ≡ old ++ piece
   pub reads : (before after : List ℕ) → IsFront before → IsBack place after → read_as_text false place.cell before piece after ≡ Some text
+  pub starts : is_nil text ≡ false → (after : List ℕ) → begins_mark (piece ++ after) ≡ false
 
 abbrev pub ReadsAsText : {A : Type 0} → Place → (old new : String A) → List ℕ → Type 0
 ReadsAsText place old new text = Reads place (string_bytes old) (string_bytes new) text

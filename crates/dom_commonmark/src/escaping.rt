@@ -8,7 +8,7 @@ ghost use Rattle.dom_nodes.specs.Ascii.{number_sign};
 ghost use Rattle.dom_commonmark.specs.Escaping.{AppendsEscaped, Cuts, FindsMark, is_marked};
 ghost use Rattle.dom_commonmark.specs.Inline.{begins_address, begins_mail, begins_tag, can_begin};
 ghost use Rattle.dom_commonmark.specs.Inline.{is_in_mail, is_in_spaces, is_in_word};
-ghost use Rattle.dom_commonmark.specs.Inline.{is_reference, is_www};
+ghost use Rattle.dom_commonmark.specs.Inline.{is_plain, is_reference, is_www};
 ghost use Rattle.dom_commonmark.specs.Reading.{ReadsAsText};
 
 use dom_nodes::fault::OutOfMemory;
@@ -24,8 +24,9 @@ pub struct Place {
 
 /// Appends the text with a backslash before each character that begins or ends a construct. A
 /// reader takes what was appended as exactly that text, unless a letter or digit is before it, or
-/// one of those, `;`, `#` or `/` behind it, or a `[` that `place` doesn't name. Fails only when
-/// memory runs out.
+/// one of those, `;`, `#` or `/` behind it, or a `[` that `place` doesn't name. A line that begins
+/// with what was appended begins no block by a mark of a line's inside, such as a fence, a list of
+/// stars or HTML; for other blocks see `line_marks::push_line`. Fails only when memory runs out.
 pub fn push_escaped(out: &mut String, text: &str, place: Place) -> Result<(), OutOfMemory>
     ensures value { OnOk result (AppendsEscaped place out.old out.new text.now) }
     ensures reads { OnOk result (ReadsAsText place out.old out.new text.now) }
@@ -83,10 +84,21 @@ fn find_mark(bytes: &[u8], from: usize, place: Place) -> Option<usize>
     None
 }
 
+/// Returns whether a byte is a letter, a digit or a space, which never need a backslash. Most
+/// bytes of a text are.
+fn is_plain(byte: u8) -> bool
+    ensures { result ≡ is_plain byte }
+{
+    byte == b' ' || byte.is_ascii_alphanumeric()
+}
+
 /// Returns whether a byte needs a backslash, between what is before and after it in the text.
 fn is_marked(before: &[u8], byte: u8, after: &[u8], place: Place) -> bool
     ensures { result ≡ is_marked place (reverse before.now) byte after.now }
 {
+    if is_plain(byte) {
+        return false;
+    }
     if byte == b'\\' {
         return true;
     }

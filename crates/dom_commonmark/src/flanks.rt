@@ -22,6 +22,15 @@ impl MarkKind {
             MarkKind::Link => "[",
         }
     }
+
+    /// Returns how many stars the mark has, which a reader takes together with stars beside it.
+    pub(crate) fn stars(self) -> u8 {
+        match self {
+            MarkKind::Strong => 2,
+            MarkKind::Emphasis => 1,
+            MarkKind::Strike | MarkKind::Link => 0,
+        }
+    }
 }
 
 /// A mark around a text.
@@ -32,6 +41,8 @@ pub(crate) struct Mark {
     pub(crate) id: NodeId,
     /// It is left out, since a reader would not take it as a mark here.
     pub(crate) is_hidden: bool,
+    /// Its stars begin in a run with those of another mark.
+    pub(crate) is_in_run: bool,
 }
 
 impl Mark {

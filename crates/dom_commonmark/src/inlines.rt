@@ -44,9 +44,16 @@ pub(crate) struct Inlines<'a> {
     last: char,
     /// Marks, breaks or code began or ended after the text.
     is_changed: bool,
+    /// How many stars are directly before the place that was reached, if the first of them end a
+    /// mark.
+    run: u8,
     /// The box of a task, which is written before the text that comes next.
     task_box: Option<&'static str>,
 }
+
+/// A reader takes three stars as the end of one mark and the beginning of another. Longer runs, and
+/// those of two, it may read otherwise.
+const FULL_RUN: u8 = 3;
 
 impl<'a> Inlines<'a> {
     pub(crate) fn new(alloc: Global, tree: &'a Tree) -> Inlines<'a> {
@@ -63,49 +70,58 @@ impl<'a> Inlines<'a> {
             is_in_code: false,
             last: ' ',
             is_changed: false,
+            run: 0,
             task_box: None,
         }
     }
 
     /// Appends a text of the page.
     pub(crate) fn push_text(&mut self, text: &str) -> Result<(), OutOfMemory> {
-        let mut begin: usize = 0;
-        let mut last = ' ';
-        for (at, c) in text.char_indices() {
-            if c.is_whitespace() {
-                self.push_word(text, begin, at, last)?;
-                self.push_space(c)?;
-                begin = at.saturating_add(c.len_utf8());
-            } else {
-                last = c;
+        let mut rest = text;
+        for _ in 0..text.len() {
+            if rest.is_empty() {
+                return Ok(());
             }
+            let Some((run, behind)) = rest.split_at_checked(run_length(rest.as_bytes())) else {
+                return Ok(());
+            };
+            self.push_run(run)?;
+            rest = self.push_next(behind)?;
         }
-        self.push_word(text, begin, text.len(), last)
+        Ok(())
     }
 
-    /// Appends the word between two indices of a text, if there is one, which has that last
-    /// character.
-    fn push_word(
-        &mut self,
-        text: &str,
-        begin: usize,
-        end: usize,
-        last: char,
-    ) -> Result<(), OutOfMemory> {
-        let Some(word) = text.get(begin..end) else {
-            return Ok(());
-        };
-        let Some(first) = word.chars().next() else {
+    /// Appends words with one space between them.
+    fn push_run(&mut self, run: &str) -> Result<(), OutOfMemory> {
+        let Some(first) = run.chars().next() else {
             return Ok(());
         };
         self.push_char(first)?;
-        if !self.is_in_code {
-            self.last = last;
+        let Some(rest) = run.get(first.len_utf8()..) else {
+            return Ok(());
+        };
+        if !self.is_in_code && !rest.is_empty() {
+            self.last = last_char(rest);
         }
-        match word.get(first.len_utf8()..) {
-            Some(rest) => Ok(self.text.push_str(rest)?),
-            None => Ok(()),
+        Ok(self.text.push_str(rest)?)
+    }
+
+    /// Appends the next character of a text, or the ASCII whitespace that it begins with. Returns
+    /// the rest of the text.
+    fn push_next<'t>(&mut self, text: &'t str) -> Result<&'t str, OutOfMemory> {
+        let Some(next) = text.chars().next() else {
+            return Ok(text);
+        };
+        if next.is_ascii_whitespace() {
+            self.push_space(' ')?;
+            return Ok(text.trim_ascii_start());
         }
+        if next.is_whitespace() {
+            self.push_space(next)?;
+        } else {
+            self.push_char(next)?;
+        }
+        Ok(text.get(next.len_utf8()..).unwrap_or(""))
     }
 
     /// Appends whitespace, which is written once something visible follows. A run of ASCII
@@ -130,10 +146,11 @@ impl<'a> Inlines<'a> {
             return Ok(self.text.push(c)?);
         }
         let must_name = self.go_on(c)?;
-        self.last = c;
         if must_name {
+            self.last = ';';
             return self.push_named(c);
         }
+        self.last = c;
         Ok(self.text.push(c)?)
     }
 
@@ -166,9 +183,8 @@ impl<'a> Inlines<'a> {
         self.settle_breaks()?;
         let kept = self.kept_marks();
         let begins_link = self.begins_link(kept);
-        let next = self.next_outside(kept, next);
         let is_joined = self.space.is_empty() && self.breaks == 0;
-        let hides = is_joined && self.hides_marks(kept, next);
+        let hides = is_joined && self.hides_marks(kept, self.next_outside(kept, next));
         let is_same_text = self.text_is_code == self.is_in_code && self.breaks == 0;
         if is_same_text && !self.writes_marks(kept, hides) {
             self.opened.truncate(kept);
@@ -180,10 +196,13 @@ impl<'a> Inlines<'a> {
         self.flush_text(is_joined && begins_link)?;
         self.text_is_code = false;
         let is_open = self.close_marks(kept)?;
+        if !is_joined {
+            self.run = 0;
+        }
         self.push_gap()?;
-        self.open_marks(kept, hides)?;
+        let is_apart = self.open_marks(kept, hides)?;
         self.set_text_kind()?;
-        if !is_open || !is_joined {
+        if !is_open || !is_joined || is_apart || begins_link {
             return Ok(false);
         }
         Ok(is_letter_like(next))
@@ -269,7 +288,7 @@ impl<'a> Inlines<'a> {
     /// would not take them as beginnings, or would take them as ends of the marks around.
     fn hides_marks(&self, kept: usize, next: char) -> bool {
         if !is_punctuation_like(next) {
-            return false;
+            return self.ends_outer(kept);
         }
         if is_letter_like(self.last) {
             return true;
@@ -278,6 +297,43 @@ impl<'a> Inlines<'a> {
             return false;
         }
         self.are_written(0, kept)
+    }
+
+    /// Returns whether a reader would take stars that begin here as the end of a mark around them.
+    /// It does so between two letters, if the stars of that mark begin in a run with others. It
+    /// looks past the ends of strikethrough.
+    fn ends_outer(&self, kept: usize) -> bool {
+        if self.new_stars(kept) == 0 || !is_letter_like(self.last) {
+            return false;
+        }
+        for at in kept..self.opened.len() {
+            if let Some(mark) = self.opened.get(at) {
+                if mark.kind != MarkKind::Strike && !mark.is_hidden {
+                    return false;
+                }
+            }
+        }
+        for at in 0..kept {
+            if let Some(mark) = self.opened.get(at) {
+                if mark.is_in_run && !mark.is_hidden {
+                    return true;
+                }
+            }
+        }
+        false
+    }
+
+    /// Returns how many of the marks from an index on have stars.
+    fn new_stars(&self, kept: usize) -> usize {
+        let mut count: usize = 0;
+        for at in kept..self.marks.len() {
+            if let Some(mark) = self.marks.get(at) {
+                if mark.kind.stars() > 0 {
+                    count = count.saturating_add(1);
+                }
+            }
+        }
+        count
     }
 
     /// Returns whether a mark is written where those from an index on end.
@@ -341,6 +397,8 @@ impl<'a> Inlines<'a> {
     fn close_marks(&mut self, kept: usize) -> Result<bool, OutOfMemory> {
         let mut is_open = false;
         let mut is_after_mark = false;
+        let mut is_after_strike = false;
+        self.run = 0;
         for _ in 0..self.opened.len() {
             if self.opened.len() <= kept {
                 return Ok(is_open);
@@ -350,9 +408,13 @@ impl<'a> Inlines<'a> {
             };
             if mark.kind == MarkKind::Link {
                 self.end_link(mark.id)?;
+                self.run = 0;
                 is_open = false;
+                is_after_strike = false;
             } else if !mark.is_hidden {
                 self.line.push_str(mark.kind.as_str())?;
+                self.run = self.run_with(mark.kind, is_after_strike);
+                is_after_strike = mark.kind == MarkKind::Strike;
                 if is_after_mark || is_punctuation_like(self.last) {
                     is_open = true;
                 }
@@ -386,29 +448,61 @@ impl<'a> Inlines<'a> {
         Ok(self.line.push_str(text)?)
     }
 
-    /// Writes the beginnings of the marks from an index on.
-    fn open_marks(&mut self, kept: usize, hides: bool) -> Result<(), OutOfMemory> {
+    /// Writes the beginnings of the marks from an index on. Returns whether stars begin that aren't
+    /// directly after stars.
+    fn open_marks(&mut self, kept: usize, hides: bool) -> Result<bool, OutOfMemory> {
         let mut hides = hides;
+        let mut is_apart = false;
+        let is_in_run = self.run > 0 || self.new_stars(kept) > 1;
         for at in kept..self.marks.len() {
             let Some(found) = self.marks.get(at) else {
-                return Ok(());
+                return Ok(is_apart);
             };
             let mut mark = *found;
             if mark.kind == MarkKind::Link {
                 hides = false;
             }
-            mark.is_hidden = hides;
-            if !hides {
+            mark.is_hidden = hides || self.is_run_full(mark.kind);
+            mark.is_in_run = is_in_run;
+            if !mark.is_hidden {
+                if mark.kind.stars() > 0 && self.run == 0 {
+                    is_apart = true;
+                }
                 self.begin_mark(mark.kind)?;
             }
             push_mark(&mut self.opened, mark)?;
         }
-        Ok(())
+        Ok(is_apart)
     }
 
     fn begin_mark(&mut self, kind: MarkKind) -> Result<(), OutOfMemory> {
         self.flush_text(kind == MarkKind::Link)?;
+        if self.run > 0 {
+            self.run = if kind.stars() > 0 { FULL_RUN } else { 0 };
+        }
         Ok(self.line.push_str(kind.as_str())?)
+    }
+
+    /// Returns whether the mark doesn't fit into the run of stars that is before it.
+    fn is_run_full(&self, kind: MarkKind) -> bool {
+        let stars = kind.stars();
+        if stars == 0 || self.run == 0 {
+            return false;
+        }
+        self.run.saturating_add(stars) != FULL_RUN
+    }
+
+    /// Returns how many stars are in the run after the end of a mark. Directly after the end of
+    /// strikethrough no mark begins in it.
+    fn run_with(&self, kind: MarkKind, is_after_strike: bool) -> u8 {
+        let stars = kind.stars();
+        if stars == 0 {
+            return 0;
+        }
+        if is_after_strike {
+            return FULL_RUN;
+        }
+        self.run.saturating_add(stars)
     }
 
     /// Puts a mark around what follows. Returns whether it was not there before.
@@ -421,6 +515,7 @@ impl<'a> Inlines<'a> {
             kind,
             id,
             is_hidden: false,
+            is_in_run: false,
         };
         push_mark(&mut self.marks, mark)?;
         Ok(true)
@@ -470,10 +565,13 @@ impl<'a> Inlines<'a> {
         words: &str,
         target: Target<'_>,
     ) -> Result<(), OutOfMemory> {
-        self.is_changed = true;
+        // Code ends before it, and goes on in a span of its own.
+        let is_in_code = self.is_in_code;
+        self.set_code(false);
         self.go_on('!')?;
         self.flush_text(false)?;
         self.last = ')';
+        self.set_code(is_in_code);
         push_image(&mut self.line, words, target)
     }
 
@@ -527,6 +625,40 @@ impl<'a> Inlines<'a> {
         self.last = ' ';
         self.is_changed = true;
         Ok(())
+    }
+}
+
+/// Returns how many bytes at the start of a text are those of words with one space between them. A
+/// character that may be whitespace and isn't ASCII ends them.
+fn run_length(bytes: &[u8]) -> usize {
+    let mut spaces: usize = 1;
+    for at in 0..bytes.len() {
+        let byte = bytes[at];
+        if is_in_word(byte) {
+            spaces = 0;
+        } else if byte == b' ' && spaces == 0 {
+            spaces = 1;
+        } else {
+            return at.saturating_sub(spaces);
+        }
+    }
+    bytes.len().saturating_sub(spaces)
+}
+
+/// Returns whether a byte belongs to a character that is no whitespace. The characters of Unicode
+/// that are whitespace begin with the bytes 0xC2, 0xE1, 0xE2 and 0xE3.
+fn is_in_word(byte: u8) -> bool {
+    if byte < 0xC2 {
+        return byte > b' ';
+    }
+    byte != 0xC2 && !(0xE1..=0xE3).contains(&byte)
+}
+
+/// Returns the last character of a text; a space if there is none.
+fn last_char(text: &str) -> char {
+    match text.as_bytes().last() {
+        Some(byte) if byte.is_ascii() => char::from(*byte),
+        _ => text.chars().next_back().unwrap_or(' '),
     }
 }
 

@@ -6,7 +6,7 @@ mod addresses;
 pub mod escaping;
 mod flanks;
 mod inlines;
-mod line_marks;
+pub mod line_marks;
 mod lines;
 pub mod options;
 mod spans;

@@ -1,6 +1,6 @@
 //! The lines that are finished, and the prefixes of those that follow.
 
-use crate::line_marks::line_mark;
+use crate::line_marks::push_line;
 use crate::spans::push_times;
 use dom_nodes::fault::OutOfMemory;
 use std::alloc::Global;
@@ -124,16 +124,8 @@ impl Lines {
 
     /// Writes a line of a paragraph, so that it begins no other block.
     fn write_text_line(&mut self, line: &str) -> Result<(), OutOfMemory> {
-        let Some(at) = line_mark(line) else {
-            return self.write_line(line);
-        };
-        let Some((before, after)) = line.split_at_checked(at) else {
-            return self.write_line(line);
-        };
-        self.write_prefix(false)?;
-        self.text.push_str(before)?;
-        self.text.push('\\')?;
-        self.text.push_str(after)?;
+        self.write_prefix(line.is_empty())?;
+        push_line(&mut self.text, line)?;
         Ok(self.text.push('\n')?)
     }
 

@@ -35,95 +35,144 @@ pub(crate) enum Tag {
     Input,
 }
 
-// The names of elements that are not `Tag::Inline`, by their length.
+// The names of elements that are not `Tag::Inline`, by their first letter.
 
 #[rattlefmt::skip]
-static ONE: [(&str, Tag); 5] = [
-    ("p", Tag::Block), ("a", Tag::Link), ("b", Tag::Strong), ("i", Tag::Emphasis),
-    ("s", Tag::Strike),
+static A: [(&str, Tag); 5] = [
+    ("a", Tag::Link), ("address", Tag::Block), ("article", Tag::Block), ("aside", Tag::Block),
+    ("audio", Tag::Skipped),
 ];
 
 #[rattlefmt::skip]
-static TWO: [(&str, Tag); 19] = [
-    ("li", Tag::Item), ("td", Tag::Cell), ("tr", Tag::Row), ("em", Tag::Emphasis),
-    ("br", Tag::Break), ("ul", Tag::UnorderedList), ("ol", Tag::OrderedList),
+static B: [(&str, Tag); 5] = [
+    ("b", Tag::Strong), ("br", Tag::Break), ("base", Tag::Skipped), ("blockquote", Tag::Quote),
+    ("body", Tag::Block),
+];
+
+#[rattlefmt::skip]
+static C: [(&str, Tag); 5] = [
+    ("code", Tag::Code), ("canvas", Tag::Skipped), ("caption", Tag::Caption),
+    ("center", Tag::Block), ("colgroup", Tag::Skipped),
+];
+
+#[rattlefmt::skip]
+static D: [(&str, Tag); 9] = [
+    ("div", Tag::Block), ("dd", Tag::Block), ("dt", Tag::Term), ("datalist", Tag::Skipped),
+    ("del", Tag::Strike), ("details", Tag::Block), ("dialog", Tag::Block),
+    ("dir", Tag::UnorderedList), ("dl", Tag::Block),
+];
+
+#[rattlefmt::skip]
+static E: [(&str, Tag); 1] = [
+    ("em", Tag::Emphasis),
+];
+
+#[rattlefmt::skip]
+static F: [(&str, Tag); 6] = [
+    ("fieldset", Tag::Block), ("figcaption", Tag::Block), ("figure", Tag::Block),
+    ("footer", Tag::Block), ("form", Tag::Block), ("frameset", Tag::Block),
+];
+
+#[rattlefmt::skip]
+static H: [(&str, Tag); 11] = [
     ("h1", Tag::Heading(1)), ("h2", Tag::Heading(2)), ("h3", Tag::Heading(3)),
-    ("h4", Tag::Heading(4)), ("h5", Tag::Heading(5)), ("h6", Tag::Heading(6)), ("th", Tag::Cell),
-    ("hr", Tag::Rule), ("dt", Tag::Term), ("dd", Tag::Block), ("dl", Tag::Block),
-    ("tt", Tag::Code),
+    ("h4", Tag::Heading(4)), ("h5", Tag::Heading(5)), ("h6", Tag::Heading(6)),
+    ("head", Tag::Skipped), ("header", Tag::Block), ("hgroup", Tag::Block), ("hr", Tag::Rule),
+    ("html", Tag::Block),
 ];
 
 #[rattlefmt::skip]
-static THREE: [(&str, Tag); 7] = [
-    ("div", Tag::Block), ("img", Tag::Image), ("pre", Tag::Preformatted), ("del", Tag::Strike),
-    ("dir", Tag::UnorderedList), ("nav", Tag::Block), ("xmp", Tag::Preformatted),
+static I: [(&str, Tag); 4] = [
+    ("i", Tag::Emphasis), ("iframe", Tag::Skipped), ("img", Tag::Image), ("input", Tag::Input),
 ];
 
 #[rattlefmt::skip]
-static FOUR: [(&str, Tag); 11] = [
-    ("code", Tag::Code), ("samp", Tag::Code), ("menu", Tag::UnorderedList), ("head", Tag::Skipped),
-    ("meta", Tag::Skipped), ("link", Tag::Skipped), ("base", Tag::Skipped), ("html", Tag::Block),
-    ("body", Tag::Block), ("main", Tag::Block), ("form", Tag::Block),
+static L: [(&str, Tag); 4] = [
+    ("li", Tag::Item), ("legend", Tag::Block), ("link", Tag::Skipped),
+    ("listing", Tag::Preformatted),
 ];
 
 #[rattlefmt::skip]
-static FIVE: [(&str, Tag); 7] = [
-    ("table", Tag::Table), ("input", Tag::Input), ("style", Tag::Skipped), ("title", Tag::Skipped),
-    ("audio", Tag::Skipped), ("video", Tag::Skipped), ("aside", Tag::Block),
+static M: [(&str, Tag); 3] = [
+    ("main", Tag::Block), ("menu", Tag::UnorderedList), ("meta", Tag::Skipped),
 ];
 
 #[rattlefmt::skip]
-static SIX: [(&str, Tag); 14] = [
-    ("strong", Tag::Strong), ("strike", Tag::Strike), ("script", Tag::Skipped),
-    ("iframe", Tag::Skipped), ("canvas", Tag::Skipped), ("header", Tag::Block),
-    ("footer", Tag::Block), ("center", Tag::Block), ("dialog", Tag::Block), ("legend", Tag::Block),
-    ("figure", Tag::Block), ("hgroup", Tag::Block), ("search", Tag::Block), ("option", Tag::Block),
+static N: [(&str, Tag); 4] = [
+    ("nav", Tag::Block), ("noembed", Tag::Skipped), ("noframes", Tag::Skipped),
+    ("noscript", Tag::Block),
 ];
 
 #[rattlefmt::skip]
-static SEVEN: [(&str, Tag); 8] = [
-    ("caption", Tag::Caption), ("noembed", Tag::Skipped), ("section", Tag::Block),
-    ("article", Tag::Block), ("address", Tag::Block), ("details", Tag::Block),
-    ("summary", Tag::Block), ("listing", Tag::Preformatted),
+static O: [(&str, Tag); 3] = [
+    ("ol", Tag::OrderedList), ("optgroup", Tag::Block), ("option", Tag::Block),
 ];
 
 #[rattlefmt::skip]
-static EIGHT: [(&str, Tag); 9] = [
-    ("template", Tag::Skipped), ("noframes", Tag::Skipped), ("datalist", Tag::Skipped),
-    ("colgroup", Tag::Skipped), ("fieldset", Tag::Block), ("noscript", Tag::Block),
-    ("optgroup", Tag::Block), ("frameset", Tag::Block), ("textarea", Tag::Preformatted),
+static P: [(&str, Tag); 3] = [
+    ("p", Tag::Block), ("pre", Tag::Preformatted), ("plaintext", Tag::Preformatted),
 ];
 
 #[rattlefmt::skip]
-static NINE: [(&str, Tag); 1] = [
-    ("plaintext", Tag::Preformatted),
+static S: [(&str, Tag); 9] = [
+    ("strong", Tag::Strong), ("section", Tag::Block), ("s", Tag::Strike), ("samp", Tag::Code),
+    ("script", Tag::Skipped), ("search", Tag::Block), ("strike", Tag::Strike),
+    ("style", Tag::Skipped), ("summary", Tag::Block),
 ];
 
 #[rattlefmt::skip]
-static TEN: [(&str, Tag); 2] = [
-    ("blockquote", Tag::Quote), ("figcaption", Tag::Block),
+static T: [(&str, Tag); 8] = [
+    ("td", Tag::Cell), ("tr", Tag::Row), ("tt", Tag::Code), ("th", Tag::Cell),
+    ("table", Tag::Table), ("template", Tag::Skipped), ("textarea", Tag::Preformatted),
+    ("title", Tag::Skipped),
+];
+
+#[rattlefmt::skip]
+static U: [(&str, Tag); 1] = [
+    ("ul", Tag::UnorderedList),
+];
+
+#[rattlefmt::skip]
+static V: [(&str, Tag); 1] = [
+    ("video", Tag::Skipped),
+];
+
+#[rattlefmt::skip]
+static X: [(&str, Tag); 1] = [
+    ("xmp", Tag::Preformatted),
 ];
 
 /// Returns the kind of the elements with this name.
 pub(crate) fn tag_named(name: &str) -> Tag {
-    match name.len() {
-        1 => tag_in(ONE.as_slice(), name),
-        2 => tag_in(TWO.as_slice(), name),
-        3 => tag_in(THREE.as_slice(), name),
-        4 => tag_in(FOUR.as_slice(), name),
-        5 => tag_in(FIVE.as_slice(), name),
-        6 => tag_in(SIX.as_slice(), name),
-        7 => tag_in(SEVEN.as_slice(), name),
-        8 => tag_in(EIGHT.as_slice(), name),
-        9 => tag_in(NINE.as_slice(), name),
-        10 => tag_in(TEN.as_slice(), name),
+    let Some(first) = name.as_bytes().first() else {
+        return Tag::Inline;
+    };
+    match *first {
+        b'a' => tag_in(A.as_slice(), name),
+        b'b' => tag_in(B.as_slice(), name),
+        b'c' => tag_in(C.as_slice(), name),
+        b'd' => tag_in(D.as_slice(), name),
+        b'e' => tag_in(E.as_slice(), name),
+        b'f' => tag_in(F.as_slice(), name),
+        b'h' => tag_in(H.as_slice(), name),
+        b'i' => tag_in(I.as_slice(), name),
+        b'l' => tag_in(L.as_slice(), name),
+        b'm' => tag_in(M.as_slice(), name),
+        b'n' => tag_in(N.as_slice(), name),
+        b'o' => tag_in(O.as_slice(), name),
+        b'p' => tag_in(P.as_slice(), name),
+        b's' => tag_in(S.as_slice(), name),
+        b't' => tag_in(T.as_slice(), name),
+        b'u' => tag_in(U.as_slice(), name),
+        b'v' => tag_in(V.as_slice(), name),
+        b'x' => tag_in(X.as_slice(), name),
         _ => Tag::Inline,
     }
 }
 
 fn tag_in(tags: &[(&str, Tag)], name: &str) -> Tag {
     for (known, tag) in tags {
-        if *known == name {
+        if known.len() == name.len() && *known == name {
             return *tag;
         }
     }
@@ -135,5 +184,14 @@ pub(crate) fn tag_of(node: &NodeRef<'_>) -> Tag {
     match node.node_name() {
         Some(name) => tag_named(name),
         None => Tag::Inline,
+    }
+}
+
+/// Returns whether the elements of this kind stand on lines of their own.
+pub(crate) fn is_block_tag(tag: Tag) -> bool {
+    match tag {
+        Tag::Inline | Tag::Skipped | Tag::Strong | Tag::Emphasis | Tag::Strike | Tag::Code => false,
+        Tag::Link | Tag::Image | Tag::Break | Tag::Input => false,
+        _ => true,
     }
 }

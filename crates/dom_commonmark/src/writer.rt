@@ -10,7 +10,7 @@ use crate::flanks::MarkKind;
 use crate::inlines::{Flow, Inlines};
 use crate::lines::{Beginning, Lines};
 use crate::options::Options;
-use crate::tags::{Tag, tag_named, tag_of};
+use crate::tags::{Tag, is_block_tag, tag_named, tag_of};
 use crate::writer::lists::List;
 use crate::writer::tables::Table;
 use dom_nodes::fault::OutOfMemory;
@@ -47,11 +47,7 @@ pub fn commonmark_inside(
 
 /// Returns whether a node is a block, which stands on lines of its own.
 pub fn is_block(node: &NodeRef<'_>) -> bool {
-    match tag_of(node) {
-        Tag::Inline | Tag::Skipped | Tag::Strong | Tag::Emphasis | Tag::Strike | Tag::Code => false,
-        Tag::Link | Tag::Image | Tag::Break | Tag::Input => false,
-        _ => true,
-    }
+    is_block_tag(tag_of(node))
 }
 
 /// A piece of what remains to be written.

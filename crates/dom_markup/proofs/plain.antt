@@ -1,4 +1,5 @@
 -- Plain documents are read back.
+pub mod WrittenTrees
 pub mod PlainText
 pub mod PlainForest
 pub mod PlainRows

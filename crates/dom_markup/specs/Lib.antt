@@ -31,4 +31,5 @@ pub mod Taking
 pub mod Token
 pub mod Tokens
 pub mod ValueTrees
+pub mod WrittenTrees
 pub mod Writing

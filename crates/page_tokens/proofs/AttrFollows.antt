@@ -55,7 +55,7 @@ holds_attr kept [] value one older some name_is value_is are = absurd (omega (ar
 holds_attr kept (b ∷ name) value one older some name_is value_is are = (name_is, value_is, are)
 
 -- no attribute is being read
-none_held : (kept : List TagAttr) (name value : List ℕ) (attrs : List Attr) → name ≡ [] → HoldsAttrs kept name value attrs → (value ≡ []) × AreAttrs kept (distinct (reverse attrs))
+pub none_held : (kept : List TagAttr) (name value : List ℕ) (attrs : List Attr) → name ≡ [] → HoldsAttrs kept name value attrs → (value ≡ []) × AreAttrs kept (distinct (reverse attrs))
 none_held kept [] value attrs none held = held
 none_held kept (b ∷ name) value attrs none held = absurd (cc)
 

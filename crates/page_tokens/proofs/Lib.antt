@@ -16,6 +16,7 @@ mod DoctypeFollows
 mod DoctypeSteps
 mod EndTagSteps
 mod FollowsOn
+mod Fronts
 mod IdRuns
 mod LaneLemmas
 mod LongestNames
@@ -27,12 +28,15 @@ mod NameSteps
 mod NameStops
 mod NumberFollows
 mod NumberSteps
+mod PageCalls
 mod PageEnds
 mod PageStops
 mod PageTexts
 mod PlaceLetters
 mod Placed
+mod PlainAttrs
 mod PlainReferences
+mod PlainSpaces
 mod PlainTags
 mod RawEndTags
 mod RawTexts

@@ -1,6 +1,6 @@
 -- The frequent references are read at once as the standard reads them.
 use Rattle.std.specs.Prelude.{◌≡◌, ℕ, Bool, true, false, not, ◌==◌, ◌&&◌, cond, List, [], ◌∷◌, ◌++◌, map, length, take, drop, codes, None, Some, refl}
-use Rattle.std.proofs.Common.{inl, inr}
+use Rattle.std.proofs.Common.{arith, inl, inr}
 use Rattle.std.specs.Char.{encode_utf8}
 use Rattle.std.specs.List.{list_all}
 use Rattle.std.specs.Str.{encode_utf8_all}
@@ -186,6 +186,7 @@ front_follows old new text meant rest begins allows outside fresh same puts =
       outside = outside;
       fresh = fresh;
       read = 38 ∷ begins.name;
+      some = omega arith;
       cut = begins.cut ∙ ap (λ e. e ++ rest) (sym is.spelled);
       no_return = is.no_return;
       follows = λ free. reference_follows old new begins.name begins.c begins.is allows outside (sym same ∙ free) (subst (PutsMeant (is_value (state_of old.state)) old new) begins.means puts);

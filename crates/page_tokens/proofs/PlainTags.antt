@@ -1,20 +1,18 @@
 -- A tag without attributes is read at once as the standard reads it.
-use Rattle.std.specs.Prelude.{◌≡◌, ℕ, ◌+◌, ◌<◌, Bool, true, false, not, ◌==◌, List, [], ◌∷◌, ◌++◌, map, length, take, drop, get_or, Option, None, Result, Ok, Err, IfOk, string_bytes, refl}
-use Rattle.std.proofs.Common.{arith}
+use Rattle.std.specs.Prelude.{◌≡◌, ℕ, suc, ◌+◌, ◌<◌, Bool, true, false, not, ◌==◌, List, [], ◌∷◌, ◌++◌, map, length, take, drop, get_or, Option, None, string_bytes, refl}
+use Rattle.std.proofs.Common.{arith, inr}
 use Rattle.std.specs.Char.{encode_utf8, is_ascii_alphabetic, to_ascii_lowercase}
-use Rattle.std.specs.Borrow.{Bor}
-use Rattle.std.specs.List.{list_all}
+use Rattle.std.specs.List.{list_all, prefix_len}
 use Rattle.std.specs.Str.{IsUtf8, encode_utf8_all}
 use Rattle.std.proofs.lemmas.Bool.{true≢false}
 use Rattle.std.proofs.lemmas.List.{append_assoc, take-append-drop}
-use Rattle.std.proofs.lemmas.List.Folds.{list_all-append}
 use Rattle.std.proofs.lemmas.Str.{char_from_byte, encode_ascii, encodes-append}
 use mathlib.Core.Path.{◌∙◌, sym, ap, subst}
 use Rattle.standard_tokens.specs.Entries.{NewTag, Reconsume, Switch}
 use Rattle.standard_tokens.specs.Machine.{Machine, at_state, taken}
 use Rattle.standard_tokens.specs.States as there
 use Rattle.standard_tokens.specs.Table.{entries}
-use Rattle.page_tokens.specs.FastPaths.{IsBareTag, ReadsFront}
+use Rattle.page_tokens.specs.FastPaths.{IsOutside, ReadsAny, ReadsFront}
 use Rattle.page_tokens.specs.Runs.{ends_tag_name, tag_name_len_of}
 use Rattle.page_tokens.specs.Standard.{EmitsTag, FollowsStandard, Goes, Held, IsDraft, Keeps, kind_of}
 use Rattle.page_tokens.specs.StandardStates.{state_of}
@@ -28,7 +26,7 @@ use Rattle.page_tokens.specs.declared.tokenizer.references.Reference.TheVariants
 use Rattle.page_tokens.specs.declared.tokenizer.state.State.TheVariants as state
 use Rattle.page_tokens.specs.declared.tokenizer.state.TagState.TheVariants as tag
 use Rattle.page_tokens.proofs.DeclarationFollows.{led}
-use Rattle.page_tokens.proofs.FollowsOn.{follows_on}
+use Rattle.page_tokens.proofs.Fronts.{front_on, one_read}
 use Rattle.page_tokens.proofs.RunFollows.{NoneEnds, all_lowered, gathered_by}
 use Rattle.page_tokens.proofs.RunRead.{front_passes, no_return}
 use Rattle.page_tokens.proofs.RunStates.{name_step}
@@ -134,10 +132,6 @@ unfolding encode_utf8
 opening_spelled kind.Start cs = refl
 opening_spelled kind.End cs = refl
 
-greater_spelled : encode_utf8_all (62 ∷ []) ≡ 62 ∷ []
-unfolding encode_utf8
-greater_spelled = refl
-
 low : (c : ℕ) → ends_tag_name c ≡ true → c < 128
 low c h = grind arith
 
@@ -150,58 +144,68 @@ name_of (c ∷ cs) name spelled some letter all =
     let first : c ≡ get_or name 0 0 = char_from_byte name (encode_utf8_all cs) c (sym spelled) (letter_low (get_or name 0 0) letter) some in
     record { first = c; others = cs; are = refl; letter = ap is_ascii_alphabetic first ∙ letter; all = all }
 
-no_return_in : (which : TagKind) (cs : List ℕ) → list_all (λ c. not (c == 13)) cs ≡ true → list_all (λ c. not (c == 13)) (opening which ++ cs ++ (62 ∷ [])) ≡ true
-no_return_in kind.Start cs all = list_all-append (λ c. not (c == 13)) (60 ∷ cs) (62 ∷ []) ∙ rw all refl
-no_return_in kind.End cs all = list_all-append (λ c. not (c == 13)) (60 ∷ 47 ∷ cs) (62 ∷ []) ∙ rw all refl
+no_return_in : (which : TagKind) (cs : List ℕ) → list_all (λ c. not (c == 13)) cs ≡ true → list_all (λ c. not (c == 13)) (opening which ++ cs) ≡ true
+no_return_in kind.Start cs all = all
+no_return_in kind.End cs all = all
 
--- the name in front of `>`
+some_opening : (which : TagKind) (cs : List ℕ) → 0 < length (opening which ++ cs)
+some_opening kind.Start cs = omega arith
+some_opening kind.End cs = omega arith
+
+-- the name at the front of a text that begins with a letter
 record IsFront (front : List ℕ) (first : ℕ) : Type 0 where
   pub some : 0 < length front
   pub first_is : get_or front 0 0 ≡ first
 
-is_front : (text front rest : List ℕ) → text ≡ front ++ 62 ∷ rest → is_ascii_alphabetic (get_or text 0 0) ≡ true → IsFront front (get_or text 0 0)
-is_front text [] rest is letter = absurd (true≢false (sym letter ∙ ap (λ (t : List ℕ). is_ascii_alphabetic (get_or t 0 0)) is))
-is_front text (b ∷ front) rest is letter = record { some = omega arith; first_is = sym (ap (λ (t : List ℕ). get_or t 0 0) is) }
+letter_goes_on : (b : ℕ) → is_ascii_alphabetic b ≡ true → not (ends_tag_name b) ≡ true
+letter_goes_on b h = grind arith
 
--- the tag, where `>` follows the name
-tag_front : (old mid new : Tokenizer) (which : TagKind) (text front rest : List ℕ) (n : ℕ) (told : Option TokenKind) → old.state ≡ state.Data → old.reference ≡ reference.None → old.after_return ≡ false →
-    is_ascii_alphabetic (get_or text 0 0) ≡ true → IsUtf8 front → front ≡ take n text → drop n text ≡ 62 ∷ rest → n ≡ tag_name_len_of text → mid ≡ record old { tag = mid.tag } → IsNewTag mid.tag which front →
-    (new.refused ≡ false → Keeps mid new) → (0 < length (string_bytes mid.tag.name) → new.refused ≡ false → EmitsTag mid new told) → ReadsFront old new (opening which ++ text) rest told
-tag_front old mid new which text front rest n told is outside fresh letter utf8 front_is rest_is len only new_tag keeps emits =
+is_front : (text : List ℕ) → is_ascii_alphabetic (get_or text 0 0) ≡ true → IsFront (take (tag_name_len_of text) text) (get_or text 0 0)
+is_front [] letter = absurd (true≢false (sym letter))
+is_front (b ∷ text) letter =
+    let one : 1 + prefix_len (λ b. not (ends_tag_name b)) text ≡ suc (prefix_len (λ b. not (ends_tag_name b)) text) = omega arith in
+    let begun : IsFront (b ∷ take (prefix_len (λ b. not (ends_tag_name b)) text) text) b = record { some = omega arith; first_is = refl } in
+    rw (letter_goes_on b letter, one) begun
+
+-- a tag that begins here is read up to the end of its name
+pub tag_front : (old mid : Tokenizer) (which : TagKind) (text front rest : List ℕ) (n : ℕ) → old.state ≡ state.Data → IsOutside old → is_ascii_alphabetic (get_or text 0 0) ≡ true → IsUtf8 front → front ≡ take n text →
+    rest ≡ drop n text → n ≡ tag_name_len_of text → mid ≡ record old { tag = mid.tag } → IsNewTag mid.tag which front → ReadsFront old (record mid { state = state.Tag tag.Name }) (opening which ++ text) rest None
+tag_front old mid which text front rest n is outside letter utf8 front_is rest_is len only new_tag =
     let cs : List ℕ = utf8.0 in
     let spelled : encode_utf8_all cs ≡ front = utf8.1.1 in
-    let cut : text ≡ front ++ 62 ∷ rest = sym (take-append-drop n text) ∙ ap (λ e. e ++ drop n text) (sym front_is) ∙ ap (λ e. front ++ e) rest_is in
-    let at : IsFront front (get_or text 0 0) = is_front text front rest cut letter in
-    let bytes : list_all (λ b. not (ends_tag_name b)) (encode_utf8_all cs) ≡ true =
-    ap (list_all (λ b. not (ends_tag_name b))) (spelled ∙ front_is ∙ ap (λ k. take k text) len) ∙ front_passes (λ b. not (ends_tag_name b)) text in
+    let front_of : front ≡ take (tag_name_len_of text) text = front_is ∙ ap (λ k. take k text) len in
+    let at : IsFront front (get_or text 0 0) = subst (λ (f : List ℕ). IsFront f (get_or text 0 0)) (sym front_of) (is_front text letter) in
+    let bytes : list_all (λ b. not (ends_tag_name b)) (encode_utf8_all cs) ≡ true = ap (list_all (λ b. not (ends_tag_name b))) (spelled ∙ front_of) ∙ front_passes (λ b. not (ends_tag_name b)) text in
     let all : NoneEnds ends_tag_name cs = characters_of_run ends_tag_name low cs bytes in
     let name : IsName cs = name_of cs front spelled at.some (ap is_ascii_alphabetic at.first_is ∙ letter) all in
     let tagged : IsNewTag mid.tag which (encode_utf8_all cs) = subst (IsNewTag mid.tag which) (sym spelled) new_tag in
     let begun : Tokenizer = record mid { state = state.Tag tag.Name } in
     let begun_is : begun ≡ record old { state = state.Tag tag.Name; tag = mid.tag } = ap {A = Tokenizer} (λ t. record t { state = state.Tag tag.Name }) only in
-    let whole : encode_utf8_all (opening which ++ cs ++ (62 ∷ [])) ≡ opening which ++ front ++ (62 ∷ []) =
-    encodes-append (opening which ++ cs) (62 ∷ []) ∙ ap (λ e. e ++ encode_utf8_all (62 ∷ [])) (opening_spelled which cs ∙ ap (λ e. opening which ++ e) spelled) ∙ ap (λ e. opening which ++ front ++ e) greater_spelled in
     record {
-      outside = outside;
-      fresh = fresh;
-      read = opening which ++ cs ++ (62 ∷ []);
-      cut = ap (λ e. opening which ++ e) cut ∙ sym (append_assoc (opening which) front (62 ∷ rest)) ∙ sym (append_assoc (opening which ++ front) (62 ∷ []) rest) ∙ ap (λ e. e ++ rest) (sym whole);
+      outside = outside.reference;
+      fresh = outside.after_return;
+      read = opening which ++ cs;
+      some = some_opening which cs;
+      cut = ap (λ e. opening which ++ e) (sym (take-append-drop n text) ∙ ap (λ e. e ++ drop n text) (sym front_is) ∙ ap (λ e. front ++ e) (sym rest_is)) ∙ sym (append_assoc (opening which) front rest)
+          ∙ ap (λ e. e ++ rest) (sym (opening_spelled which cs ∙ ap (λ e. opening which ++ e) spelled));
       no_return = no_return_in which cs (no_return ends_tag_name cs refl all);
-      follows = λ free.
-          let kept : Keeps mid new = keeps free in
-          let none : old.refused ≡ false = sym (ap (λ t. t.refused) only) ∙ kept.memory in
-          follows_on old begun new (opening which ++ cs) (62 ∷ []) told (ap (λ t. t.reference) begun_is) (tag_begins old begun which cs is none begun_is tagged name) (emits_named mid new told kept (λ some. emits some free));
+      follows = λ free. tag_begins old begun which cs is (sym (ap (λ t. t.refused) only) ∙ free) begun_is tagged name;
     }
 
--- what `read_plain_tag` does there
-pub tag_read : (old mid new : Tokenizer) (which : TagKind) (text front rest left : List ℕ) (n : ℕ) (told : Option TokenKind) → left ≡ rest → old.state ≡ state.Data → old.reference ≡ reference.None → old.after_return ≡ false →
-    is_ascii_alphabetic (get_or text 0 0) ≡ true → IsUtf8 front → front ≡ take n text → drop n text ≡ 62 ∷ rest → n ≡ tag_name_len_of text → mid ≡ record old { tag = mid.tag } → IsNewTag mid.tag which front →
-    (new.refused ≡ false → Keeps mid new) → (0 < length (string_bytes mid.tag.name) → new.refused ≡ false → EmitsTag mid new told) → ReadsFront old new (opening which ++ text) left told
-tag_read old mid new which text front rest left n told left_is is outside fresh letter utf8 front_is rest_is len only new_tag keeps emits =
-    subst (λ t. ReadsFront old new (opening which ++ text) t told) (sym left_is) (tag_front old mid new which text front rest n told is outside fresh letter utf8 front_is rest_is len only new_tag keeps emits)
+-- the `>` behind the name
+pub named_end : (mid new : Tokenizer) (text rest : List ℕ) (told : Option TokenKind) → IsOutside mid → text ≡ 62 ∷ rest → (new.refused ≡ false → Keeps mid new) →
+    (0 < length (string_bytes mid.tag.name) → new.refused ≡ false → EmitsTag mid new told) → ReadsAny (record mid { state = state.Tag tag.Name }) new text rest told
+named_end mid new text rest told outside cut keeps emits =
+    one_read (record mid { state = state.Tag tag.Name }) new 62 text rest told (record { reference = outside.reference; after_return = outside.after_return }) (omega arith) refl cut
+    (λ free. emits_named mid new told (keeps free) (λ some. emits some free))
 
--- where something else follows the name, no bare tag is read
-pub no_bare : {E : Type 0} (which : TagKind) (old new : Tokenizer) (text : List ℕ) (told : Option TokenKind) (r : Result (Bor (List ℕ)) E) → ((rest : List ℕ) → IsBareTag text rest → ⊥) →
-    IfOk r (λ left. (rest : List ℕ) → IsBareTag text rest → ReadsFront old new (opening which ++ text) left.now told)
-no_bare which old new text told (Ok left) never = λ rest bare. absurd (never rest bare)
-no_bare which old new text told (Err e) never = tt
+-- a tag whose name `>` follows
+pub bare_read : (old mid new : Tokenizer) (which : TagKind) (text front left rest : List ℕ) (n : ℕ) (told : Option TokenKind) → old.state ≡ state.Data → IsOutside old → is_ascii_alphabetic (get_or text 0 0) ≡ true → IsUtf8 front → front ≡ take n text →
+    left ≡ drop n text → n ≡ tag_name_len_of text → mid ≡ record old { tag = mid.tag } → IsNewTag mid.tag which front → left ≡ 62 ∷ rest → (new.refused ≡ false → Keeps mid new) →
+    (0 < length (string_bytes mid.tag.name) → new.refused ≡ false → EmitsTag mid new told) → ReadsAny old new (opening which ++ text) rest told
+bare_read old mid new which text front left rest n told is outside letter utf8 front_is left_is len only new_tag cut keeps emits =
+    inr (front_on old (record mid { state = state.Tag tag.Name }) new (opening which ++ text) left rest told (tag_front old mid which text front left n is outside letter utf8 front_is left_is len only new_tag)
+    (named_end mid new left rest told (outside_on only) cut keeps emits))
+  where
+    outside_on : mid ≡ record old { tag = mid.tag } → IsOutside mid
+    outside_on e = record { reference = ap (λ t. t.reference) e ∙ outside.reference; after_return = ap (λ t. t.after_return) e ∙ outside.after_return }

@@ -26,7 +26,7 @@ use Rattle.page_tokens.proofs.RunSteps.{characters_of_run}
 -- ---- where a run ends
 
 -- what ends a run is ASCII
-low : (kind : Run) (c : ℕ) → ends_run kind c ≡ true → c < 128
+pub low : (kind : Run) (c : ℕ) → ends_run kind c ≡ true → c < 128
 low run.Text c h = grind arith
 low run.Raw c h = grind arith
 low run.Plaintext c h = grind arith
@@ -42,7 +42,7 @@ low (run.DoctypeId which quote.Double) c h = grind arith
 low (run.DoctypeId which quote.Single) c h = grind arith
 low run.Cdata c h = grind arith
 
-return_ends : (kind : Run) → ends_run kind 13 ≡ true
+pub return_ends : (kind : Run) → ends_run kind 13 ≡ true
 return_ends run.Text = refl
 return_ends run.Raw = refl
 return_ends run.Plaintext = refl
@@ -76,7 +76,7 @@ front_passes p (x ∷ xs) = elim (cases_Bool (p x)) [
   | inr f ↦ rw f refl
 ]
 
-some_characters : (cs front : List ℕ) → encode_utf8_all cs ≡ front → 0 < length front → 0 < length cs
+pub some_characters : (cs front : List ℕ) → encode_utf8_all cs ≡ front → 0 < length front → 0 < length cs
 some_characters [] front spelled some = let none : 0 < 0 = subst (λ (bytes : List ℕ). 0 < length bytes) (sym spelled) some in absurd (omega (arith, none))
 some_characters (c ∷ cs) front spelled some = omega arith
 
@@ -138,6 +138,7 @@ front_read old mid new kind text front rest n outside fresh copied utf8 front_is
       outside = outside;
       fresh = fresh;
       read = cs;
+      some = some_characters cs front spelled some;
       cut = sym (take-append-drop n text) ∙ ap (λ e. e ++ drop n text) (sym front_is ∙ sym spelled) ∙ ap (λ e. encode_utf8_all cs ++ e) (sym rest_is);
       no_return = no_return ends cs (return_ends kind) all;
       follows = λ free.

@@ -7,9 +7,10 @@ use mathlib.Core.Path.{ap, subst}
 use Rattle.standard_tokens.specs.Machine.{Machine, taken}
 use Rattle.standard_tokens.specs.States as there
 use Rattle.standard_tokens.specs.Table.{entries}
+use Rattle.standard_tokens.specs.Tokens.{Attr}
 use Rattle.page_tokens.specs.Comments.{Adds, added_again, came_of, shown_of, state_again}
 use Rattle.page_tokens.specs.FastPaths.{CopiesRun}
-use Rattle.page_tokens.specs.RunEnds.{ends_run, run_in}
+use Rattle.page_tokens.specs.RunEnds.{ends_attr_name, ends_run, run_in}
 use Rattle.page_tokens.specs.Runs.{ends_tag_name}
 use Rattle.page_tokens.specs.ScriptStates.{doubled, escaped, script_step_of}
 use Rattle.page_tokens.specs.Standard.{FollowsStandard, Goes}
@@ -144,12 +145,15 @@ name_step b m d c rest goes_on =
 in_tag_name : Copied (state.Tag tag.Name) run.TagName
 in_tag_name old new cs is adds some none all = name_run old new ends_tag_name cs is adds none name_step all
 
+-- a character of an attribute's name
+pub attr_name_step : (b : Bool) (m : Machine) (name value : List ℕ) (older : List Attr) (c : ℕ) (rest : List ℕ) → ends_attr_name c ≡ false →
+    Goes b (with_attrs m there.AttributeName (an_attr name value ∷ older)) (c ∷ rest) [] (with_attrs m there.AttributeName (an_attr (name ++ to_ascii_lowercase c ∷ []) value ∷ older)) rest
+attr_name_step b m name value older c rest goes_on =
+    subst (λ e. Goes b (with_attrs m there.AttributeName (an_attr name value ∷ older)) (c ∷ rest) [] (with_attrs m there.AttributeName (an_attr (name ++ to_ascii_lowercase e ∷ []) value ∷ older)) rest) (shown_same ends_attr_name c goes_on refl)
+    (attr_letter b m name value rest older c (letter_of ends_attr_name c goes_on refl refl refl refl refl refl) (differs ends_attr_name 61 c goes_on refl))
+
 in_attr_name : Copied (state.Attribute attr.Name) run.AttrName
-in_attr_name old new cs is adds some none all =
-    let ends : ℕ → Bool = ends_run run.AttrName in
-    attr_name_run old new ends cs is adds none (λ b m name value older c rest goes_on.
-    subst (λ e. Goes b (with_attrs m there.AttributeName (an_attr name value ∷ older)) (c ∷ rest) [] (with_attrs m there.AttributeName (an_attr (name ++ to_ascii_lowercase e ∷ []) value ∷ older)) rest) (shown_same ends c goes_on refl)
-    (attr_letter b m name value rest older c (letter_of ends c goes_on refl refl refl refl refl refl) (differs ends 61 c goes_on refl))) all
+in_attr_name old new cs is adds some none all = attr_name_run old new ends_attr_name cs is adds none attr_name_step all
 
 in_quoted : (mark : Quote) → Copied (state.Attribute (attr.Quoted mark)) (run.AttrValue mark)
 unfolding taken entries

@@ -43,19 +43,26 @@ switches old new from to c told is only told_is none entry nothing also =
       stands = record { reference = stands.reference; state = refl; last_start = stands.last_start; held = also old old ahead m held };
     })))
 
--- the character is read in another state
-pub reconsumes : (old mid new : Tokenizer) (from to : State) (c : ℕ) (told : Option TokenKind) → old.state ≡ from → mid ≡ record old { state = to; errors = mid.errors; refused = mid.refused } → Remembers old mid →
+-- the characters are read in another state
+pub reconsumes_all : (old mid new : Tokenizer) (from to : State) (c : ℕ) (cs : List ℕ) (told : Option TokenKind) → old.state ≡ from → mid ≡ record old { state = to; errors = mid.errors; refused = mid.refused } → Remembers old mid →
     ((b : Bool) (m : Machine) (rest : List ℕ) → taken b (at_state m (state_of from)) (c ∷ rest) (entries (state_of from)) ≡ taking [] (Reconsume (state_of to)) (c ∷ [])) →
-    ReadsNothingAhead from → HoldsAlso from to → FollowsStandard mid new (c ∷ []) told → FollowsStandard old new (c ∷ []) told
-reconsumes old mid new from to c told is only remembers entry nothing also follows =
-    through old mid new (c ∷ []) told remembers (record { in_foreign = ap (λ t. t.in_foreign) only; after_return = ap (λ t. t.after_return) only }) (ap text_of only) (λ m ahead rest stands.
+    ReadsNothingAhead from → HoldsAlso from to → FollowsStandard mid new (c ∷ cs) told → FollowsStandard old new (c ∷ cs) told
+reconsumes_all old mid new from to c cs told is only remembers entry nothing also follows =
+    through old mid new (c ∷ cs) told remembers (record { in_foreign = ap (λ t. t.in_foreign) only; after_return = ap (λ t. t.after_return) only }) (ap text_of only) (λ m ahead rest stands.
     let held : Held from old ahead m = subst (λ s. Held s old ahead m) is stands.held in
     let b : Bool = old.in_foreign in
     let n : Machine = at_state m (state_of to) in
     let at : m.state ≡ state_of from = stands.state ∙ ap state_of is in
-    let step : Goes b (at_state m (state_of from)) (c ∷ rest) [] n (c ∷ rest) = by_entry (at_state m (state_of from)) (c ∷ rest) (taking [] (Reconsume (state_of to)) (c ∷ [])) (entry b m rest) refl in
+    let step : Goes b (at_state m (state_of from)) (c ∷ (cs ++ rest)) [] n (c ∷ (cs ++ rest)) =
+    by_entry (at_state m (state_of from)) (c ∷ (cs ++ rest)) (taking [] (Reconsume (state_of to)) (c ∷ [])) (entry b m (cs ++ rest)) refl in
     record {
       machine = n;
-      goes = subst (λ front. Goes b m (front ++ (c ∷ []) ++ rest) [] n (c ∷ rest)) (sym (nothing old ahead m held)) (subst (λ k. Goes b k (c ∷ rest) [] n (c ∷ rest)) (in_its_state m (state_of from) at) step);
+      goes = subst (λ front. Goes b m (front ++ (c ∷ cs) ++ rest) [] n (c ∷ (cs ++ rest))) (sym (nothing old ahead m held)) (subst (λ k. Goes b k (c ∷ (cs ++ rest)) [] n (c ∷ (cs ++ rest))) (in_its_state m (state_of from) at) step);
       stands = subst (λ t. Stands t [] n) (sym only) (record { reference = stands.reference; state = refl; last_start = stands.last_start; held = also old mid ahead m held });
     }) follows
+
+-- the character is read in another state
+pub reconsumes : (old mid new : Tokenizer) (from to : State) (c : ℕ) (told : Option TokenKind) → old.state ≡ from → mid ≡ record old { state = to; errors = mid.errors; refused = mid.refused } → Remembers old mid →
+    ((b : Bool) (m : Machine) (rest : List ℕ) → taken b (at_state m (state_of from)) (c ∷ rest) (entries (state_of from)) ≡ taking [] (Reconsume (state_of to)) (c ∷ [])) →
+    ReadsNothingAhead from → HoldsAlso from to → FollowsStandard mid new (c ∷ []) told → FollowsStandard old new (c ∷ []) told
+reconsumes old mid new from to c told is only remembers entry nothing also follows = reconsumes_all old mid new from to c [] told is only remembers entry nothing also follows

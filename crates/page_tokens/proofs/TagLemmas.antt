@@ -1,5 +1,5 @@
 -- Tags as they are written, and the parts into which they are read.
-use Rattle.std.proofs.Common.{ℕ, ◌≡◌, ◌<◌, ◌≤◌, ◌+◌, ◌-◌, true, false, not, List, [], ◌∷◌, ◌++◌, refl, sym, ap, ◌∙◌, length, map, take, drop, take_all, take_at, drop_at, get_or, string_bytes, subst, Option, Some, None, Bor, arith}
+use Rattle.std.proofs.Common.{ℕ, ◌≡◌, ◌<◌, ◌≤◌, ◌+◌, ◌-◌, true, false, not, List, [], ◌∷◌, ◌++◌, refl, sym, ap, ◌∙◌, length, map, take, drop, take_all, take_at, drop_at, get_or, string_bytes, subst, Option, Some, None, IfSome, Bor, arith}
 use Rattle.std.specs.Char.{is_ascii_lowercase, is_ascii_alphabetic, to_ascii_lowercase}
 use Rattle.std.specs.List.{list_all}
 use Rattle.std.specs.Option.{IsSomeAnd}
@@ -37,6 +37,15 @@ pub get_behind : (s rest : List ℕ) (byte : ℕ) (r : Option (Bor (List ℕ))) 
     IsSomeAnd r (λ left. left.now ≡ rest)
 get_behind s rest byte r utf8 low is gets =
     get_behind_byte byte rest r (subst IsUtf8 is utf8) low (subst (λ (t : List ℕ). GetsRange t 1 (length t) r) is gets)
+
+-- the byte at the front of a text, in front of what follows
+pub front_byte : (s : List ℕ) (byte : ℕ) (r : Option (Bor (List ℕ))) → get_or s 0 0 ≡ byte → GetsRange s 1 (length s) r → IfSome r (λ left. s ≡ byte ∷ left.now)
+front_byte s byte None first gets = tt
+front_byte [] byte (Some x) first gets = let no : length x.now + 1 ≡ 0 = gets.1 in absurd (omega (arith, no))
+front_byte (b ∷ s) byte (Some x) first gets =
+    let e : length (b ∷ s) - 1 ≡ length s = omega arith in
+    let left : x.now ≡ s = gets.0 ∙ ap (λ n. take n s) e ∙ take_all (length s) s (omega arith) in
+    ap (λ k. k ∷ s) first ∙ ap (λ (t : List ℕ). byte ∷ t) (sym left)
 
 pub letter_ends_no_name : (b : ℕ) → is_plain_letter b ≡ true → ends_tag_name b ≡ false
 letter_ends_no_name b h = grind arith

@@ -1,13 +1,11 @@
 -- The paths on which many characters are read at once: what each reads is what the standard's tokenizer reads one by one.
-use Rattle.std.specs.Prelude.{◌≡◌, ℕ, Bool, true, false, not, ◌==◌, List, ◌∷◌, ◌++◌, ◌⊎◌, codes, drop, slice_index_or, encode_utf8}
+use Rattle.std.specs.Prelude.{◌≡◌, ℕ, ◌<◌, Bool, true, false, not, ◌==◌, List, ◌∷◌, ◌++◌, ◌⊎◌, codes, length, slice_index_or, encode_utf8}
 use Rattle.std.specs.Prelude.{Option, None, Some, Result, IfOk, String, string_bytes}
 use Rattle.std.specs.Borrow.{Bor}
 use Rattle.std.specs.Char.{is_ascii_alphabetic}
 use Rattle.std.specs.List.{list_all}
 use Rattle.std.specs.Option.{IsSomeAnd}
 use Rattle.std.specs.Str.{encode_utf8_all}
-use Rattle.page_tokens.specs.Reading.{IsInText}
-use Rattle.page_tokens.specs.Runs.{tag_name_len_of}
 use Rattle.page_tokens.specs.Standard.{FollowsStandard}
 use Rattle.page_tokens.specs.Tags.{opening}
 use Rattle.page_tokens.specs.declared.token.TagKind.{TagKind}
@@ -16,8 +14,12 @@ use Rattle.page_tokens.specs.declared.tokenizer.Tokenizer.{Tokenizer}
 use Rattle.page_tokens.specs.declared.tokenizer.references.Reference.TheVariants as reference
 use Rattle.page_tokens.specs.declared.tokenizer.runs.Run.{Run}
 use Rattle.page_tokens.specs.declared.tokenizer.runs.Run.TheVariants as run
+use Rattle.page_tokens.specs.declared.tokenizer.state.AttrState.TheVariants as attr
 use Rattle.page_tokens.specs.declared.tokenizer.state.Id.{Id}
 use Rattle.page_tokens.specs.declared.tokenizer.state.Id.TheVariants as id
+use Rattle.page_tokens.specs.declared.tokenizer.state.State.{State}
+use Rattle.page_tokens.specs.declared.tokenizer.state.State.TheVariants as state
+use Rattle.page_tokens.specs.declared.tokenizer.state.TagState.TheVariants as tag
 
 -- ---- what a run is appended to
 
@@ -77,6 +79,7 @@ pub record ReadsFront (old new : Tokenizer) (text rest : List ℕ) (told : Optio
   pub outside : old.reference ≡ reference.None
   pub fresh : old.after_return ≡ false
   pub read : List ℕ
+  pub some : 0 < length read
   pub cut : text ≡ encode_utf8_all read ++ rest
   pub no_return : list_all (λ c. not (c == 13)) read ≡ true
   pub follows : new.refused ≡ false → FollowsStandard old new read told
@@ -84,6 +87,15 @@ pub record ReadsFront (old new : Tokenizer) (text rest : List ℕ) (told : Optio
 -- nothing is read, or some characters are
 abbrev pub ReadsAny : Tokenizer → Tokenizer → List ℕ → List ℕ → Option TokenKind → Type 0
 ReadsAny old new text rest told = ((rest ≡ text) × (new ≡ old) × (told ≡ None)) ⊎ ReadsFront old new text rest told
+
+-- what is read is read as the standard reads it
+abbrev pub ReadsPlain : {E : Type 0} → Tokenizer → Tokenizer → List ℕ → Option TokenKind → Result (Bor (List ℕ)) E → Type 0
+ReadsPlain old new text told result = IfOk result (λ rest. ReadsAny old new text rest.now told)
+
+-- not inside a reference, and not right after a carriage return
+pub record IsOutside (t : Tokenizer) : Type 0 where
+  pub reference : t.reference ≡ reference.None
+  pub after_return : t.after_return ≡ false
 
 -- a run is read as the standard reads it, and no token ends
 abbrev pub FollowsRun : {E : Type 0} → Tokenizer → Tokenizer → List ℕ → Result (Bor (List ℕ)) E → Type 0
@@ -114,12 +126,33 @@ PutsMeant false old new meant = AddsToText old new meant
 
 -- ---- tags
 
--- A letter comes first, and `>` right after the name.
-pub record IsBareTag (text rest : List ℕ) : Type 0 where
-  pub letter : is_ascii_alphabetic (slice_index_or text 0 0) ≡ true
-  pub cut : drop (tag_name_len_of text) text ≡ 62 ∷ rest
+-- the text begins with a letter
+abbrev pub begins_with_letter : List ℕ → Bool
+begins_with_letter text = is_ascii_alphabetic (slice_index_or text 0 0)
 
--- the tag is read as the standard reads it, and emitted
-abbrev pub FollowsBareTag : {E : Type 0} → TagKind → Tokenizer → Tokenizer → List ℕ → Option TokenKind → Result (Bor (List ℕ)) E → Type 0
-FollowsBareTag kind old new text told result = IsInText old → IfOk result (λ left. (rest : List ℕ) → IsBareTag text rest →
-    ReadsFront old new (opening kind ++ text) left.now told)
+-- the text is `<` or `</`, a letter, and what follows
+pub record BeginsWithTag (text : List ℕ) (kind : TagKind) (named : List ℕ) : Type 0 where
+  pub cut : text ≡ opening kind ++ named
+  pub letter : begins_with_letter named ≡ true
+
+-- the state after spaces in a tag, outside of quotes
+abbrev pub spaced_of : State → Option State
+spaced_of (state.Tag tag.Name) = Some (state.Attribute attr.BeforeName)
+spaced_of (state.Attribute attr.BeforeName) = Some (state.Attribute attr.BeforeName)
+spaced_of (state.Attribute attr.Unquoted) = Some (state.Attribute attr.BeforeName)
+spaced_of (state.Attribute attr.AfterQuoted) = Some (state.Attribute attr.BeforeName)
+spaced_of (state.Attribute attr.Name) = Some (state.Attribute attr.AfterName)
+spaced_of (state.Attribute attr.AfterName) = Some (state.Attribute attr.AfterName)
+spaced_of _ = None
+
+-- an attribute's name may begin here
+abbrev pub begins_attr_in : State → Bool
+begins_attr_in (state.Attribute attr.BeforeName) = true
+begins_attr_in (state.Attribute attr.AfterName) = true
+begins_attr_in (state.Attribute attr.AfterQuoted) = true
+begins_attr_in _ = false
+
+-- a value without quotes is being read
+abbrev pub is_unquoted_in : State → Bool
+is_unquoted_in (state.Attribute attr.Unquoted) = true
+is_unquoted_in _ = false

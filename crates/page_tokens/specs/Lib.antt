@@ -10,6 +10,7 @@ pub mod NameTable
 pub mod NamedReferences
 pub mod Numbers
 pub mod PageEnds
+pub mod PageLaws
 pub mod RawEndTags
 pub mod Reading
 pub mod References
@@ -22,4 +23,5 @@ pub mod StandardPages
 pub mod StandardStates
 pub mod TagStates
 pub mod Tags
+pub mod TakenTokens
 pub mod TextStates

@@ -1,5 +1,4 @@
--- How the calls of the tokenizer read a page, in pieces cut anywhere: what the public functions promise once every state follows the
--- standard.
+-- How the calls of the tokenizer read a page, in pieces cut anywhere.
 use Rattle.std.specs.Prelude.{◌≡◌, ℕ, ◌==◌, Bool, true, false, cond, List, [], ◌∷◌, ◌++◌, map, Option, None, Some, Result, IfOk}
 use Rattle.std.specs.Borrow.{Bor}
 use Rattle.std.specs.Str.{encode_utf8_all}

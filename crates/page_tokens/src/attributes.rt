@@ -130,21 +130,8 @@ impl Attributes {
         self.note(alloc)
     }
 
-    /// Appends an attribute with a copy of the name and the value, unless an attribute has that
-    /// name.
-    pub fn add_copy(&mut self, alloc: Global, name: &str, value: &str) -> Result<(), AllocError>
-        requires { 0 < length name.now }
-        ensures { OnOk result (AddsAttr self.old.kept.items self.new.kept.items
-            (map to_ascii_lowercase name.now) value.now) }
-    {
-        let (mut own_name, mut own_value) = self.at_hand(alloc);
-        own_name.push_str(name)?;
-        own_value.push_str(value)?;
-        self.add(alloc, own_name, own_value)
-    }
-
     /// Returns two empty strings, with memory of an earlier attribute if there is any.
-    fn at_hand(&mut self, alloc: Global) -> (String, String)
+    pub fn at_hand(&mut self, alloc: Global) -> (String, String)
         ensures kept { self.new.kept ≡ self.old.kept }
         ensures name { string_bytes result.0 ≡ [] }
         ensures value { string_bytes result.1 ≡ [] }

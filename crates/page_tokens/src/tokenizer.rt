@@ -121,6 +121,7 @@ impl Tokenizer {
     ghost use Rattle.page_tokens.specs.StandardPages.{BeginsPage, FollowsText, IsTextState};
     ghost use Rattle.page_tokens.specs.StandardPages.{KeepsPlace, ReadsAnywhere, Switches};
     ghost use Rattle.page_tokens.specs.Tags.{TakesTag};
+    ghost use Rattle.page_tokens.specs.TakenTokens.{TakesComment, TakesDoctype};
     ghost use Rattle.page_tokens.specs.TextStates.{raw_state_of};
 
     /// Returns a tokenizer at the start of a page, in the data state.
@@ -201,6 +202,8 @@ impl Tokenizer {
     fn take_token(&mut self, kind: Option<TokenKind>) -> Option<Token>
         ensures none { kind ≡ None → (result ≡ None) × (self.new ≡ self.old) }
         ensures tag { TakesTag kind self.old self.new result }
+        ensures comment { TakesComment kind self.old self.new result }
+        ensures doctype { TakesDoctype kind self.old self.new result }
     {
         match kind? {
             TokenKind::Tag => Some(Token::Tag(self.ended.take()?)),
@@ -219,6 +222,8 @@ impl Tokenizer {
     fn put_token(&mut self, kind: Option<TokenKind>, token: &mut Option<Token>)
         ensures none { kind ≡ None → (token.new ≡ token.old) × (self.new ≡ self.old) }
         ensures tag { TakesTag kind self.old self.new token.new }
+        ensures comment { TakesComment kind self.old self.new token.new }
+        ensures doctype { TakesDoctype kind self.old self.new token.new }
     {
         if kind.is_none() {
             return;

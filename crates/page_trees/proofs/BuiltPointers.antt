@@ -8,21 +8,24 @@ use Rattle.standard_trees.specs.GrowingTree.{is_named as is_of_kind, is_one as i
 use Rattle.standard_trees.specs.TreeStore.{Kind, is_html, space_in}
 use Rattle.page_trees.specs.Modes.{points_nowhere}
 use Rattle.page_trees.specs.Sets.{is_in_html, space_of}
-use Rattle.page_trees.specs.Stands.{Builds, IsContext, IsCurrent, form_of, with_form, with_form_of_context, with_head}
+use Rattle.page_trees.specs.Stands.{Builds, IsContext, IsCurrent, IsHeadNamed, form_of, with_form, with_form_of_context, with_head}
 use Rattle.page_trees.specs.TreeState.{TreeState}
 use Rattle.page_trees.specs.declared.pointers.FormPointer.{FormPointer}
 use Rattle.page_trees.specs.declared.stack.ElementNamespace.{ElementNamespace}
 use Rattle.page_trees.specs.declared.stack.Open.{Open}
 
-pub built_head : (s : TreeState) (t : GrowingTree) (n : ℕ) → Builds s t → current t ≡ n → Builds (record s { head = Some n }) (with_head t)
-built_head s t n b e = record {
+pub built_head : (s : TreeState) (t : GrowingTree) (n : ℕ) → Builds s t → current t ≡ n → IsHeadNamed t.nodes (Some (current t)) → Builds (record s { head = Some n }) (with_head t)
+built_head s t n b e named = record {
   nodes = b.nodes;
   stack = record { ids = b.stack.ids; nodes = b.stack.nodes };
   listed = b.listed;
   head = ap Some e;
+  head_named = named;
   form = b.form;
   form_named = b.form_named;
   context = b.context;
+  late = b.late;
+  lone = b.lone;
 }
 
 pub built_form : (s : TreeState) (t : GrowingTree) (n : ℕ) → Builds s t → current t ≡ n → is_one_of t (codes "form" ∷ []) (current t) ≡ true →
@@ -32,9 +35,12 @@ built_form s t n b e is = record {
   stack = record { ids = b.stack.ids; nodes = b.stack.nodes };
   listed = b.listed;
   head = b.head;
+  head_named = b.head_named;
   form = ap FormAt e;
   form_named = is;
   context = b.context;
+  late = b.late;
+  lone = b.lone;
 }
 
 pub built_form_of_context : (s : TreeState) (t : GrowingTree) → Builds s t → Builds (record s { form = FormPointer.Context }) (with_form_of_context t)
@@ -43,9 +49,12 @@ built_form_of_context s t b = record {
   stack = record { ids = b.stack.ids; nodes = b.stack.nodes };
   listed = b.listed;
   head = b.head;
+  head_named = b.head_named;
   form = refl;
   form_named = tt;
   context = b.context;
+  late = b.late;
+  lone = b.lone;
 }
 
 -- where nothing is open the current node is no form

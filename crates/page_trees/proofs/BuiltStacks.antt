@@ -37,9 +37,12 @@ built_on s t kept ns b is = record {
   stack = is;
   listed = b.listed;
   head = b.head;
+  head_named = b.head_named;
   form = b.form;
   form_named = b.form_named;
   context = b.context;
+  late = b.late;
+  lone = b.lone;
 }
 
 -- the same of a state that is known to be that one
@@ -280,7 +283,7 @@ single_is t n e = ap (λ ns. cond (is_single ns) (unwrap_or t.context (kind_of t
 several_is : (t : GrowingTree) (n m : ℕ) (ns : List ℕ) → t.stack ≡ n ∷ m ∷ ns → kind_of t (current t) ≡ adjusted_current t
 several_is t n m ns e = ap (λ ks. cond (is_single ks) (unwrap_or t.context (kind_of t (current t))) (kind_of t (current t))) (sym e)
 
-not_zero : (n m : ℕ) → n ≡ m + 1 → (n == 0) ≡ false
+pub not_zero : (n m : ℕ) → n ≡ m + 1 → (n == 0) ≡ false
 not_zero n m e = elim (eqb_tells n 0) [ inl none ↦ absurd (omega (arith, e, none.1)) | inr other ↦ other.0 ]
 
 pub one_less : (n m : ℕ) → n ≡ m → (n ≡ 0 → ⊥) → m ≡ (n - 1) + 1

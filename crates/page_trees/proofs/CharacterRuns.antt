@@ -172,7 +172,7 @@ AreLow n [] = Unit {0}
 AreLow n (m ∷ ms) = (m < n) × AreLow n ms
 
 -- a text is added at a place
-abbrev grown : List ℕ → Place → GrowingTree → GrowingTree
+abbrev pub grown : List ℕ → Place → GrowingTree → GrowingTree
 grown text spot t = record t { nodes = with_text_at text spot t.nodes }
 
 one_kept : (t : GrowingTree) (spot : Place) (text : List ℕ) (names : List (List ℕ)) (n : ℕ) → is_one (grown text spot t) names n ≡ is_one t names n

@@ -31,6 +31,24 @@ pub mod StandingEdits
 pub mod CharacterRuns
 pub mod ActionsOnNodes
 pub mod AgencyPlaces
+pub mod LateNodes
+mod AbsentAttrs
+pub mod KeptElements
+pub mod BuiltNodes
+pub mod TagKinds
+pub mod BuiltRoots
+pub mod BuiltCalls
+pub mod BuiltPlaces
+pub mod BuiltTests
+pub mod BuiltTexts
+pub mod BuiltLists
 pub mod BuiltStacks
 pub mod BuiltPointers
 pub mod BuiltStart
+pub mod RulesTaken
+pub mod RulesRun
+pub mod ModeTables
+pub mod ModeOutcomes
+pub mod Dispatching
+pub mod BuilderSteps
+pub mod ElementSteps

@@ -320,7 +320,7 @@ inside_stands nodes f n p good after are h known plain =
 
 -- ---- the calls
 
-alone_good : (f : Forest) (content : NodeData) → IsForest f → contents_named content ≡ None → IsForest (with_node content f)
+pub alone_good : (f : Forest) (content : NodeData) → IsForest f → contents_named content ≡ None → IsForest (with_node content f)
 alone_good f content good plain = forest-more content f good (λ c named. (let none : None ≡ Some c = sym plain ∙ named in cc))
 
 pub cut_changes : (r : Result (Unit {0}) EditFault) (v : Unit {0}) (f g : Forest) (x : ℕ) → r ≡ Ok v → Edits r f g (removing x) → Changes f g (removed x)
@@ -337,7 +337,7 @@ pub text_changes : (r : Result (Unit {0}) PageFault) (f g : Forest) (gap : Inser
     OnOk r (ChangesAt gap f g (with_text_at (chars text)))
 text_changes (Err fault) f g gap text good opens valid e = tt
 text_changes (Ok done) f g gap text good opens valid e =
-    λ nodes spot are at. subst (AreNodes (with_text_at (chars text) spot nodes)) (sym e) (text_stands nodes f gap spot text good (alone_good f (Text text) good refl) are at opens valid)
+    λ nodes spot are at. subst (AreNodes (with_text_at (chars text) spot nodes)) (sym e) (text_stands nodes f gap spot text (chars text) good (alone_good f (Text text) good refl) are at opens (encodes-chars text valid))
 
 -- what was made is put at a place
 pub put_forest : (f g h k : Forest) (id : ℕ) (gap : InsertionPoint) → h ≡ moved_to (id ∷ []) gap g → id ≡ length f.content → g ≡ k → h ≡ moved_to (length f.content ∷ []) gap k
@@ -389,7 +389,7 @@ plain_element name attrs flags f e = ap (λ (b : Bool). (let g : Forest = if b t
       mathml_annotation_xml_integration_point = flags.mathml_annotation_xml_integration_point;
     })
 
-element_good : (f : Forest) (name : NameParts) (attrs : List Attr) (flags : ElementFlags) → IsForest f → IsForest (with_new_element name attrs flags f)
+pub element_good : (f : Forest) (name : NameParts) (attrs : List Attr) (flags : ElementFlags) → IsForest f → IsForest (with_new_element name attrs flags f)
 element_good f name attrs flags good = by flags.template
   where
     content : Bool → NodeData

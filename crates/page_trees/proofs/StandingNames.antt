@@ -50,7 +50,7 @@ rare_sound : sound rare_rows ≡ true
 unfolding rare_rows
 rare_sound = refl
 
-text_again : (text : List ℕ) → (name_of text ≡ Name.Other) ⊎ (text_of (name_of text) ≡ text)
+pub text_again : (text : List ℕ) → (name_of text ≡ Name.Other) ⊎ (text_of (name_of text) ≡ text)
 text_again text = elim (row_text rare_rows (row_for html_rows Name.Other text) text rare_sound) [
   | inl e ↦ elim (row_text html_rows Name.Other text html_sound) [ inl other ↦ inl (e ∙ other) | inr same ↦ inr (ap text_of e ∙ same) ]
   | inr same ↦ inr same

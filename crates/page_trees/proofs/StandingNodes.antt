@@ -1,11 +1,10 @@
 -- The nodes of a forest stay those of the definition where both are changed alike.
 use Rattle.std.proofs.Common.{◌≡◌, ℕ, suc, zero, ◌<◌, ◌≤◌, ◌+◌, Bool, true, false, List, [], ◌∷◌, ◌++◌, map, refl, sym, ap, ◌∙◌, length, Option, Some, None, arith, inl, inr, subst}
-use Rattle.std.specs.Prelude.{chars, encode_utf8_all, get_or, nat_eq, option_and_then, if◌then◌else◌, slice_get}
+use Rattle.std.specs.Prelude.{encode_utf8_all, get_or, nat_eq, option_and_then, if◌then◌else◌, slice_get}
 use Rattle.std.specs.Option.{option_map_or}
-use Rattle.std.specs.Str.{IsUtf8}
 use Rattle.std.proofs.lemmas.Bool.{cases_Bool, cond-false, eqb-true, or_cases, true≢false}
 use Rattle.std.proofs.lemmas.List.{length-map, length_push}
-use Rattle.std.proofs.lemmas.Str.{encodes-append, encodes-chars}
+use Rattle.std.proofs.lemmas.Str.{encodes-append}
 use Rattle.dom_nodes.specs.Elements.{Element as Parts}
 use Rattle.dom_nodes.specs.Kinds.{contents_named, is_element, is_text, is_top}
 use Rattle.dom_nodes.specs.declared.node_data.NodeData.{NodeData}
@@ -154,12 +153,12 @@ host_at (node ∷ nodes) zero h = h.0
 host_at (node ∷ nodes) (suc p) h = host_at nodes p h.1
 
 -- a parent stands before its child
-record IsParentAt (n i q : ℕ) (nodes : List Node) : Type 0 where
+pub record IsParentAt (n i q : ℕ) (nodes : List Node) : Type 0 where
   pub place : ℕ
   pub is : q ≡ i + place
   pub at : has_number n (node_at nodes place).children ≡ true
 
-parent_at : (n i q : ℕ) (nodes : List Node) → parent_from i n nodes ≡ Some q → IsParentAt n i q nodes
+pub parent_at : (n i q : ℕ) (nodes : List Node) → parent_from i n nodes ≡ Some q → IsParentAt n i q nodes
 parent_at n i q [] e = cc
 parent_at n i q (node ∷ nodes) e = by (parent_at n (suc i) q nodes) (has_number n node.children) refl e
   where
@@ -328,27 +327,27 @@ a_text (CommentNode other) content text is e = cc
 a_text (ElementNode space name attrs contents) content text is e = cc
 
 -- a text of its own
-text_made : (nodes : List Node) (f : Forest) (gap : InsertionPoint) (spot : Place) (text : List ℕ) → IsForest f → IsForest (with_node (Text text) f) → AreNodes nodes f → IsPointOf nodes gap spot → IsOpenGap gap f →
-    IsUtf8 text → AreNodes (with_kind_at (TextNode (chars text)) spot nodes) (with_node_at gap (Text text) f)
-text_made nodes f gap spot text good after are at opens valid =
+text_made : (nodes : List Node) (f : Forest) (gap : InsertionPoint) (spot : Place) (text cs : List ℕ) → IsForest f → IsForest (with_node (Text text) f) → AreNodes nodes f → IsPointOf nodes gap spot → IsOpenGap gap f →
+    encode_utf8_all cs ≡ text → AreNodes (with_kind_at (TextNode cs) spot nodes) (with_node_at gap (Text text) f)
+text_made nodes f gap spot text cs good after are at opens spelt =
     let long = same_length nodes f are in
     let there = opens.0 in
-    let kind : Kind = TextNode (chars text) in
-    let is : IsKind kind (Text text) = ap Text (sym (encodes-chars text valid)) in
+    let kind : Kind = TextNode cs in
+    let is : IsKind kind (Text text) = ap Text (sym spelt) in
     let more = length_push f.content (Text text) in
     subst (λ (k : ℕ). AreNodes (put_at k spot (with_kind kind nodes)) (with_node_at gap (Text text) f)) (sym long)
     (nodes_moved (with_kind kind nodes) (with_node (Text text) f) (length f.content) gap spot after (plain_made nodes f kind (Text text) are is refl)
     (point_made nodes kind gap spot (omega (arith, there, long)) at) (omega (arith, more)) (λ e. absurd (omega (arith, there, e))))
 
 -- a text that grows
-text_grown : (nodes : List Node) (f : Forest) (n : ℕ) (old text : List ℕ) → AreNodes nodes f → n < length f.content → text_in (node_at nodes n).kind ≡ Some old → IsUtf8 text →
-    AreNodes (changed_at (with_kind_of (TextNode (old ++ chars text))) nodes n) (with_content n (lengthened text) f)
-text_grown nodes f n old text are known e valid =
-    let kind : Kind = TextNode (old ++ chars text) in
+text_grown : (nodes : List Node) (f : Forest) (n : ℕ) (old text cs : List ℕ) → AreNodes nodes f → n < length f.content → text_in (node_at nodes n).kind ≡ Some old → encode_utf8_all cs ≡ text →
+    AreNodes (changed_at (with_kind_of (TextNode (old ++ cs))) nodes n) (with_content n (lengthened text) f)
+text_grown nodes f n old text cs are known e spelt =
+    let kind : Kind = TextNode (old ++ cs) in
     let found = kind_is nodes f n are known in
     let was = a_text (node_at nodes n).kind found.0 old found.2 e in
-    let longer : encode_utf8_all old ++ text ≡ encode_utf8_all (old ++ chars text) =
-    ap (λ (bs : List ℕ). encode_utf8_all old ++ bs) (sym (encodes-chars text valid)) ∙ sym (encodes-append old (chars text)) in
+    let longer : encode_utf8_all old ++ text ≡ encode_utf8_all (old ++ cs) =
+    ap (λ (bs : List ℕ). encode_utf8_all old ++ bs) (sym spelt) ∙ sym (encodes-append old cs) in
     record {
       root = root_kept (changed_at (with_kind_of kind) nodes n) n refl;
       kinds = subst (λ (ks : List Kind). AreKinds ks (changed n (lengthened text) f.content)) (sym (kinds_changed kind nodes n))
@@ -362,39 +361,39 @@ text_grown nodes f n old text are known e valid =
     changed_else kind (node ∷ ns) root zero is = (let none : text_in node.kind ≡ None = ap text_in root in cc)
     changed_else kind (node ∷ ns) root (suc k) is = root
 
-    root_kept : (all : List Node) (k : ℕ) → all ≡ changed_at (with_kind_of (TextNode (old ++ chars text))) nodes n → (node_at all 0).kind ≡ DocumentNode
-    root_kept all k same = ap (λ (ns : List Node). (node_at ns 0).kind) same ∙ changed_else (TextNode (old ++ chars text)) nodes are.root n e
+    root_kept : (all : List Node) (k : ℕ) → all ≡ changed_at (with_kind_of (TextNode (old ++ cs))) nodes n → (node_at all 0).kind ≡ DocumentNode
+    root_kept all k same = ap (λ (ns : List Node). (node_at ns 0).kind) same ∙ changed_else (TextNode (old ++ cs)) nodes are.root n e
 
-pub text_stands : (nodes : List Node) (f : Forest) (gap : InsertionPoint) (spot : Place) (text : List ℕ) → IsForest f → IsForest (with_node (Text text) f) → AreNodes nodes f → IsPointOf nodes gap spot → IsOpenGap gap f →
-    IsUtf8 text → AreNodes (with_text_at (chars text) spot nodes) (text_at gap text f)
-text_stands nodes f gap spot text good after are at opens valid = by (before_gap gap f) refl
+pub text_stands : (nodes : List Node) (f : Forest) (gap : InsertionPoint) (spot : Place) (text cs : List ℕ) → IsForest f → IsForest (with_node (Text text) f) → AreNodes nodes f → IsPointOf nodes gap spot → IsOpenGap gap f →
+    encode_utf8_all cs ≡ text → AreNodes (with_text_at cs spot nodes) (text_at gap text f)
+text_stands nodes f gap spot text cs good after are at opens spelt = by (before_gap gap f) refl
   where
-    fresh : AreNodes (with_kind_at (TextNode (chars text)) spot nodes) (with_node_at gap (Text text) f)
-    fresh = text_made nodes f gap spot text good after are at opens valid
+    fresh : AreNodes (with_kind_at (TextNode cs) spot nodes) (with_node_at gap (Text text) f)
+    fresh = text_made nodes f gap spot text cs good after are at opens spelt
 
     is_before : (o : Option ℕ) → before_gap gap f ≡ o → node_before nodes spot ≡ o
     is_before o e = sym (before_point nodes f gap spot good are at) ∙ e
 
     at_node : (n : ℕ) (o : Option (List ℕ)) → n < length f.content → text_in (node_at nodes n).kind ≡ o →
-        AreNodes (text_after (Some n) (chars text) spot nodes) (with_more (if is_text_at f n then Some n else None) gap text f)
+        AreNodes (text_after (Some n) cs spot nodes) (with_more (if is_text_at f n then Some n else None) gap text f)
     at_node n None known e =
         let found = kind_is nodes f n are known in
         let no : is_text_at f n ≡ false = ap (λ (c : Option NodeData). option_map_or is_text c false) found.1 ∙ no_text (node_at nodes n).kind found.0 found.2 e in
         subst (λ (ns : List Node). AreNodes ns (with_more (if is_text_at f n then Some n else None) gap text f))
-        (sym (ap (λ (p : Option (List ℕ)). elim p [ Some before ↦ changed_at (with_kind_of (TextNode (before ++ chars text))) nodes n | None ↦ with_kind_at (TextNode (chars text)) spot nodes ]) e))
-        (subst (λ (b : Bool). AreNodes (with_kind_at (TextNode (chars text)) spot nodes) (with_more (if b then Some n else None) gap text f)) (sym no) fresh)
+        (sym (ap (λ (p : Option (List ℕ)). elim p [ Some before ↦ changed_at (with_kind_of (TextNode (before ++ cs))) nodes n | None ↦ with_kind_at (TextNode cs) spot nodes ]) e))
+        (subst (λ (b : Bool). AreNodes (with_kind_at (TextNode cs) spot nodes) (with_more (if b then Some n else None) gap text f)) (sym no) fresh)
     at_node n (Some old) known e =
         let found = kind_is nodes f n are known in
         let yes : is_text_at f n ≡ true = ap (λ (c : Option NodeData). option_map_or is_text c false) found.1 ∙ ap is_text (a_text (node_at nodes n).kind found.0 old found.2 e) in
         subst (λ (ns : List Node). AreNodes ns (with_more (if is_text_at f n then Some n else None) gap text f))
-        (sym (ap (λ (p : Option (List ℕ)). elim p [ Some before ↦ changed_at (with_kind_of (TextNode (before ++ chars text))) nodes n | None ↦ with_kind_at (TextNode (chars text)) spot nodes ]) e))
-        (subst (λ (b : Bool). AreNodes (changed_at (with_kind_of (TextNode (old ++ chars text))) nodes n) (with_more (if b then Some n else None) gap text f)) (sym yes) (text_grown nodes f n old text are known e valid))
+        (sym (ap (λ (p : Option (List ℕ)). elim p [ Some before ↦ changed_at (with_kind_of (TextNode (before ++ cs))) nodes n | None ↦ with_kind_at (TextNode cs) spot nodes ]) e))
+        (subst (λ (b : Bool). AreNodes (changed_at (with_kind_of (TextNode (old ++ cs))) nodes n) (with_more (if b then Some n else None) gap text f)) (sym yes) (text_grown nodes f n old text cs are known e spelt))
 
-    by : (o : Option ℕ) → before_gap gap f ≡ o → AreNodes (with_text_at (chars text) spot nodes) (text_at gap text f)
+    by : (o : Option ℕ) → before_gap gap f ≡ o → AreNodes (with_text_at cs spot nodes) (text_at gap text f)
     by None e =
-        subst (λ (p : Option ℕ). AreNodes (text_after p (chars text) spot nodes) (text_at gap text f)) (sym (is_before None e))
-        (subst (λ (p : Option ℕ). AreNodes (with_kind_at (TextNode (chars text)) spot nodes) (with_more (option_and_then (λ n. if is_text_at f n then Some n else None) p) gap text f)) (sym e) fresh)
+        subst (λ (p : Option ℕ). AreNodes (text_after p cs spot nodes) (text_at gap text f)) (sym (is_before None e))
+        (subst (λ (p : Option ℕ). AreNodes (with_kind_at (TextNode cs) spot nodes) (with_more (option_and_then (λ n. if is_text_at f n then Some n else None) p) gap text f)) (sym e) fresh)
     by (Some n) e =
-        subst (λ (p : Option ℕ). AreNodes (text_after p (chars text) spot nodes) (text_at gap text f)) (sym (is_before (Some n) e))
-        (subst (λ (p : Option ℕ). AreNodes (text_after (Some n) (chars text) spot nodes) (with_more (option_and_then (λ k. if is_text_at f k then Some k else None) p) gap text f)) (sym e)
+        subst (λ (p : Option ℕ). AreNodes (text_after p cs spot nodes) (text_at gap text f)) (sym (is_before (Some n) e))
+        (subst (λ (p : Option ℕ). AreNodes (text_after (Some n) cs spot nodes) (with_more (option_and_then (λ k. if is_text_at f k then Some k else None) p) gap text f)) (sym e)
         (at_node n (text_in (node_at nodes n).kind) (point_known nodes f gap spot n good are at e) refl))

@@ -76,7 +76,7 @@ as_chosen t true b x y ns = refl
 as_chosen t false true x y ns = by_parent x y (parent_of t.nodes x)
 as_chosen t false false x y ns = refl
 
-template_known : are_known (codes "template" ∷ []) ≡ true
+pub template_known : are_known (codes "template" ∷ []) ≡ true
 unfolding html_rows rare_rows
 template_known = refl
 

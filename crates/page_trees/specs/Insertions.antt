@@ -18,6 +18,7 @@ use Rattle.page_trees.specs.Foreign.{attr_in, element_name_in, is_html_annotatio
 use Rattle.page_trees.specs.Placing.{is_template_named}
 use Rattle.page_trees.specs.declared.name.Name.{Name}
 use Rattle.page_trees.specs.declared.stack.ElementNamespace.{ElementNamespace}
+use Rattle.page_trees.specs.declared.stack.Open.{Open}
 
 -- a node with the next number was made, and this is the forest then
 pub record MakesNext (id : ℕ) (old new after : Forest) : Type 0 where
@@ -36,6 +37,11 @@ flags_for ns name tag = record {
 abbrev pub element_for_tag : ElementNamespace → Name → Tag → Forest → NodeData
 element_for_tag ns name tag forest =
     flagged_element (element_name_in ns name (string_bytes tag.name)) (map (attr_in ns) tag.attrs.items) (flags_for ns name tag) forest
+
+-- the element as an open element with this id, before its name gets a number
+abbrev pub open_for_tag : ElementNamespace → Name → Tag → ℕ → Open
+open_for_tag ns name tag id =
+    record { id = id; ns = ns; name = name; number = 0; holds_html = is_html_annotation ns name tag.attrs.items }
 
 -- a new element, which is put at an insertion point
 abbrev pub with_element_at : InsertionPoint → NameParts → List Attr → ElementFlags → Forest → Forest

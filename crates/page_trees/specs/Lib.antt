@@ -15,6 +15,9 @@ pub mod Scopes
 pub mod Links
 pub mod SearchIndex
 pub mod TreeState
+pub mod LateAttrs
 pub mod Stands
 pub mod SameNodes
 pub mod Insertions
+pub mod Constructs
+pub mod TagInsertions

@@ -30,6 +30,14 @@ abbrev pub is_start_kind : TagKind → Bool
 is_start_kind TagKind.Start = true
 is_start_kind TagKind.End = false
 
+-- before the body: the end tags that are processed like anything else
+abbrev pub is_early_end_name : Name → Bool
+is_early_end_name Name.Head = true
+is_early_end_name Name.Body = true
+is_early_end_name Name.Html = true
+is_early_end_name Name.Br = true
+is_early_end_name _ = false
+
 -- ---- characters
 
 -- the modes that process whitespace like the characters after it

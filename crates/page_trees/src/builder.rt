@@ -1,8 +1,13 @@
 //! The state of tree construction (13.2.4), besides the tree and the stack.
 
+ghost use Rattle.std.specs.Prelude.{◌≡◌, ◌≤◌, false, length};
+ghost use Rattle.page_trees.specs.Constructs.{first_fault};
+ghost use Rattle.page_trees.specs.declared.builder.Next.TheVariants.{Again, Done as IsDone};
+
 use crate::fault::PageFault;
 use crate::growing::{GrowingTree, Placing};
 use crate::reading::Options;
+use dom_trees::quirks::QuirksMode;
 use page_tokens::tokenizer::State;
 use std::alloc::Global;
 
@@ -56,8 +61,8 @@ pub struct TreeBuilder {
     /// Whether the next character is ignored if it is a line feed.
     pub skip_line_feed: bool,
     pub scripting: bool,
-    /// Whether the document is in quirks mode.
-    pub quirks: bool,
+    /// The quirks mode of the document.
+    pub quirks: QuirksMode,
     /// The pending table character tokens.
     pub table_text: String,
     pub table_text_has_letters: bool,
@@ -65,6 +70,8 @@ pub struct TreeBuilder {
     pub switch: Option<State>,
     /// The first fault. The current token is processed to its end; then nothing more is read.
     pub fault: Option<PageFault>,
+    /// Whether an element was opened where as many were open as the limit on depth allows.
+    pub too_deep: bool,
 }
 
 impl TreeBuilder {
@@ -83,20 +90,35 @@ impl TreeBuilder {
             frameset_ok: true,
             skip_line_feed: false,
             scripting: options.scripting,
-            quirks: false,
+            quirks: QuirksMode::NoQuirks,
             table_text: String::new(alloc),
             table_text_has_letters: false,
             switch: None,
             fault: None,
+            too_deep: false,
         }
     }
 
     /// Stores the fault of an edit, if it is the first one.
-    pub fn keep(&mut self, done: Result<(), PageFault>) {
+    pub fn keep(&mut self, done: Result<(), PageFault>)
+        ensures { self.new ≡ record self.old { fault = first_fault self.old.fault done } }
+    {
         if let Err(fault) = done
             && self.fault.is_none()
         {
             self.fault = Some(fault);
+        }
+    }
+
+    /// Notes if more elements are open than the limit on depth allows.
+    pub fn note_depth(&mut self)
+        ensures rest { self.new ≡ record self.old { too_deep = self.new.too_deep } }
+        ensures kept { self.new.too_deep ≡ false → self.old.too_deep ≡ false }
+        ensures noted { self.new.too_deep ≡ false →
+            length self.old.tree.stack ≤ self.old.placing.max_depth }
+    {
+        if self.tree.open().len() > self.placing.max_depth {
+            self.too_deep = true;
         }
     }
 
@@ -108,12 +130,18 @@ impl TreeBuilder {
         }
     }
 
-    pub fn done_in(&mut self, mode: Mode) -> Next {
+    pub fn done_in(&mut self, mode: Mode) -> Next
+        ensures next { result ≡ IsDone }
+        ensures mode { self.new ≡ record self.old { mode = mode } }
+    {
         self.mode = mode;
         Next::Done
     }
 
-    pub fn again_in(&mut self, mode: Mode) -> Next {
+    pub fn again_in(&mut self, mode: Mode) -> Next
+        ensures next { result ≡ Again }
+        ensures mode { self.new ≡ record self.old { mode = mode } }
+    {
         self.mode = mode;
         Next::Again
     }

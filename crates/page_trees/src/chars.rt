@@ -1,6 +1,7 @@
 //! Character tokens, which come as runs.
 
 ghost use Rattle.std.specs.Prelude.{◌≡◌};
+ghost use Rattle.page_trees.specs.Constructs.{Leaves};
 ghost use Rattle.page_trees.specs.Modes.{drops_letters, holds_table_text, joins_spaces};
 
 use crate::builder::{Mode, Next, TreeBuilder};
@@ -213,7 +214,9 @@ impl TreeBuilder {
     }
 
     /// Leaves a mode that can't process the token, by the steps for "anything else".
-    pub fn leave_mode(&mut self) -> Next {
+    pub fn leave_mode(&mut self) -> Next
+        ensures rule { Leaves self.old self.new result }
+    {
         match self.mode {
             Mode::Initial => self.leave_initial(),
             Mode::BeforeHtml => self.imply_html(),

@@ -2,23 +2,35 @@
 //! elements, the list of active formatting elements, and the head and form element pointers. A call
 //! that returns a `Result` fails only when memory or node ids run out.
 
-ghost use Rattle.std.specs.Prelude.{◌≡◌, [], ◌∷◌, IfOk, codes, not, true};
-ghost use Rattle.std.specs.Option.{is_some};
+ghost use Rattle.std.specs.Prelude.{◌≡◌, ◌<◌, [], ◌∷◌, IfOk, List, OnOk, codes, length, not};
+ghost use Rattle.std.specs.Prelude.{encode_utf8_all, false, slice_get, true, ℕ};
+ghost use Rattle.std.specs.Option.{is_some, option_map, option_map_or};
 ghost use Rattle.dom_links.specs.Growth.{lone};
 ghost use Rattle.dom_links.specs.Sound.{IsOpenGap};
 ghost use Rattle.dom_nodes.specs.declared.node_data.NodeData.TheVariants.{Document as TheDocument};
 ghost use Rattle.dom_nodes.specs.declared.node_data.NodeData.TheVariants.{Fragment as TheFragment};
 ghost use Rattle.page_trees.specs.Elements.{IsRooted};
 ghost use Rattle.page_trees.specs.Modes.{points_nowhere};
+ghost use Rattle.page_trees.specs.Names.{text_of};
 ghost use Rattle.page_trees.specs.Placing.{is_at_top};
+ghost use Rattle.page_trees.specs.Scopes.{is_name};
 ghost use Rattle.page_trees.specs.SearchIndex.{IsIndexed};
-ghost use Rattle.page_trees.specs.Stands.{Builds, Does, IsCurrent, Tells, is_fragment};
-ghost use Rattle.page_trees.specs.Stands.{with_form};
+ghost use Rattle.page_trees.specs.SameNodes.{IsPointOf};
+ghost use Rattle.page_trees.specs.Sets.{local_for, space_of};
+ghost use Rattle.page_trees.specs.Stands.{AreParts, Builds, Does, DoesIn, DoesInside};
+ghost use Rattle.page_trees.specs.Stands.{IsCurrent, IsTagOf, Tells, cut};
+ghost use Rattle.page_trees.specs.Stands.{inserted_in, is_fragment, place_for, with_form};
 ghost use Rattle.page_trees.specs.Stands.{with_form_of_context, with_head};
 ghost use Rattle.page_trees.specs.TreeState.{adjusted_at, fresh_state};
+ghost use Rattle.page_trees.specs.declared.name.Name.TheVariants.{Other};
+ghost use Rattle.standard_tokens.specs.Tokens.{Doctype};
 ghost use Rattle.standard_trees.specs.Building.{empty_tree, is_present, is_set};
 ghost use Rattle.standard_trees.specs.GrowingTree.{GrowingTree as StandardTree};
-ghost use Rattle.standard_trees.specs.GrowingTree.{adjusted_current, current, is_one};
+ghost use Rattle.standard_trees.specs.GrowingTree.{adjusted_current, created_at, current};
+ghost use Rattle.standard_trees.specs.GrowingTree.{inserted_at, is_named, is_one};
+ghost use Rattle.standard_trees.specs.GrowingTree.{with_chars, with_comment};
+ghost use Rattle.standard_trees.specs.TreeStore.{EndOf as AtEnd, Html as HtmlSpace};
+ghost use Rattle.standard_trees.specs.TreeStore.{DoctypeNode, NodeAttr};
 
 mod adopting;
 mod edits;
@@ -36,10 +48,10 @@ use dom_nodes::node_data::NodeData;
 use dom_nodes::node_id::NodeId;
 use dom_trees::quirks::QuirksMode;
 use dom_trees::tree::Tree;
-use edits::{cut_out, put_comment, put_copy, put_doctype, put_element, put_text};
+use edits::{cut_out, is_forest, put_comment, put_copy, put_doctype, put_element, put_text};
 use late::LateTags;
 use page_tokens::token::Tag;
-use placing::gap;
+use placing::{gap, gap_in};
 pub use placing::{Placing, is_foster_target, is_template};
 pub use popping::ForeignEnd;
 use std::alloc::Global;
@@ -183,7 +195,10 @@ impl GrowingTree {
     }
 
     /// Returns whether the context element of a fragment is an HTML element with that name.
-    pub fn is_context(&self, name: Name) -> bool {
+    pub fn is_context(&self, name: Name) -> bool
+        ensures { is_name name Other ≡ false → Tells
+            (λ t. option_map_or (is_named (text_of name ∷ [])) t.context false) self.now result }
+    {
         match self.context {
             Some(context) => context.is_html(name),
             None => false,
@@ -235,11 +250,29 @@ impl GrowingTree {
 
     /// Returns the insertion point for a node: the appropriate place for inserting a node.
     fn gap(&self, placing: Placing) -> InsertionPoint
-        ensures { IsOpenGap result self.now.forest }
+        ensures open { IsOpenGap result self.now.forest }
+        ensures rule { length self.now.stack < placing.max_depth → (t : StandardTree) →
+            t.fostering ≡ placing.foster → Builds self.now t →
+            IsPointOf t.nodes result (place_for placing t) }
     {
+        is_forest(&self.tree);
         match self.head {
             Some(head) if placing.in_head => InsertionPoint::EndOf(head),
             _ => gap(&self.tree, &self.stack, placing),
+        }
+    }
+
+    /// Returns the insertion point for a text or a comment, which hold nothing: the appropriate
+    /// place, however deep it is.
+    fn gap_at_any_depth(&self, placing: Placing) -> InsertionPoint
+        ensures open { IsOpenGap result self.now.forest }
+        ensures rule { (t : StandardTree) → t.fostering ≡ placing.foster → Builds self.now t →
+            IsPointOf t.nodes result (place_for placing t) }
+    {
+        is_forest(&self.tree);
+        match self.head {
+            Some(head) if placing.in_head => InsertionPoint::EndOf(head),
+            _ => gap_in(&self.tree, self.stack.as_slice(), placing.foster),
         }
     }
 
@@ -258,18 +291,32 @@ impl GrowingTree {
         ns: ElementNamespace,
         name: Name,
         tag: &Tag,
-    ) -> Result<(), PageFault> {
+    ) -> Result<(), PageFault>
+        ensures rule { (written : List ℕ) (attrs : List NodeAttr) →
+            IsTagOf ns name tag.now written attrs → OnOk result (DoesIn placing
+            (inserted_in placing (space_of ns) (local_for ns written) attrs) self.old self.new) }
+        ensures quirks { self.new.quirks ≡ self.old.quirks }
+    {
         let number = self.number_of(name, tag.name.as_str())?;
         let gap = self.gap(placing);
+        is_forest(&self.tree);
         let open = put_element(&mut self.tree, gap, ns, name, tag)?;
-        self.stack.push(&Open { number, ..open })
+        self.stack.push(&Open { number, ..open })?;
+        Ok(())
     }
 
     /// Inserts the element `html` below the root, and pushes it onto the stack of open elements.
-    pub fn insert_html(&mut self, tag: &Tag) -> Result<(), PageFault> {
+    pub fn insert_html(&mut self, tag: &Tag) -> Result<(), PageFault>
+        ensures rule { (written : List ℕ) (attrs : List NodeAttr) →
+            IsTagOf ElementNamespace.Html Name.Html tag.now written attrs → OnOk result (Does
+            (inserted_at (AtEnd 0) HtmlSpace written attrs) self.old self.new) }
+        ensures quirks { self.new.quirks ≡ self.old.quirks }
+    {
+        is_forest(&self.tree);
         let gap = InsertionPoint::EndOf(self.tree.root_id());
         let open = put_element(&mut self.tree, gap, ElementNamespace::Html, Name::Html, tag)?;
-        self.stack.push(&open)
+        self.stack.push(&open)?;
+        Ok(())
     }
 
     /// Sets the context element, which the current node represents.
@@ -288,8 +335,8 @@ impl GrowingTree {
 
     /// Sets the head element pointer to the current node.
     pub fn set_head(&mut self)
-        ensures { (t : StandardTree) → (t.stack ≡ [] → ⊥) → Builds self.old t →
-            Builds self.new (with_head t) }
+        ensures { (t : StandardTree) → is_one t (codes "head" ∷ []) (current t) ≡ true →
+            Builds self.old t → Builds self.new (with_head t) }
     {
         if let Some(head) = self.stack.current() {
             self.head = Some(head.id);
@@ -328,25 +375,44 @@ impl GrowingTree {
     }
 
     /// Inserts characters. The document itself can't have text, so characters there are ignored.
-    pub fn put_text(&mut self, placing: Placing, text: &str) -> Result<(), PageFault> {
-        let gap = self.gap(placing.at_any_depth());
+    pub fn put_text(&mut self, placing: Placing, text: &str) -> Result<(), PageFault>
+        ensures rule { (c : ℕ) (cs : List ℕ) → placing.in_head ≡ false →
+            text.now ≡ encode_utf8_all (c ∷ cs) →
+            OnOk result (DoesInside placing (with_chars (c ∷ cs)) self.old self.new) }
+        ensures quirks { self.new.quirks ≡ self.old.quirks }
+    {
+        let gap = self.gap_at_any_depth(placing);
         let at_top = is_at_top(&gap);
         if at_top && self.context.is_none() {
             return Ok(());
         }
-        put_text(&mut self.tree, gap, text)
+        is_forest(&self.tree);
+        put_text(&mut self.tree, gap, text)?;
+        Ok(())
     }
 
     /// Inserts a comment at the appropriate place.
-    pub fn put_comment(&mut self, placing: Placing, text: &str) -> Result<(), PageFault> {
-        let gap = self.gap(placing.at_any_depth());
-        put_comment(&mut self.tree, gap, text)
+    pub fn put_comment(&mut self, placing: Placing, text: &str) -> Result<(), PageFault>
+        ensures rule { (cs : List ℕ) → text.now ≡ encode_utf8_all cs → OnOk result (DoesIn placing
+            (λ t. with_comment cs (place_for placing t) t) self.old self.new) }
+        ensures quirks { self.new.quirks ≡ self.old.quirks }
+    {
+        let gap = self.gap_at_any_depth(placing);
+        is_forest(&self.tree);
+        put_comment(&mut self.tree, gap, text)?;
+        Ok(())
     }
 
     /// Inserts a comment as the last child of the root.
-    pub fn put_comment_at_top(&mut self, text: &str) -> Result<(), PageFault> {
+    pub fn put_comment_at_top(&mut self, text: &str) -> Result<(), PageFault>
+        ensures rule { (cs : List ℕ) → text.now ≡ encode_utf8_all cs →
+            OnOk result (Does (with_comment cs (AtEnd 0)) self.old self.new) }
+        ensures quirks { self.new.quirks ≡ self.old.quirks }
+    {
+        is_forest(&self.tree);
         let gap = InsertionPoint::EndOf(self.tree.root_id());
-        put_comment(&mut self.tree, gap, text)
+        put_comment(&mut self.tree, gap, text)?;
+        Ok(())
     }
 
     /// Inserts a comment as the last child of the outermost element.
@@ -359,9 +425,15 @@ impl GrowingTree {
 
     /// Inserts a doctype as the last child of the root: name, public identifier and system
     /// identifier.
-    pub fn put_doctype(&mut self, parts: [&str; 3]) -> Result<(), PageFault> {
+    pub fn put_doctype(&mut self, parts: [&str; 3]) -> Result<(), PageFault>
+        ensures rule { (d : Doctype) → AreParts d parts.entry → OnOk result
+            (Does (created_at (AtEnd 0) (DoctypeNode d)) self.old self.new) }
+        ensures quirks { self.new.quirks ≡ self.old.quirks }
+    {
+        is_forest(&self.tree);
         let [name, public_id, system_id] = parts;
-        put_doctype(&mut self.tree, name, public_id, system_id)
+        put_doctype(&mut self.tree, name, public_id, system_id)?;
+        Ok(())
     }
 
     /// Adds to the element at an index of the stack those of a tag's attributes whose names it
@@ -374,7 +446,10 @@ impl GrowingTree {
     }
 
     /// Detaches the element at an index of the stack.
-    pub fn cut_out(&mut self, place: usize) {
+    pub fn cut_out(&mut self, place: usize)
+        ensures { let element = slice_get self.old.stack place in
+            Does (cut (option_map (λ o. o.id) element)) self.old self.new }
+    {
         if let Some(open) = self.stack.get(place) {
             cut_out(&mut self.tree, open.id);
         }

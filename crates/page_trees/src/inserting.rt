@@ -1,6 +1,16 @@
 //! Inserting nodes at the appropriate place. A failed edit is stored as the builder's fault.
 
-ghost use Rattle.std.specs.Prelude.{◌<◌, length};
+ghost use Rattle.std.specs.Prelude.{◌≡◌, ◌<◌, [], ◌∷◌, length, true};
+ghost use Rattle.standard_trees.specs.RuleWords.{InsertElement, InsertRootElement, Pop, SwitchTo};
+ghost use Rattle.standard_trees.specs.TreeStore.{EndOf};
+ghost use Rattle.page_trees.specs.Constructs.{Performs, PerformsFor};
+ghost use Rattle.page_trees.specs.Constructs.{RemembersLimits, implying, is_entered_plainly};
+ghost use Rattle.page_trees.specs.Modes.{mode_of};
+ghost use Rattle.page_trees.specs.Names.{text_of};
+ghost use Rattle.page_trees.specs.TagInsertions.{InsertsTag, InsertsTagAt};
+ghost use Rattle.page_trees.specs.declared.builder.Next.TheVariants.{Again, Done as IsDone};
+ghost use Rattle.page_trees.specs.declared.name.Name.TheVariants.{Html as HtmlName};
+ghost use Rattle.page_trees.specs.declared.stack.ElementNamespace.TheVariants.{Html as HtmlSpace};
 
 use crate::builder::{Mode, Next, TreeBuilder};
 use crate::fault::PageFault;
@@ -11,25 +21,41 @@ use page_tokens::token::{Tag, TagKind};
 impl TreeBuilder {
     /// Inserts an HTML element for a tag: makes it, inserts it at the appropriate place, and pushes
     /// it onto the stack of open elements.
-    pub fn insert(&mut self, name: Name, tag: &Tag) {
+    pub fn insert(&mut self, name: Name, tag: &Tag)
+        ensures limits { RemembersLimits self.old self.new }
+        ensures element { InsertsTag HtmlSpace name tag.now self.old self.new }
+        ensures rule { PerformsFor name tag.now (InsertElement ∷ []) self.old self.new }
+    {
         self.insert_in(ElementNamespace::Html, name, tag);
     }
 
     /// Inserts an element of any namespace for a tag, like `insert`.
-    fn insert_in(&mut self, ns: ElementNamespace, name: Name, tag: &Tag) {
+    fn insert_in(&mut self, ns: ElementNamespace, name: Name, tag: &Tag)
+        ensures limits { RemembersLimits self.old self.new }
+        ensures rule { InsertsTag ns name tag.now self.old self.new }
+    {
         let inserted = self.tree.insert(self.placing, ns, name, tag);
         self.keep(inserted);
+        self.note_depth();
     }
 
     /// Inserts the element `html` below the root, and pushes it onto the stack of open elements.
-    pub fn insert_html(&mut self, tag: &Tag) {
+    pub fn insert_html(&mut self, tag: &Tag)
+        ensures limits { RemembersLimits self.old self.new }
+        ensures element { InsertsTagAt (λ t. EndOf 0) HtmlSpace HtmlName tag.now self.old self.new }
+        ensures rule { PerformsFor HtmlName tag.now (InsertRootElement ∷ []) self.old self.new }
+    {
         let inserted = self.tree.insert_html(tag);
         self.keep(inserted);
+        self.note_depth();
     }
 
     /// Inserts an element that has no tag in the source.
     pub fn insert_implied(&mut self, name: Name, written: &str)
         requires { 0 < length written.now }
+        ensures limits { RemembersLimits self.old self.new }
+        ensures rule { written.now ≡ text_of name →
+            Performs (implying name ∷ []) self.old self.new }
     {
         match Tag::new(self.alloc, TagKind::Start, written) {
             Ok(tag) if name == Name::Html => self.insert_html(&tag),
@@ -39,13 +65,23 @@ impl TreeBuilder {
     }
 
     /// Inserts an element; the tag is then processed.
-    pub fn insert_done(&mut self, name: Name, tag: &Tag) -> Next {
+    pub fn insert_done(&mut self, name: Name, tag: &Tag) -> Next
+        ensures next { result ≡ IsDone }
+        ensures limits { RemembersLimits self.old self.new }
+        ensures rule { PerformsFor name tag.now (InsertElement ∷ []) self.old self.new }
+    {
         self.insert(name, tag);
         Next::Done
     }
 
     /// Inserts an element and switches to the mode for its content.
-    pub fn insert_then(&mut self, name: Name, tag: &Tag, mode: Mode) -> Next {
+    pub fn insert_then(&mut self, name: Name, tag: &Tag, mode: Mode) -> Next
+        ensures next { result ≡ IsDone }
+        ensures limits { RemembersLimits self.old self.new }
+        ensures rule { let switch = SwitchTo (mode_of mode) in
+            is_entered_plainly mode ≡ true →
+            PerformsFor name tag.now (InsertElement ∷ switch ∷ []) self.old self.new }
+    {
         self.insert(name, tag);
         self.done_in(mode)
     }
@@ -53,13 +89,22 @@ impl TreeBuilder {
     /// Inserts an element that has no tag in the source, and reprocesses the token in that mode.
     pub fn imply(&mut self, name: Name, written: &str, mode: Mode) -> Next
         requires { 0 < length written.now }
+        ensures next { result ≡ Again }
+        ensures limits { RemembersLimits self.old self.new }
+        ensures rule { let switch = SwitchTo (mode_of mode) in
+            is_entered_plainly mode ≡ true → written.now ≡ text_of name →
+            Performs (implying name ∷ switch ∷ []) self.old self.new }
     {
         self.insert_implied(name, written);
         self.again_in(mode)
     }
 
     /// Inserts a void element, which is closed at once.
-    pub fn insert_void(&mut self, name: Name, tag: &Tag) -> Next {
+    pub fn insert_void(&mut self, name: Name, tag: &Tag) -> Next
+        ensures next { result ≡ IsDone }
+        ensures limits { RemembersLimits self.old self.new }
+        ensures rule { PerformsFor name tag.now (InsertElement ∷ Pop ∷ []) self.old self.new }
+    {
         self.insert(name, tag);
         self.tree.pop();
         Next::Done
@@ -103,6 +148,7 @@ impl TreeBuilder {
     pub fn reconstruct(&mut self) {
         let opened = self.tree.reconstruct(self.placing);
         self.keep(opened);
+        self.note_depth();
     }
 
     /// Runs the adoption agency algorithm for a tag. If no element with its name is in the list,

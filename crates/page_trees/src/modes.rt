@@ -19,7 +19,6 @@ use crate::chars::Run;
 use crate::fault::PageFault;
 use crate::name::Name;
 use dom_nodes::name::LocalName;
-use dom_trees::quirks::QuirksMode;
 use page_tokens::token::{Doctype, Tag, TagKind};
 use page_tokens::tokenizer::State;
 
@@ -141,9 +140,7 @@ impl TreeBuilder {
         if self.mode != Mode::Initial {
             return;
         }
-        let mode = crate::quirks::mode_of(doctype);
-        self.tree.set_quirks_mode(mode);
-        self.quirks = mode == QuirksMode::Quirks;
+        self.quirks = crate::quirks::mode_of(doctype);
         let name = text_of(&doctype.name);
         let public_id = text_of(&doctype.public_id);
         let system_id = text_of(&doctype.system_id);

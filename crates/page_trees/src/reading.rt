@@ -115,6 +115,7 @@ impl PageReader {
     pub fn finish(self) -> Result<BuiltTree, PageFault> {
         let mut reader = self;
         reader.read_end()?;
+        reader.builder.tree.set_quirks_mode(reader.builder.quirks);
         reader.builder.tree.into_built()
     }
 

@@ -1,28 +1,26 @@
 -- What single actions do in both definitions.
-use Rattle.std.specs.Prelude.{◌≡◌, refl, ℕ, zero, suc, ◌<◌, ◌≤◌, Bool, true, false, cond, not, ◌&&◌, ◌||◌, nat_eq, List, [], ◌∷◌, ◌++◌, Option, None, Some, bytes_eq, codes}
-use Rattle.std.specs.Prelude.{drop, length}
+use Rattle.std.specs.Prelude.{◌≡◌, refl, ℕ, suc, ◌<◌, ◌≤◌, Bool, true, false, cond, not, ◌&&◌, ◌||◌, nat_eq, List, [], ◌∷◌, Option, None, Some, codes}
+use Rattle.std.specs.Prelude.{drop}
 use Rattle.std.proofs.Common.{arith}
 use Rattle.std.proofs.lemmas.Bool.{true≢false}
 use Rattle.std.proofs.lemmas.Option.{same_Some}
 use mathlib.Core.Path.{◌∙◌, sym, ap, subst}
-use Rattle.standard_tokens.specs.Tokens.{Token, AChar, AComment, AStart}
-use Rattle.standard_rules.specs.Building.{Building, Entry as OldEntry, Open, adopted, adopted_by as old_adopted_by, at_top, ended_other, form_ended as old_form_ended, is_listed as old_is_listed, is_number}
+use Rattle.standard_rules.specs.Building.{Building, Entry as OldEntry, Open, adopted, adopted_by as old_adopted_by, ended_other, form_ended as old_form_ended, is_listed as old_is_listed, is_number}
 use Rattle.standard_rules.specs.Building.{last_listed as old_last_listed, on_stack, popped, top_is, top_number, top_unlisted, unlisted as old_unlisted, with_stack as old_with_stack}
 use Rattle.standard_rules.specs.PlainTrees.{flow_contexts}
-use Rattle.standard_rules.specs.TreeTokens.{Trees, is_among, joined}
+use Rattle.standard_rules.specs.TreeTokens.{Trees, is_among}
 use Rattle.standard_trees.specs.RuleWords.{Scope}
 use Rattle.standard_trees.specs.TreeStore.{ElementNode, Html, Kind, NodeAttr, is_member, without}
-use Rattle.standard_trees.specs.GrowingTree.{Entry, FormAt, FormOfContext, FormPointer, GrowingTree, NoForm, current, ends_scope, implied_of, in_scope, is_named, is_one, past, beyond, top, with_stack}
+use Rattle.standard_trees.specs.GrowingTree.{FormAt, FormOfContext, FormPointer, GrowingTree, NoForm, current, ends_scope, in_scope, is_named, is_one, past, beyond, top, with_stack}
 use Rattle.standard_trees.specs.Formatting.{adopt, adopted_for, adopted_once, adoption, any_other_end, before_in, form_ended, is_listed, last_listed, last_special, unlisted}
 use Rattle.standard_trees.specs.NameLists.{implied}
 use Rattle.standard_trees.specs.Building.{Building as WholeBuilding, NoQuirks, with_tree}
-use Rattle.standard_agreement.proofs.Names.{IsKnown, alike}
-use Rattle.standard_agreement.proofs.Preorder.{after as after_all, element, grows, node_attrs}
+use Rattle.standard_agreement.proofs.Names.{alike}
+use Rattle.standard_agreement.proofs.Preorder.{after as after_all, grows}
 use Rattle.standard_agreement.proofs.Store.{free, numbers}
 use Rattle.standard_agreement.proofs.Stack.{kind_now, one_tests, same_self}
-use Rattle.standard_agreement.proofs.Listing.{Entries, FormIs, FoundIs, Linked, last_is, listed_is, others_than, unlisted_is}
+use Rattle.standard_agreement.proofs.Listing.{FormIs, FoundIs, Linked, last_is, listed_is, unlisted_is}
 use Rattle.standard_agreement.proofs.Parts.{Parts, StackOp, alike_self, other_op, pop_op}
-use Rattle.standard_agreement.proofs.Writing.{current_linked}
 
 -- the context element, in both definitions
 abbrev pub ContextIs : Option (List ℕ) → Option Kind → Type 0

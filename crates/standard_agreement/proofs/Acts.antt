@@ -1,7 +1,5 @@
 -- Each action of the one definition does what its like does in the other.
-use Rattle.std.specs.Prelude.{◌≡◌, refl, ℕ, suc, Bool, true, false, cond, not, ◌&&◌, ◌||◌, List, [], ◌∷◌, ◌++◌, Option, None, Some, bytes_eq, codes, drop}
-use Rattle.std.specs.List.{list_all}
-use Rattle.std.proofs.lemmas.Bool.{true≢false}
+use Rattle.std.specs.Prelude.{◌≡◌, refl, ℕ, Bool, true, false, not, ◌&&◌, List, [], ◌∷◌, Option, None, Some, bytes_eq, codes, drop}
 use Rattle.std.proofs.lemmas.Option.{same_Some}
 use Rattle.std.proofs.lemmas.Slice.Eq.{bytes_eq-Decides}
 use mathlib.Core.Path.{◌∙◌, sym, ap, subst}
@@ -10,21 +8,21 @@ use Rattle.standard_rules.specs.Building.{Building, Entry as OldEntry, Marker as
 use Rattle.standard_rules.specs.Building.{form_ended as old_form_ended, implied_but, inserted as old_inserted, names_for as old_names_for, needs_none, on_stack, open_item as item_name, own_attrs, own_name, popped}
 use Rattle.standard_rules.specs.Building.{popped_until as old_popped_until, popped_while, top_is, top_number, with_comment as old_with_comment, with_stack as old_with_stack, with_text_char, adopted_by, is_number, unlisted, top_unlisted, last_listed, cleared as old_cleared}
 use Rattle.standard_rules.specs.RuleWords as O
-use Rattle.standard_rules.specs.TreeTokens.{Trees, comment_node, is_among, joined, no_trees, with_char as old_with_char}
+use Rattle.standard_rules.specs.TreeTokens.{Trees, is_among}
 use Rattle.standard_trees.specs.Building.{Building as WholeBuilding, char_of, comment_of, names_for, own_name as new_own_name, perform, token_attrs, with_tree}
 use Rattle.standard_trees.specs.Formatting.{adoption, cleared, closed_item, enlisted, open_item, reconstructed, any_other_end, without_p}
 use Rattle.standard_trees.specs.GrowingTree.{FormAt, GrowingTree, Marker, current, implied_of, inserted, place, popped_until, popped_up_to, top, with_chars, with_comment, with_stack}
 use Rattle.standard_trees.specs.NameLists.{implied}
 use Rattle.standard_trees.specs.RuleWords as N
-use Rattle.standard_trees.specs.TreeStore.{Html, Kind, NodeAttr}
+use Rattle.standard_trees.specs.TreeStore.{Html, Kind}
 use Rattle.standard_agreement.proofs.Names.{IsKnown, alike, known}
 use Rattle.standard_agreement.proofs.Preorder.{node_attrs}
 use Rattle.standard_agreement.proofs.Store.{free}
 use Rattle.standard_agreement.proofs.Listing.{Linked, cleared_is}
-use Rattle.standard_agreement.proofs.Parts.{Parts, StackOp, alike_self, implied_op, item_op, other_op, p_op, pop_op, until_op, up_to_op}
+use Rattle.standard_agreement.proofs.Parts.{Parts, StackOp, implied_op, item_op, other_op, p_op, pop_op, until_op, up_to_op}
 use Rattle.standard_agreement.proofs.Writing.{IsNewest, char_op, comment_op, current_linked, insert_newest, insert_op, list_op, nothing_reopened}
 use Rattle.standard_agreement.proofs.Acting.{Stands, adoption_act, end_form_act, stack_act}
-use Rattle.standard_agreement.proofs.Choosing.{fits_act, fresh_after, is_form, is_fresh, like_lists, like_names, new_list}
+use Rattle.standard_agreement.proofs.Choosing.{fits_act, fresh_after, is_form, is_fresh, new_list}
 use Rattle.standard_agreement.proofs.Deciding.{alike_lists, alike_names, both, new_names}
 
 -- the element that was just inserted is the current node, and comes behind all that are listed

@@ -1,5 +1,5 @@
 -- Which rules of both definitions say the same of a token, as a computation over the two tables.
-use Rattle.std.specs.Prelude.{◌≡◌, refl, ℕ, Bool, true, false, cond, not, ◌&&◌, ◌||◌, ◌==◌, List, [], ◌∷◌, ◌++◌, Option, None, Some, bytes_eq, codes, drop, take, zero, suc}
+use Rattle.std.specs.Prelude.{◌≡◌, refl, ℕ, Bool, true, false, cond, not, ◌&&◌, ◌||◌, ◌==◌, List, [], ◌∷◌, Option, None, Some, bytes_eq, codes, drop, take, zero, suc}
 use Rattle.std.specs.List.{flat_map, list_all, list_any}
 use Rattle.standard_tokens.specs.Reading.{switch_at}
 use Rattle.standard_tokens.specs.States.{PLAINTEXT, RAWTEXT, RCDATA, ScriptData, State}

@@ -1,5 +1,5 @@
 -- The two tables agree on every token of plain trees, computed by the prover.
-use Rattle.std.specs.Prelude.{◌≡◌, refl, ℕ, zero, suc, Bool, true, false, List, [], ◌∷◌, None, codes, drop, take}
+use Rattle.std.specs.Prelude.{◌≡◌, refl, true, None, codes, drop, take}
 use Rattle.std.specs.List.{list_all}
 use Rattle.standard_tokens.specs.Tokens.{AnEnd}
 use Rattle.standard_rules.specs.RuleWords as O

@@ -1,5 +1,5 @@
 -- What was computed over the tables is so of the states.
-use Rattle.std.specs.Prelude.{◌≡◌, refl, ℕ, Bool, true, false, cond, not, ◌&&◌, ◌||◌, ◌==◌, List, [], ◌∷◌, ◌++◌, Option, None, Some, bytes_eq, codes}
+use Rattle.std.specs.Prelude.{◌≡◌, refl, ℕ, Bool, true, false, cond, not, ◌&&◌, ◌||◌, ◌==◌, List, [], ◌∷◌, Option, None, Some, bytes_eq, codes}
 use Rattle.std.specs.List.{list_all, list_any}
 use Rattle.std.specs.Option.{option_map_or}
 use Rattle.std.proofs.lemmas.Bool.{eqb-true, true≢false}
@@ -14,16 +14,15 @@ use Rattle.standard_rules.specs.PlainTrees.{flow_contexts}
 use Rattle.standard_rules.specs.RuleWords as O
 use Rattle.standard_rules.specs.TreeTokens.{Trees, is_among}
 use Rattle.standard_trees.specs.Building.{Building as WholeBuilding, fits, holds, is_empty, is_met, is_present, is_set, names_for, own_name as new_own_name, is_quirks, taken}
-use Rattle.standard_trees.specs.GrowingTree.{FormAt, FormOfContext, FormPointer, GrowingTree, NoForm, has_in_scope, in_scope, is_named, is_one, kind_of, ends_scope}
+use Rattle.standard_trees.specs.GrowingTree.{FormAt, FormOfContext, FormPointer, GrowingTree, NoForm, has_in_scope, in_scope, is_named, is_one, ends_scope}
 use Rattle.standard_trees.specs.Formatting.{last_listed}
 use Rattle.standard_trees.specs.RuleWords as N
 use Rattle.standard_trees.specs.TreeStore.{Kind}
-use Rattle.standard_agreement.proofs.Names.{IsKnown, alike, for_each, known, same}
-use Rattle.standard_agreement.proofs.Preorder.{element}
+use Rattle.standard_agreement.proofs.Names.{alike, known, same}
 use Rattle.standard_agreement.proofs.Store.{Held, free, numbers}
 use Rattle.standard_agreement.proofs.Stack.{AreKnown, kind_now}
 use Rattle.standard_agreement.proofs.Listing.{FormIs, FoundIs, last_is}
-use Rattle.standard_agreement.proofs.Parts.{Parts, alike_self, has_scope, new_scope}
+use Rattle.standard_agreement.proofs.Parts.{alike_self, has_scope, new_scope}
 use Rattle.standard_agreement.proofs.Acting.{ContextIs, Stands, top_test}
 use Rattle.standard_agreement.proofs.Choosing.{Case, Ever, Never, Unsure, Verdict, agrees, agrees_on, by_case, case, char_like, decided, follows, ignored_in, is_always, is_none, is_outside, is_scope, like, like_lists, like_names, likeness, new_list, none_among, old_list, resolved, same_lists}
 use Rattle.standard_agreement.proofs.Choosing.{tested, unsure_or, verdict}

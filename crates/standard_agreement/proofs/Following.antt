@@ -1,5 +1,5 @@
 -- What the one definition does with a token, the other does.
-use Rattle.std.specs.Prelude.{◌≡◌, refl, ℕ, suc, Bool, true, false, cond, not, ◌&&◌, ◌||◌, List, [], ◌∷◌, ◌++◌, Option, None, Some, bytes_eq, codes, drop, option_map, reverse}
+use Rattle.std.specs.Prelude.{◌≡◌, refl, ℕ, Bool, true, false, not, ◌&&◌, ◌||◌, List, [], ◌∷◌, Option, None, Some, drop, option_map, reverse}
 use Rattle.std.specs.List.{list_all, list_any}
 use Rattle.std.specs.Option.{option_and_then}
 use Rattle.std.proofs.lemmas.Bool.{true≢false}
@@ -8,19 +8,18 @@ use mathlib.Core.Path.{◌∙◌, sym, ap, subst}
 use Rattle.standard_tokens.specs.Reading.{switch_at, switch_behind}
 use Rattle.standard_tokens.specs.States.{PLAINTEXT, RAWTEXT, RCDATA, ScriptData, State}
 use Rattle.standard_tokens.specs.Tokens.{Token, AChar, AComment, ADoctype, AStart, AnEnd, AnEof}
-use Rattle.standard_rules.specs.Building.{Building, Open, act, all_acts, at_mode, goes_on, own_name, reset as old_reset, top_is, popped, on_stack}
+use Rattle.standard_rules.specs.Building.{Building, act, all_acts, at_mode, goes_on, own_name, reset as old_reset, top_is, popped, on_stack}
 use Rattle.standard_rules.specs.RuleWords as O
-use Rattle.standard_rules.specs.TreeTokens.{is_among}
-use Rattle.standard_trees.specs.Building.{Building as WholeBuilding, is_empty as nothing_open, is_met, is_space, names_for, perform, performed, gone, reset, token_attrs, with_tree, holds}
-use Rattle.standard_trees.specs.GrowingTree.{GrowingTree, adjusted_current, current, is_one, with_chars, with_stack}
+use Rattle.standard_trees.specs.Building.{Building as WholeBuilding, is_empty as nothing_open, is_met, is_space, names_for, perform, performed, reset, token_attrs, with_tree}
+use Rattle.standard_trees.specs.GrowingTree.{adjusted_current, current, is_one, with_chars, with_stack}
 use Rattle.standard_trees.specs.Parsing.{state_of}
 use Rattle.standard_trees.specs.RuleWords as N
 use Rattle.standard_trees.specs.TreeStore.{Kind, is_html, space_in}
 use Rattle.standard_agreement.proofs.Names.{alike}
 use Rattle.standard_agreement.proofs.Parts.{pop_op}
-use Rattle.standard_agreement.proofs.Acting.{Stands, stack_act, top_test}
+use Rattle.standard_agreement.proofs.Acting.{Stands, top_test}
 use Rattle.standard_agreement.proofs.Acts.{Done, FreshIs, Quiet, act_sound, by_stack}
-use Rattle.standard_agreement.proofs.Choosing.{Case, Ever, Never, Unsure, Verdict, ends, first_fits, fits_act, follows, fresh_after, goes_fit, is_empty, is_idle, is_later, is_mode, is_none, is_text_state, last_act, like_lists, new_list, only_reprocess, only_text, pops_if, switch_of, to_mode}
+use Rattle.standard_agreement.proofs.Choosing.{Case, Ever, Never, Unsure, Verdict, ends, first_fits, fits_act, follows, fresh_after, goes_fit, is_empty, is_idle, is_later, is_mode, is_none, is_text_state, last_act, new_list, only_reprocess, only_text, pops_if, switch_of, to_mode}
 use Rattle.standard_agreement.proofs.Choosing.{verdict, without_first, without_idle}
 use Rattle.standard_agreement.proofs.Deciding.{CaseHolds, IsPage, VerdictIs, alike_lists, both, new_names, verdict_is}
 

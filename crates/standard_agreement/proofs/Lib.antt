@@ -4,8 +4,11 @@ pub mod Choosing
 pub mod Computed
 pub mod Deciding
 pub mod Following
+pub mod Fragments
+pub mod Joined
 pub mod Listing
 pub mod Names
+pub mod OwnAnswers
 pub mod Pages
 pub mod Parts
 pub mod Preorder
@@ -14,4 +17,6 @@ pub mod Stack
 pub mod Stepping
 pub mod Steps
 pub mod Store
+pub mod Telling
+pub mod Texts
 pub mod Writing

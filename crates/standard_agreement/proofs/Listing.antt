@@ -1,7 +1,7 @@
 -- The list of active formatting elements and the form pointer in both definitions.
-use Rattle.std.specs.Prelude.{◌≡◌, refl, ℕ, zero, suc, ◌<◌, ◌≤◌, Bool, true, false, cond, not, ◌&&◌, ◌||◌, nat_eq, List, [], ◌∷◌, ◌++◌, Option, None, Some, bytes_eq, codes}
-use Rattle.std.specs.Prelude.{drop, filter, length, map}
-use Rattle.std.specs.List.{list_all, list_any}
+use Rattle.std.specs.Prelude.{◌≡◌, refl, ℕ, suc, ◌<◌, ◌≤◌, Bool, true, false, cond, not, ◌&&◌, ◌||◌, nat_eq, List, [], ◌∷◌, Option, None, Some, bytes_eq, codes}
+use Rattle.std.specs.Prelude.{filter, length}
+use Rattle.std.specs.List.{list_any}
 use Rattle.std.proofs.Common.{arith}
 use Rattle.std.proofs.lemmas.Bool.{true≢false}
 use Rattle.std.proofs.lemmas.Slice.Eq.{bytes_eq-Decides}
@@ -11,13 +11,12 @@ use Rattle.standard_rules.specs.Building.{Entry as OldEntry, Listed, Marker as O
 use Rattle.standard_rules.specs.Building.{is_open, last_listed as old_last_listed, needs_none, same_attr as old_same_attr, same_attrs, unlisted as old_unlisted}
 use Rattle.standard_rules.specs.Building.{without_third as old_without_third}
 use Rattle.standard_rules.specs.TreeTokens.{Trees, is_among}
-use Rattle.standard_trees.specs.TreeStore.{ElementNode, Kind, NoSpace, Node, NodeAttr, attrs_in, is_member, key_in, node_at}
+use Rattle.standard_trees.specs.TreeStore.{NoSpace, Node, attrs_in, is_member, key_in, node_at}
 use Rattle.standard_trees.specs.GrowingTree.{Entry, FormAt, FormOfContext, FormPointer, Formatting, GrowingTree, Marker, NoForm, is_named, is_one, kind_of}
 use Rattle.standard_trees.specs.Formatting.{are_alike, cleared, closed_entries, holds_all, is_entry, last_listed, same_attr, without_third}
 use Rattle.standard_agreement.proofs.Names.{IsKnown, alike, alike_is}
 use Rattle.standard_agreement.proofs.Preorder.{element, node_attrs}
 use Rattle.standard_agreement.proofs.Store.{free, numbers}
-use Rattle.standard_agreement.proofs.Stack.{same_self}
 
 -- ---- one element under both numbers
 

@@ -1,9 +1,9 @@
 -- The names of elements of which plain trees are made, and what is computed for each of them.
-use Rattle.std.specs.Prelude.{◌≡◌, refl, ℕ, Bool, true, false, not, ◌&&◌, ◌||◌, List, [], ◌∷◌, ◌++◌, bytes_eq, codes}
-use Rattle.std.specs.List.{flat_map, list_all, list_any}
+use Rattle.std.specs.Prelude.{◌≡◌, refl, ℕ, Bool, true, false, not, ◌&&◌, ◌||◌, List, [], ◌∷◌, bytes_eq, codes}
+use Rattle.std.specs.List.{flat_map, list_all}
 use Rattle.std.proofs.lemmas.Bool.{true≢false}
 use Rattle.std.proofs.lemmas.Slice.Eq.{bytes_eq-Decides}
-use mathlib.Core.Path.{◌∙◌, sym, ap, subst}
+use mathlib.Core.Path.{◌∙◌, sym, ap}
 use Rattle.standard_rules.specs.ElementNames.{implied_names, scope_names, special_names}
 use Rattle.standard_rules.specs.PlainTrees.{classes, names_of}
 use Rattle.standard_rules.specs.TreeTokens.{is_among}

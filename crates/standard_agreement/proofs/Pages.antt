@@ -1,13 +1,13 @@
 -- Plain pages, from the first token to the last.
-use Rattle.std.specs.Prelude.{◌≡◌, ◌⊎◌, refl, ℕ, zero, suc, ◌+◌, ◌<◌, ◌≤◌, Bool, true, false, cond, not, ◌&&◌, ◌||◌, List, [], ◌∷◌, ◌++◌, Option, None, Some, bytes_eq, codes, length, map, option_map}
-use Rattle.std.specs.List.{flat_map, list_all}
+use Rattle.std.specs.Prelude.{◌≡◌, ◌⊎◌, refl, ℕ, suc, Bool, true, false, cond, not, ◌&&◌, ◌||◌, List, [], ◌∷◌, ◌++◌, Option, None, Some, bytes_eq, codes, length, map, option_map}
+use Rattle.std.specs.List.{flat_map}
 use Rattle.std.proofs.Common.{arith, inl, inr}
 use Rattle.std.proofs.lemmas.Bool.{true≢false}
 use Rattle.std.proofs.lemmas.List.{append-nil}
 use Rattle.std.proofs.lemmas.Option.{same_Some}
 use mathlib.Core.Path.{◌∙◌, sym, ap, subst}
-use Rattle.standard_tokens.specs.Tokens.{Attr, Token, AChar, AComment, ADoctype, AStart, AnEnd, AnEof}
-use Rattle.standard_rules.specs.Building.{Building, Open, act, finished, finished_from, holding, in_scope as in_names_scope, run as old_run, start as old_start, taken as old_taken, tree_of, tree_step as old_step, tree_steps as old_steps}
+use Rattle.standard_tokens.specs.Tokens.{Attr, Token, AChar, AStart, AnEnd, AnEof}
+use Rattle.standard_rules.specs.Building.{Building, Open, act, finished, finished_from, holding, run as old_run, start as old_start, taken as old_taken, tree_of, tree_step as old_step, tree_steps as old_steps}
 use Rattle.standard_rules.specs.PlainTrees.{Another, Class, FlowPlace, HeadPlace, IsPlainPage, Page, Within, admits, are_plain, class_among, class_of, classes, inside, names_of, outermost, page_trees, space_node}
 use Rattle.standard_rules.specs.PlainTrees.{begins_text, may_be_text}
 use Rattle.standard_rules.specs.RuleWords as O
@@ -19,21 +19,19 @@ use Rattle.standard_trees.specs.GrowingTree.{NoForm}
 use Rattle.standard_trees.specs.Parsing.{Document, document_of}
 use Rattle.standard_trees.specs.RuleWords as N
 use Rattle.standard_trees.specs.TreeRules.{rules}
-use Rattle.standard_trees.specs.TreeStore.{DoctypeNode, DocumentNode, Kind, Node, Trees as WholeTrees, leaf, node_at, trees_of}
-use Rattle.standard_agreement.specs.PlainPages.{PlainPagesAreBuilt, node_attrs, whole}
-use Rattle.standard_agreement.proofs.Names.{for_each, known}
+use Rattle.standard_trees.specs.TreeStore.{DoctypeNode, DocumentNode, Node, Trees as WholeTrees, leaf, node_at, trees_of}
+use Rattle.standard_agreement.specs.PlainPages.{PlainPagesAreBuilt, built, no_quirks, node_attrs, whole}
 use Rattle.standard_agreement.proofs.Preorder.{after, after_joined, at_joined, element, node_of, roots, roots_joined, trees_are}
 use Rattle.standard_agreement.proofs.Store.{free}
 use Rattle.standard_agreement.proofs.Stack.{Fits, fits_popped}
-use Rattle.standard_agreement.proofs.Acting.{Stands}
 use Rattle.standard_agreement.proofs.Deciding.{both}
-use Rattle.standard_agreement.proofs.Following.{Meets, Settled, lagging, settled}
+use Rattle.standard_agreement.proofs.Following.{Meets, lagging, settled}
 use Rattle.standard_agreement.proofs.Stepping.{IsPlainToken, inner_known}
 use Rattle.standard_agreement.proofs.Steps.{ArePlain, deep, last_token, steps_sound}
 
 -- ---- the tokens of plain trees
 
-plain_append : (page : Bool) (xs ys : List Token) → ArePlain page xs → ArePlain page ys → ArePlain page (xs ++ ys)
+pub plain_append : (page : Bool) (xs ys : List Token) → ArePlain page xs → ArePlain page ys → ArePlain page (xs ++ ys)
 plain_append page [] ys a b = b
 plain_append page (x ∷ xs) ys a b = (a.0, plain_append page xs ys a.1 b)
 
@@ -86,7 +84,7 @@ plain_end page name h = by_void (is_among name void_names)
     by_void true = tt
     by_void false = (h, tt)
 
-plain_tokens : (page : Bool) (w : Within) (t : Trees) → are_plain w t ≡ true → ArePlain page (tokens t)
+pub plain_tokens : (page : Bool) (w : Within) (t : Trees) → are_plain w t ≡ true → ArePlain page (tokens t)
 plain_tokens page w no_trees h = tt
 plain_tokens page w (text_node text later) h =
     plain_append page (map AChar text) (tokens later) (plain_chars page text)
@@ -118,7 +116,7 @@ end_tree nodes document o (p ∷ os) f = end_tree nodes document (holding p o) o
 
 -- ---- before the head's contents
 
-head_old : Page → Building
+unfoldable pub head_old : Page → Building
 head_old page = record old_start {
   document = doctype_node (codes "html") no_trees;
   stack = record { number = 1; name = codes "head"; attrs = page.head; children = no_trees } ∷ record { number = 0; name = codes "html"; attrs = page.html; children = no_trees } ∷ [];
@@ -126,7 +124,7 @@ head_old page = record old_start {
   next = 2;
 }
 
-head_new : Bool → Page → WholeBuilding
+unfoldable pub head_new : Bool → Page → WholeBuilding
 head_new scripting page = record {
   tree = record {
     nodes = node_of DocumentNode (1 ∷ 2 ∷ []) ∷ leaf (DoctypeNode (doctype_named (codes "html"))) ∷ node_of (element (codes "html") page.html) (3 ∷ []) ∷
@@ -152,7 +150,7 @@ head_new scripting page = record {
   tokenizer = None;
 }
 
-rest_tokens : Page → List Token
+unfoldable pub rest_tokens : Page → List Token
 rest_tokens page = ((tokens page.metadata ++ (end_of (codes "head") ++ tokens (space_node page.space (element_node (codes "body") page.body page.contents no_trees)))) ++ (end_of (codes "html") ++ []))
 
 old_front : (page : Page) → old_steps old_start (tokens (page_trees page) ++ AnEof ∷ []) ≡ old_steps (head_old page) (rest_tokens page ++ AnEof ∷ [])
@@ -163,7 +161,7 @@ new_front : (scripting : Bool) (page : Page) → tree_steps deep (start scriptin
 unfolding head_new rest_tokens tree_step run rules taken perform
 new_front scripting page = refl
 
-begun : (scripting : Bool) (page : Page) → Meets None (AStart (codes "head") page.head false) (head_old page) (head_new scripting page)
+pub begun : (scripting : Bool) (page : Page) → Meets None (AStart (codes "head") page.head false) (head_old page) (head_new scripting page)
 unfolding head_old head_new
 begun scripting page = settled (record {
   stands = record {
@@ -187,7 +185,7 @@ begun scripting page = settled (record {
   answer = refl;
 })
 
-rest_plain : (page : Page) → IsPlainPage page → ArePlain true (rest_tokens page ++ AnEof ∷ [])
+pub rest_plain : (page : Page) → IsPlainPage page → ArePlain true (rest_tokens page ++ AnEof ∷ [])
 unfolding rest_tokens
 rest_plain page h =
     plain_append true (rest_tokens page) (AnEof ∷ [])
@@ -205,14 +203,14 @@ rest_plain page h =
     space_plain [] = body_plain
     space_plain (c ∷ space) = plain_append true (map AChar (c ∷ space)) (tokens body) (plain_chars true (c ∷ space)) body_plain
 
-last_eof : (t : Token) (ts : List Token) → last_token t (ts ++ AnEof ∷ []) ≡ AnEof
+pub last_eof : (t : Token) (ts : List Token) → last_token t (ts ++ AnEof ∷ []) ≡ AnEof
 last_eof t [] = refl
 last_eof t (u ∷ us) = last_eof u us
 
 with_mode : QuirksMode → WholeTrees → Document
 with_mode quirks children = record { quirks = quirks; children = children }
 
-page_end : (e : Building) (c : WholeBuilding) (trees : Trees) → Meets None AnEof e c → finished e ≡ trees → document_of c ≡ record { quirks = NoQuirks; children = whole trees }
+page_end : (e : Building) (c : WholeBuilding) (trees : Trees) → Meets None AnEof e c → finished e ≡ trees → document_of c ≡ no_quirks (whole trees)
 unfolding with_mode
 page_end e c trees (lagging char l) h = cc
 page_end e c trees (settled s) h = by_stack e.stack refl s.stands.parts.fits
@@ -220,22 +218,24 @@ page_end e c trees (settled s) h = by_stack e.stack refl s.stands.parts.fits
     finished_at : List Open → Trees
     finished_at os = elim os [ [] ↦ e.document | p ∷ ps ↦ finished_from e.document p ps ]
 
-    by_stack : (os : List Open) → e.stack ≡ os → Fits c.tree.nodes e.document os → document_of c ≡ record { quirks = NoQuirks; children = whole trees }
+    by_stack : (os : List Open) → e.stack ≡ os → Fits c.tree.nodes e.document os → document_of c ≡ no_quirks (whole trees)
     by_stack [] is f = absurd f.3
     by_stack (o ∷ os) is f =
         ap (λ q. with_mode q (trees_of (length c.tree.nodes) c.tree.nodes (node_at c.tree.nodes 0).children)) s.stands.quirks
         ∙ ap (with_mode NoQuirks)
         (end_tree c.tree.nodes e.document o os f ∙ ap whole (sym (ap finished_at is) ∙ h))
 
-pub page_built : PlainPagesAreBuilt
-page_built scripting page h = by_end (old_steps (head_old page) (rest_tokens page ++ AnEof ∷ [])) refl (sym (ap tree_of (old_front page)) ∙ old_page_built page h)
+-- at the depth that every step needs
+pub built_deep : (scripting : Bool) (page : Page) → IsPlainPage page → built deep scripting page ≡ Some (no_quirks (whole (page_trees page)))
+built_deep scripting page h = by_end (old_steps (head_old page) (rest_tokens page ++ AnEof ∷ [])) refl (sym (ap tree_of (old_front page)) ∙ old_page_built page h)
   where
     by_end : (o : Option Building) → old_steps (head_old page) (rest_tokens page ++ AnEof ∷ []) ≡ o → tree_of o ≡ Some (page_trees page) →
-        (depth : ℕ) × (option_map document_of (tree_steps depth (start scripting) (tokens (page_trees page) ++ AnEof ∷ [])) ≡ Some (record { quirks = NoQuirks; children = whole (page_trees page) }))
+        built deep scripting page ≡ Some (no_quirks (whole (page_trees page)))
     by_end None is k = cc
     by_end (Some e) is k =
         let r = steps_sound true None (λ p. refl) (rest_tokens page ++ AnEof ∷ []) (rest_plain page h) (AStart (codes "head") page.head false) (head_old page) e (head_new scripting page) (begun scripting page) is in
-        let m : Meets None AnEof e r.0 = subst (λ t. Meets None t e r.0) (last_eof (AStart (codes "head") page.head false) (rest_tokens page)) r.2 in (
-          deep,
-          ap (option_map document_of) (new_front scripting page ∙ r.1) ∙ ap Some (page_end e r.0 (page_trees page) m (same_Some (finished e) (page_trees page) k)),
-        )
+        let m : Meets None AnEof e r.0 = subst (λ t. Meets None t e r.0) (last_eof (AStart (codes "head") page.head false) (rest_tokens page)) r.2 in
+        ap (option_map document_of) (new_front scripting page ∙ r.1) ∙ ap Some (page_end e r.0 (page_trees page) m (same_Some (finished e) (page_trees page) k))
+
+pub page_built : PlainPagesAreBuilt
+page_built scripting page h = (deep, built_deep scripting page h)

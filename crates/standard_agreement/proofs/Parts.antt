@@ -1,24 +1,22 @@
 -- The tree under construction in both definitions, and what is done to its stack of open elements.
-use Rattle.std.specs.Prelude.{◌≡◌, refl, ℕ, zero, suc, ◌<◌, ◌≤◌, Bool, true, false, cond, not, ◌&&◌, ◌||◌, nat_eq, List, [], ◌∷◌, ◌++◌, Option, None, Some, bytes_eq, codes}
-use Rattle.std.specs.Prelude.{drop, length, option_map, unwrap_or}
+use Rattle.std.specs.Prelude.{◌≡◌, refl, ℕ, ◌<◌, Bool, true, false, not, ◌&&◌, List, [], ◌∷◌, Option, None, Some, codes}
+use Rattle.std.specs.Prelude.{drop, option_map, unwrap_or}
 use Rattle.std.specs.List.{list_all}
 use Rattle.std.proofs.Common.{arith}
-use Rattle.std.proofs.lemmas.Bool.{true≢false}
 use Rattle.std.proofs.lemmas.Option.{same_Some}
 use mathlib.Core.Path.{◌∙◌, sym, ap, subst}
 use Rattle.standard_rules.specs.Building.{Entry as OldEntry, Open, closed, closed_item as old_closed_item, closed_p as old_closed_p, ended_other, ends_other as has_other, holding, implied_but}
 use Rattle.standard_rules.specs.Building.{in_scope as in_names_scope, open_item as item_name, popped, popped_until as old_popped_until, popped_until_from, popped_while, popped_while_from}
 use Rattle.standard_rules.specs.ElementNames.{implied_names, scope_of}
 use Rattle.standard_rules.specs.RuleWords.{ScopeKind as OldScope, Scope as OldScopeOf, ButtonScope as OldButton, ListItemScope as OldItem, TableScope as OldTable}
-use Rattle.standard_rules.specs.TreeTokens.{Trees, element_node, is_among, joined, no_trees}
+use Rattle.standard_rules.specs.TreeTokens.{Trees, is_among}
 use Rattle.standard_trees.specs.RuleWords.{ButtonScope, ListItemScope, Scope, ScopeKind, TableScope}
-use Rattle.standard_trees.specs.TreeStore.{EndOf, Kind, Node, contents_in, node_at}
-use Rattle.standard_trees.specs.GrowingTree.{FormPointer, GrowingTree, beyond, current, ends_scope, has_in_scope, implied_of, in_contents, is_one, key, kind_of}
+use Rattle.standard_trees.specs.TreeStore.{EndOf, Kind, contents_in}
+use Rattle.standard_trees.specs.GrowingTree.{GrowingTree, beyond, current, ends_scope, has_in_scope, implied_of, in_contents, is_one, key}
 use Rattle.standard_trees.specs.GrowingTree.{past, place, popped_until, popped_up_to, top, with_stack, foster_place, in_scope}
 use Rattle.standard_trees.specs.Formatting.{any_other_end, closed_item, closed_other, closed_p, ends_other, open_item, without_p}
 use Rattle.standard_trees.specs.NameLists.{button_scope, fostering_names, implied, list_item_scope, scope, table_scope}
-use Rattle.standard_agreement.proofs.Names.{IsKnown, alike, every, known, same, same_implied}
-use Rattle.standard_agreement.proofs.Preorder.{element}
+use Rattle.standard_agreement.proofs.Names.{alike, every, known, same, same_implied}
 use Rattle.standard_agreement.proofs.Store.{free, numbers}
 use Rattle.standard_agreement.proofs.Stack.{Fits, Left, Tests, and_tests, beyond_is, fits_popped, is_some_number, item_is, kind_now, no_tests, one_tests, other_is, past_beyond, past_is, scope_is}
 use Rattle.standard_agreement.proofs.Listing.{Entries, FormIs, Keeps, Matched, entries_kept, form_kept}

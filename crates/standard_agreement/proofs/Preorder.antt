@@ -1,14 +1,13 @@
 -- Finished trees in the store: their nodes have the numbers from one on, in document order.
-use Rattle.std.specs.Prelude.{◌≡◌, refl, ℕ, zero, suc, ◌+◌, ◌<◌, ◌≤◌, ◌⊎◌, Bool, true, false, cond, not, nat_eq, List, [], ◌∷◌, ◌++◌, Option, None, Some, filter, map}
-use Rattle.std.proofs.Common.{arith, inl, inr}
+use Rattle.std.specs.Prelude.{◌≡◌, refl, ℕ, zero, suc, ◌+◌, ◌<◌, ◌≤◌, Bool, true, false, cond, not, nat_eq, List, [], ◌∷◌, ◌++◌, None, Some}
+use Rattle.std.proofs.Common.{arith}
 use Rattle.std.proofs.lemmas.Bool.{true≢false}
-use Rattle.std.proofs.lemmas.List.{append_assoc, append-nil}
 use mathlib.Core.Path.{◌∙◌, sym, ap, subst}
 use Rattle.standard_tokens.specs.Tokens.{Attr}
 pub use Rattle.standard_agreement.specs.PlainPages.{node_attrs, whole}
 use Rattle.standard_rules.specs.TreeTokens.{Trees, comment_node, doctype_named, doctype_node, element_node, joined, no_trees, text_node, with_char}
 use Rattle.standard_rules.proofs.TreeLists.{ends_text}
-use Rattle.standard_trees.specs.TreeStore.{CommentNode, DoctypeNode, ElementNode, Html, Kind, NoSpace, Node, NodeAttr, TextNode, Trees as WholeTrees}
+use Rattle.standard_trees.specs.TreeStore.{CommentNode, DoctypeNode, ElementNode, Html, Kind, Node, TextNode, Trees as WholeTrees}
 use Rattle.standard_trees.specs.TreeStore.{comment_tree, doctype_tree, element_tree, last_of, leaf, no_trees as no_whole, node_at, text_in, text_tree}
 use Rattle.standard_trees.specs.TreeStore.{trees_of, without}
 

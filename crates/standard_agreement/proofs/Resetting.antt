@@ -1,15 +1,14 @@
 -- "Reset the insertion mode appropriately" in both definitions.
-use Rattle.std.specs.Prelude.{◌≡◌, refl, ℕ, suc, Bool, true, false, cond, not, ◌&&◌, List, [], ◌∷◌, Option, None, Some, bytes_eq, codes, unwrap_or}
+use Rattle.std.specs.Prelude.{◌≡◌, refl, ℕ, Bool, true, false, List, [], ◌∷◌, Option, None, Some, unwrap_or}
 use Rattle.std.specs.List.{list_all}
-use Rattle.std.proofs.lemmas.Bool.{true≢false}
 use Rattle.std.proofs.lemmas.Option.{same_Some}
 use mathlib.Core.Path.{◌∙◌, sym, ap, subst}
-use Rattle.standard_rules.specs.Building.{Below, Building, Gives, Open, Outside, Verdict, at_mode, in_found_mode, mode_of, names_of_stack, reset as old_reset, verdict}
+use Rattle.standard_rules.specs.Building.{Below, Building, Gives, Open, Outside, Verdict, at_mode, in_found_mode, mode_of, names_of_stack, verdict}
 use Rattle.standard_rules.specs.PlainTrees.{flow_contexts}
 use Rattle.standard_rules.specs.RuleWords as O
 use Rattle.standard_rules.specs.TreeTokens.{Trees, is_among}
 use Rattle.standard_rules.proofs.TreeLists.{of_each}
-use Rattle.standard_trees.specs.Building.{Building as WholeBuilding, reset, reset_by, reset_from}
+use Rattle.standard_trees.specs.Building.{reset, reset_by, reset_from}
 use Rattle.standard_trees.specs.GrowingTree.{GrowingTree, key, kind_of}
 use Rattle.standard_trees.specs.RuleWords as N
 use Rattle.standard_trees.specs.TreeRules.{resets}
@@ -17,8 +16,8 @@ use Rattle.standard_trees.specs.TreeStore.{Kind, key_in}
 use Rattle.standard_agreement.proofs.Names.{for_each, known}
 use Rattle.standard_agreement.proofs.Store.{Held, free, numbers}
 use Rattle.standard_agreement.proofs.Stack.{AreKnown, IsRooted, kind_now}
-use Rattle.standard_agreement.proofs.Acting.{ContextIs, Stands}
-use Rattle.standard_agreement.proofs.Choosing.{is_mode, to_mode}
+use Rattle.standard_agreement.proofs.Acting.{ContextIs}
+use Rattle.standard_agreement.proofs.Choosing.{is_mode}
 use Rattle.standard_agreement.proofs.Following.{ModeIs, ResetsWell, Run, mode_is}
 
 abbrev verdict_fits : Verdict → Option N.Mode → Bool

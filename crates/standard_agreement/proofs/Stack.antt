@@ -1,5 +1,5 @@
 -- The stack of open elements in both definitions.
-use Rattle.std.specs.Prelude.{◌≡◌, refl, ℕ, zero, suc, ◌<◌, ◌≤◌, Bool, true, false, cond, not, ◌&&◌, ◌||◌, nat_eq, List, [], ◌∷◌, ◌++◌, Option, None, Some, bytes_eq, codes}
+use Rattle.std.specs.Prelude.{◌≡◌, refl, ℕ, suc, Bool, true, false, not, ◌&&◌, ◌||◌, nat_eq, List, [], ◌∷◌, ◌++◌, Option, None, Some, bytes_eq, codes}
 use Rattle.std.specs.Prelude.{length, option_map}
 use Rattle.std.proofs.Common.{arith}
 use Rattle.std.proofs.lemmas.Bool.{true≢false}
@@ -7,16 +7,16 @@ use Rattle.std.proofs.lemmas.List.{append-nil}
 use Rattle.std.proofs.lemmas.Option.{same_Some}
 use mathlib.Core.Path.{◌∙◌, sym, ap, subst}
 use Rattle.standard_tokens.specs.Tokens.{Attr}
-use Rattle.standard_rules.specs.Building.{Open, closed, holding, implied_but, open_item as item_name, ends_other as has_other, ended_other, popped_until, popped_until_from}
-use Rattle.standard_rules.specs.Building.{popped_while, popped_while_from, in_scope as in_names_scope}
-use Rattle.standard_rules.specs.ElementNames.{implied_names, special_names}
+use Rattle.standard_rules.specs.Building.{Open, holding, open_item as item_name, ends_other as has_other, popped_until_from}
+use Rattle.standard_rules.specs.Building.{popped_while_from, in_scope as in_names_scope}
+use Rattle.standard_rules.specs.ElementNames.{special_names}
 use Rattle.standard_rules.specs.TreeTokens.{Trees, element_node, is_among, joined, no_trees}
 use Rattle.standard_trees.specs.TreeStore.{Node, key_in, node_at}
 use Rattle.standard_trees.specs.GrowingTree.{GrowingTree, beyond, in_scope, is_named, is_one, key, kind_of, past}
 use Rattle.standard_trees.specs.Formatting.{ends_other, open_item}
 use Rattle.standard_trees.specs.NameLists.{crossed_by_items, special}
 use Rattle.standard_agreement.proofs.Names.{IsKnown, alike, alike_is, same_special}
-use Rattle.standard_agreement.proofs.Preorder.{At, after, after_joined, at_joined, element, roots, roots_joined}
+use Rattle.standard_agreement.proofs.Preorder.{At, after_joined, at_joined, element, roots, roots_joined}
 use Rattle.standard_agreement.proofs.Store.{Held, free, numbers}
 
 -- ---- the elements of the stack

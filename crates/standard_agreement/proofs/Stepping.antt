@@ -1,8 +1,7 @@
 -- The rules of a mode, and a whole step.
-use Rattle.std.specs.Prelude.{◌≡◌, ◌⊎◌, refl, ℕ, zero, suc, Bool, true, false, cond, not, ◌&&◌, ◌||◌, ◌==◌, List, [], ◌∷◌, ◌++◌, Option, None, Some, bytes_eq, codes, option_map, reverse, unwrap_or}
+use Rattle.std.specs.Prelude.{◌≡◌, refl, ℕ, zero, suc, Bool, true, false, cond, not, ◌&&◌, ◌||◌, ◌==◌, List, [], ◌∷◌, ◌++◌, Option, None, Some, bytes_eq, codes, unwrap_or}
 use Rattle.std.specs.List.{flat_map, list_all, list_any}
 use Rattle.std.specs.Option.{option_and_then}
-use Rattle.std.proofs.Common.{inl, inr}
 use Rattle.std.proofs.lemmas.Bool.{eqb-true, true≢false}
 use Rattle.std.proofs.lemmas.Option.{same_Some}
 use Rattle.std.proofs.lemmas.Slice.Eq.{bytes_eq-Decides}
@@ -12,22 +11,21 @@ use Rattle.standard_rules.specs.Building.{Building, Open, Taken, act, all_acts, 
 use Rattle.standard_rules.specs.PlainTrees.{classes, names_of}
 use Rattle.standard_rules.specs.RuleWords as O
 use Rattle.standard_rules.specs.TreeRules.{groups, rules as old_rules}
-use Rattle.standard_rules.specs.TreeTokens.{Trees, is_among}
+use Rattle.standard_rules.specs.TreeTokens.{is_among}
 use Rattle.standard_trees.specs.Building.{Building as WholeBuilding, fits, is_empty as nothing_open, is_met, perform, performed, run, taken, with_tree}
-use Rattle.standard_trees.specs.GrowingTree.{GrowingTree, adjusted_current, current, is_one, is_single, kind_of, top, with_chars}
+use Rattle.standard_trees.specs.GrowingTree.{adjusted_current, current, is_one, is_single, kind_of, top, with_chars}
 use Rattle.standard_trees.specs.RuleWords as N
 use Rattle.standard_trees.specs.TreeRules.{rules}
 use Rattle.standard_trees.specs.TreeStore.{Kind, is_html, space_in}
 use Rattle.standard_agreement.proofs.Names.{for_each, known}
-use Rattle.standard_agreement.proofs.Store.{free}
 use Rattle.standard_agreement.proofs.Stack.{kind_now}
 use Rattle.standard_agreement.proofs.Parts.{Parts}
 use Rattle.standard_agreement.proofs.Acting.{ContextIs, Stands, top_test}
 use Rattle.standard_agreement.proofs.Acts.{Done, char_act}
-use Rattle.standard_agreement.proofs.Choosing.{agree_in, agrees, char_like, end_agrees, ignored_in, is_always, is_empty, is_ignored, is_later, is_stay, like, others_agree, start_agrees, start_names, to_mode}
+use Rattle.standard_agreement.proofs.Choosing.{agree_in, agrees, end_agrees, ignored_in, is_always, is_empty, is_ignored, is_later, is_stay, like, others_agree, start_agrees, start_names, to_mode}
 use Rattle.standard_agreement.proofs.Computed.{all_ends, all_others, all_starts, html_ends}
 use Rattle.standard_agreement.proofs.Deciding.{Agreed, IsPage, agreed, alike_acts, both, is_doctype, old_fits_like, outside}
-use Rattle.standard_agreement.proofs.Following.{Calls, CommentsAlone, Ignores, LeavesAlone, Outcome, ReadsAlone, Rest, Run, allowed, follows_sound, inserts_comment, is_comment, is_start, is_table_mode, lagging, nothing_left}
+use Rattle.standard_agreement.proofs.Following.{Calls, CommentsAlone, Ignores, LeavesAlone, Outcome, ReadsAlone, Run, allowed, follows_sound, inserts_comment, is_comment, is_start, is_table_mode, lagging, nothing_left}
 use Rattle.standard_agreement.proofs.Resetting.{resets_well}
 
 -- ---- what is so of each rule

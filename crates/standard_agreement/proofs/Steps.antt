@@ -1,8 +1,7 @@
 -- Steps of tree construction in both definitions.
-use Rattle.std.specs.Prelude.{◌≡◌, refl, ℕ, zero, suc, Bool, true, false, cond, not, ◌&&◌, ◌||◌, ◌==◌, List, [], ◌∷◌, ◌++◌, Option, None, Some, option_map, reverse}
+use Rattle.std.specs.Prelude.{◌≡◌, refl, ℕ, suc, Bool, true, false, ◌&&◌, List, [], ◌∷◌, ◌++◌, Option, None, Some, reverse}
 use Rattle.std.specs.List.{list_all}
 use Rattle.std.specs.Option.{option_and_then}
-use Rattle.std.proofs.lemmas.Bool.{true≢false}
 use Rattle.std.proofs.lemmas.Option.{same_Some}
 use mathlib.Core.List.{reverse-cons}
 use mathlib.Core.Path.{◌∙◌, sym, ap, subst}
@@ -10,7 +9,7 @@ use Rattle.standard_tokens.specs.Tokens.{Attr, Token, AChar, AComment, ADoctype,
 use Rattle.standard_rules.specs.Building.{Building, act, at_top, is_line_feed as old_line_feed, is_space, run as old_run, taken as old_taken, tree_step as old_step, tree_steps as old_steps, with_text_char}
 use Rattle.standard_rules.specs.RuleWords as O
 use Rattle.standard_rules.specs.TreeRules.{rules as old_rules}
-use Rattle.standard_trees.specs.Building.{Building as WholeBuilding, char_of, is_line_feed, perform, performed, run, taken, tree_step, tree_steps, with_next, with_tree}
+use Rattle.standard_trees.specs.Building.{Building as WholeBuilding, is_line_feed, perform, performed, run, taken, tree_step, tree_steps, with_next, with_tree}
 use Rattle.standard_trees.specs.GrowingTree.{GrowingTree, with_char, with_chars}
 use Rattle.standard_trees.specs.RuleWords as N
 use Rattle.standard_trees.specs.TreeRules.{rules}
@@ -19,7 +18,7 @@ use Rattle.standard_agreement.proofs.Acting.{Stands}
 use Rattle.standard_agreement.proofs.Acts.{Done, char_act}
 use Rattle.standard_agreement.proofs.Choosing.{is_later, to_mode}
 use Rattle.standard_agreement.proofs.Deciding.{IsPage}
-use Rattle.standard_agreement.proofs.Following.{Lagging, Meets, Original, Outcome, Run, Settled, answer_in, flushed, is_char, is_start, is_table_mode, lagging, later_silent, settled}
+use Rattle.standard_agreement.proofs.Following.{Lagging, Meets, Original, Outcome, Run, answer_in, flushed, is_char, is_start, is_table_mode, lagging, later_silent, settled}
 use Rattle.standard_agreement.proofs.Parts.{Parts}
 use Rattle.standard_agreement.proofs.Stepping.{CharResult, IsPlainToken, allowed_self, dep, dispatched, html_now, old_char, rule_taken, rule_unfit, run_sound, some_again, space_not_zero, text_run}
 

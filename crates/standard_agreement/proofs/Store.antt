@@ -1,13 +1,12 @@
 -- What writing into the store changes.
-use Rattle.std.specs.Prelude.{◌≡◌, ◌≢◌, refl, ℕ, zero, suc, ◌<◌, ◌≤◌, Bool, true, false, cond, not, nat_eq, List, [], ◌∷◌, ◌++◌, filter, length, map}
+use Rattle.std.specs.Prelude.{◌≡◌, refl, ℕ, zero, suc, ◌<◌, ◌≤◌, Bool, true, false, cond, not, nat_eq, List, [], ◌∷◌, ◌++◌, length}
 use Rattle.std.proofs.Common.{arith}
-use Rattle.std.proofs.lemmas.List.{append_assoc, append-nil}
-use mathlib.Core.Path.{◌∙◌, sym, ap, subst}
-use Rattle.standard_rules.specs.Building.{Open, holding}
-use Rattle.standard_rules.specs.TreeTokens.{Trees, comment_node, doctype_node, element_node, joined, no_trees, text_node, with_char}
-use Rattle.standard_rules.proofs.TreeLists.{ends_text, new_char}
-use Rattle.standard_trees.specs.TreeStore.{DocumentNode, EndOf, Kind, Node, changed_at, leaf, node_at, put_at, removed, without}
-use Rattle.standard_agreement.proofs.Preorder.{At, after, after_joined, at_joined, element, grows, kept, node_of, roots, roots_joined, without_roots}
+use Rattle.std.proofs.lemmas.List.{append-nil}
+use mathlib.Core.Path.{◌∙◌, sym, ap}
+use Rattle.standard_rules.specs.Building.{Open}
+use Rattle.standard_rules.specs.TreeTokens.{Trees, comment_node, doctype_node, element_node, no_trees, text_node}
+use Rattle.standard_trees.specs.TreeStore.{DocumentNode, EndOf, Node, changed_at, node_at, put_at, removed, without}
+use Rattle.standard_agreement.proofs.Preorder.{At, after, element, grows, kept, node_of, roots, without_roots}
 
 -- ---- single nodes
 

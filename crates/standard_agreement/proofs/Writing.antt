@@ -1,23 +1,22 @@
 -- Nodes that are inserted, and entries of the list of active formatting elements.
-use Rattle.std.specs.Prelude.{◌≡◌, refl, ℕ, zero, suc, ◌<◌, ◌≤◌, Bool, true, false, cond, not, ◌&&◌, ◌||◌, nat_eq, List, [], ◌∷◌, ◌++◌, Option, None, Some, bytes_eq, codes}
+use Rattle.std.specs.Prelude.{◌≡◌, refl, ℕ, zero, suc, ◌<◌, ◌≤◌, Bool, true, false, nat_eq, List, [], ◌∷◌, ◌++◌, Option, None, Some}
 use Rattle.std.specs.Prelude.{drop, length, reverse}
 use Rattle.std.proofs.Common.{arith}
-use Rattle.std.proofs.lemmas.Bool.{true≢false}
 use Rattle.std.proofs.lemmas.List.{append-nil}
 use mathlib.Core.Path.{◌∙◌, sym, ap, subst}
 use Rattle.standard_tokens.specs.Tokens.{Attr}
 use Rattle.standard_rules.specs.Building.{Entry as OldEntry, Listed, Marker as OldMarker, Open, enlisted as old_enlisted, needs_none}
 use Rattle.standard_rules.specs.TreeTokens.{Trees, comment_node, joined, no_trees, text_node, with_char as old_with_char}
 use Rattle.standard_rules.proofs.TreeLists.{ends_text, new_char}
-use Rattle.standard_trees.specs.TreeStore.{CommentNode, ContentsNode, ElementNode, EndOf, Html, Kind, Node, Place, TextNode, changed_at, is_document, last_of, leaf, node_at, node_before, put_at, removed, text_in}
-use Rattle.standard_trees.specs.GrowingTree.{Entry, FormAt, Formatting, GrowingTree, Marker, created, created_at, current, fresh, inserted, inserted_at, is_template, kind_of, place}
+use Rattle.standard_trees.specs.TreeStore.{CommentNode, ContentsNode, ElementNode, EndOf, Html, Kind, Node, TextNode, changed_at, is_document, last_of, leaf, node_at, node_before, put_at, removed, text_in}
+use Rattle.standard_trees.specs.GrowingTree.{Entry, Formatting, GrowingTree, Marker, created, created_at, fresh, inserted, inserted_at, place}
 use Rattle.standard_trees.specs.GrowingTree.{place_is_document, pushed, put, text_behind, top, with_char, with_comment, with_text}
 use Rattle.standard_trees.specs.Formatting.{closed_entries, enlisted, reconstructed, reopened, without_third}
 use Rattle.standard_agreement.proofs.Names.{IsKnown, no_template}
 use Rattle.standard_agreement.proofs.Preorder.{At, NoTextEnd, TextEnd, after, after_joined, another, at_joined, element, grows, no_text_end, node_attrs, node_of, nothing, roots, roots_joined, text_end}
-use Rattle.standard_agreement.proofs.Store.{Added, Held, added, at_changed, at_more, at_other, at_removed, free, held_kept, length_changed, length_more, length_removed, numbers, with_child}
-use Rattle.standard_agreement.proofs.Stack.{Fits, IsRooted, kind_now, same_self}
-use Rattle.standard_agreement.proofs.Listing.{AllBelow, Entries, FormIs, below_third, Keeps, Linked, Matched, entries_kept, form_kept, none_closed, third_is}
+use Rattle.standard_agreement.proofs.Store.{Added, Held, added, at_changed, at_more, at_other, at_removed, free, held_kept, length_changed, length_more, length_removed, with_child}
+use Rattle.standard_agreement.proofs.Stack.{IsRooted, kind_now, same_self}
+use Rattle.standard_agreement.proofs.Listing.{AllBelow, Entries, below_third, Keeps, Linked, Matched, entries_kept, form_kept, none_closed, third_is}
 use Rattle.standard_agreement.proofs.Parts.{AreBelow, Parts, below_less, place_is}
 
 -- ---- elements stay what they are

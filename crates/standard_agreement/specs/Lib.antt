@@ -1,1 +1,3 @@
 pub mod PlainPages
+pub mod PlainTexts
+pub mod TokensAndTrees

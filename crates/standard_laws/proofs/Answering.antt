@@ -1,64 +1,30 @@
 -- Tree construction that leaves every element in the HTML namespace answers as plain trees need it.
-use Rattle.std.specs.Prelude.{◌≡◌, ℕ, Bool, true, false, not, ◌||◌, List, [], ◌∷◌, ◌++◌, map, Option, None, Some, bytes_eq, codes, refl, if◌then◌else◌}
+use Rattle.std.specs.Prelude.{◌≡◌, ℕ, true, false, List, [], ◌∷◌, ◌++◌, map, None, Some, bytes_eq, codes, refl}
 use Rattle.std.proofs.Common.{inl, inr}
-use Rattle.std.specs.List.{flat_map, list_any}
+use Rattle.std.specs.List.{flat_map}
 use Rattle.std.specs.Str.{chars, encode_utf8_all, IsUtf8}
 use Rattle.std.proofs.lemmas.Bool.{cases_Bool, or_cases, or_parts, true≢false}
-use Rattle.std.proofs.lemmas.Grind.{flat_map-append}
 use Rattle.std.proofs.lemmas.List.{append-nil, append_assoc}
 use Rattle.std.proofs.lemmas.Slice.Eq.{bytes_eq-Decides}
 use lib.Utf8.{encode}
 use mathlib.Core.Path.{◌∙◌, sym, ap, subst}
 use Rattle.dom_nodes.specs.Words.{is_among}
-use Rattle.dom_markup.specs.Names.{Mode, markup, text_of, raw_text_of, mode_in, raw_names, text_names, void_names}
-use Rattle.dom_markup.specs.Plain.{IsPlainTrees}
+use Rattle.dom_markup.specs.Names.{raw_text_of, mode_in, raw_names, text_names, void_names}
 use Rattle.dom_markup.specs.ValueTrees.{Attribute, ValueTrees}
 use Rattle.dom_markup.specs.ValueTrees.ValueTrees.{no_trees, text_node, comment_node, doctype_node, element_node}
-use Rattle.standard_tokens.specs.PlainMarkup.{AreAnswered, character, Piece, Item, CharItem, StartTag, EndTag, TextElement, RawElement, start_token, state_of, tokens}
-use Rattle.standard_tokens.specs.Reading.{Feedback, IsFeedback, is_switching, may_switch, switch_at, switch_behind, switching_names}
-use Rattle.standard_tokens.specs.States.{State, RCDATA}
+use Rattle.standard_tokens.specs.PlainMarkup.{AreAnswered, character, Piece, Item, CharItem, EndTag, start_token, state_of, tokens}
+use Rattle.standard_tokens.specs.Reading.{Feedback, IsFeedback, switch_at}
+use Rattle.standard_tokens.specs.States.{RCDATA}
 use Rattle.standard_tokens.specs.Tokens.{Token, AChar, AComment, ADoctype, AStart, AnEnd, AnEof}
+use Rattle.standard_agreement.proofs.Telling.{no_state}
 use Rattle.standard_laws.proofs.Encodings.{encodes_chars}
-use Rattle.standard_laws.proofs.NameChars.{of_each}
 use Rattle.standard_laws.proofs.TreesPlain.{mode_by}
 use Rattle.standard_laws.specs.TokenLaws.{FollowsHtml, HtmlAnswers}
 use Rattle.standard_laws.specs.ReadableTrees.{AreReadable, EndsByTag, kind_of}
 use Rattle.standard_laws.specs.TreeTokens.{doctype_of}
-use Rattle.standard_laws.specs.TreeItems.{element_items, items_of, own_text, plain_attr, text_piece}
+use Rattle.standard_laws.specs.TreeItems.{element_items, items_of, plain_attr, text_piece}
 
 -- ---- names
-
-flip : (x y : List ℕ) → bytes_eq x y ≡ false → bytes_eq y x ≡ false
-flip x y h =
-    elim (cases_Bool (bytes_eq y x)) [
-      | inl same ↦ absurd (true≢false (sym ((bytes_eq-Decides x y).1 (sym ((bytes_eq-Decides y x).0 same))) ∙ h))
-      | inr differ ↦ differ
-    ]
-
--- a name that has no state of its own
-no_state : (name : List ℕ) → is_switching name ≡ false → switch_at name ≡ None
-no_state name h =
-    let title = or_parts (bytes_eq name (codes "title")) _ h in
-    let textarea = or_parts (bytes_eq name (codes "textarea")) _ title.1 in
-    let style = or_parts (bytes_eq name (codes "style")) _ textarea.1 in
-    let xmp = or_parts (bytes_eq name (codes "xmp")) _ style.1 in
-    let iframe = or_parts (bytes_eq name (codes "iframe")) _ xmp.1 in
-    let noembed = or_parts (bytes_eq name (codes "noembed")) _ iframe.1 in
-    let noframes = or_parts (bytes_eq name (codes "noframes")) _ noembed.1 in
-    let script = or_parts (bytes_eq name (codes "script")) _ noframes.1 in
-    let noscript = or_parts (bytes_eq name (codes "noscript")) _ script.1 in
-    let plaintext = or_parts (bytes_eq name (codes "plaintext")) _ noscript.1 in
-    rw (
-      flip name (codes "title") title.0,
-      flip name (codes "textarea") textarea.0,
-      flip name (codes "style") style.0,
-      flip name (codes "xmp") xmp.0,
-      flip name (codes "iframe") iframe.0,
-      flip name (codes "noembed") noembed.0,
-      flip name (codes "noframes") noframes.0,
-      flip name (codes "script") script.0,
-      flip name (codes "plaintext") plaintext.0,
-    ) refl
 
 -- a word in ASCII is no text's characters where it is not the text
 in_chars : (word name : List ℕ) → encode_utf8_all word ≡ word → IsUtf8 name → bytes_eq word name ≡ false → bytes_eq word (chars name) ≡ false

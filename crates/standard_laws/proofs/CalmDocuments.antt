@@ -1,5 +1,5 @@
 -- Calm documents are plain pages.
-use Rattle.std.specs.Prelude.{◌≡◌, ℕ, true, false, not, ◌==◌, ◌&&◌, List, [], ◌∷◌, ◌++◌, Some, codes, refl}
+use Rattle.std.specs.Prelude.{◌≡◌, ℕ, true, false, not, ◌==◌, ◌&&◌, List, [], ◌∷◌, codes, refl}
 use Rattle.std.specs.List.{list_all}
 use Rattle.std.specs.Str.{chars}
 use Rattle.std.proofs.Math.Utf8.{encodes}
@@ -15,13 +15,12 @@ use Rattle.calm_pages.specs.declared.nesting.Scope.{Scope}
 use Rattle.page_trees.specs.ElementKinds.{kind_of, names_of}
 use Rattle.page_trees.specs.declared.element_kinds.ElementCategory.{ElementCategory}
 use Rattle.page_trees.specs.declared.element_kinds.ElementCategory.TheVariants.{Html, Head, Body}
-use Rattle.standard_rules.specs.Building.{built, built_fragment, fragment_start, is_space, start}
-use Rattle.standard_tokens.specs.Tokens.{AnEof}
+use Rattle.standard_rules.specs.Building.{is_space}
 use Rattle.standard_rules.specs.PlainTrees.{FlowPlace, IsPlainPage, Page, are_plain, flow_contexts, outermost, page_trees, space_node}
-use Rattle.standard_rules.specs.TreeTokens.{is_among, tokens, no_trees as no_nodes, text_node as text, doctype_node as doctype, element_node as element}
-use Rattle.standard_rules.proofs.PagesBuilt.{fragment_switched, switched_fragment, switched_page, page_switched}
-use Rattle.standard_rules.proofs.TreeLists.{switched_children, switched_tree, of_each}
-use Rattle.standard_laws.specs.CalmTrees.{attrs_of, have_no_null, nodes_of, place_in}
+use Rattle.standard_rules.specs.TreeTokens.{is_among, no_trees as no_nodes, text_node as text, doctype_node as doctype, element_node as element}
+use Rattle.standard_rules.proofs.TreeLists.{of_each}
+use Rattle.standard_laws.specs.CalmTrees.{have_no_null, scope_in}
+use Rattle.standard_laws.proofs.PlainNodes.{place_in, plain_attrs, plain_nodes}
 use Rattle.standard_laws.proofs.CalmPlain.{calm_is_plain}
 use Rattle.standard_laws.proofs.CategoryPlaces.{is_inner}
 use Rattle.standard_laws.proofs.CharTexts.{space_chars}
@@ -48,13 +47,13 @@ calm_parts scope name kind attributes children later is c =
 
 -- the element `body`
 body_plain : (attributes : List Attribute) (body : ValueTrees) → are_calm (inside top Html) (element_node (codes "body") attributes body no_trees) ≡ true → IsPlainTrees false body →
-    have_no_null body ≡ true → are_plain (outermost FlowPlace) (nodes_of body) ≡ true
+    have_no_null body ≡ true → are_plain (outermost FlowPlace) (plain_nodes body) ≡ true
 body_plain attributes body c p z = calm_is_plain (inside (inside top Html) Body) body refl p z (calm_parts (inside top Html) (codes "body") Body attributes body no_trees body_kind c).0
 
 record Rest (space : List ℕ) (attributes : List Attribute) (body : ValueTrees) : Type 0 where
   white : list_all is_space (chars space) ≡ true
-  contents : are_plain (outermost FlowPlace) (nodes_of body) ≡ true
-  is : nodes_of (behind_text space (element_node (codes "body") attributes body no_trees)) ≡ space_node (chars space) (element (codes "body") (attrs_of attributes) (nodes_of body) no_nodes)
+  contents : are_plain (outermost FlowPlace) (plain_nodes body) ≡ true
+  is : plain_nodes (behind_text space (element_node (codes "body") attributes body no_trees)) ≡ space_node (chars space) (element (codes "body") (plain_attrs attributes) (plain_nodes body) no_nodes)
 
 -- white space, if any, and the body
 rest_plain : (space : List ℕ) (attributes : List Attribute) (body : ValueTrees) → are_calm (inside top Html) (behind_text space (element_node (codes "body") attributes body no_trees)) ≡ true →
@@ -65,7 +64,7 @@ rest_plain [] attributes body c p z =
     record {
       white = ap (list_all is_space) (sym none);
       contents = body_plain attributes body c p.5 (and_parts (have_no_null body) true z).0;
-      is = ap (λ s. space_node s (element (codes "body") (attrs_of attributes) (nodes_of body) no_nodes)) none;
+      is = ap (λ s. space_node s (element (codes "body") (plain_attrs attributes) (plain_nodes body) no_nodes)) none;
     }
 rest_plain (b ∷ space) attributes body c p z =
     let e : ValueTrees = element_node (codes "body") attributes body no_trees in
@@ -78,44 +77,44 @@ rest_plain (b ∷ space) attributes body c p z =
     }
   where
     by_chars : (cs : List ℕ) → chars (b ∷ space) ≡ cs →
-        text (chars (b ∷ space)) (element (codes "body") (attrs_of attributes) (nodes_of body) no_nodes) ≡ space_node (chars (b ∷ space)) (element (codes "body") (attrs_of attributes) (nodes_of body) no_nodes)
+        text (chars (b ∷ space)) (element (codes "body") (plain_attrs attributes) (plain_nodes body) no_nodes) ≡ space_node (chars (b ∷ space)) (element (codes "body") (plain_attrs attributes) (plain_nodes body) no_nodes)
     by_chars [] f = absurd (p.0 (sym (encodes-chars (b ∷ space) p.1) ∙ ap encodes f))
     by_chars (x ∷ xs) f =
-        ap (λ s. text s (element (codes "body") (attrs_of attributes) (nodes_of body) no_nodes)) f ∙ sym (ap (λ s. space_node s (element (codes "body") (attrs_of attributes) (nodes_of body) no_nodes)) f)
+        ap (λ s. text s (element (codes "body") (plain_attrs attributes) (plain_nodes body) no_nodes)) f ∙ sym (ap (λ s. space_node s (element (codes "body") (plain_attrs attributes) (plain_nodes body) no_nodes)) f)
 
 document : (html head_attributes body_attributes : List Attribute) (head : ValueTrees) (space : List ℕ) (body : ValueTrees) → ValueTrees
 document html head_attributes body_attributes head space body = doctype_node (codes "html") [] [] (element_node (codes "html") html
     (element_node (codes "head") head_attributes head (behind_text space (element_node (codes "body") body_attributes body no_trees))) no_trees)
 
-document_built : (html head_attributes body_attributes : List Attribute) (head : ValueTrees) (space : List ℕ) (body : ValueTrees) →
+-- a calm document is a plain page
+pub record PlainDocument (t : ValueTrees) : Type 0 where
+  pub page : Page
+  pub same : plain_nodes t ≡ page_trees page
+  pub plain : IsPlainPage page
+
+document_plain : (html head_attributes body_attributes : List Attribute) (head : ValueTrees) (space : List ℕ) (body : ValueTrees) →
     are_calm top (document html head_attributes body_attributes head space body) ≡ true → IsPlainTrees true (document html head_attributes body_attributes head space body) →
-    have_no_null (document html head_attributes body_attributes head space body) ≡ true →
-    switched_page (tokens (nodes_of (document html head_attributes body_attributes head space body))) ≡ Some (nodes_of (document html head_attributes body_attributes head space body))
+    have_no_null (document html head_attributes body_attributes head space body) ≡ true → PlainDocument (document html head_attributes body_attributes head space body)
 unfolding document
-document_built html head_attributes body_attributes head space body c p z =
+document_plain html head_attributes body_attributes head space body c p z =
     let rest : ValueTrees = behind_text space (element_node (codes "body") body_attributes body no_trees) in
     let inner : ValueTrees = element_node (codes "head") head_attributes head rest in
     let outer : (are_calm (inside top Html) inner ≡ true) × (are_calm top no_trees ≡ true) = calm_parts top (codes "html") Html html inner no_trees html_kind c in
     let parts : (are_calm (inside (inside top Html) Head) head ≡ true) × (are_calm (inside top Html) rest ≡ true) = calm_parts (inside top Html) (codes "head") Head head_attributes head rest head_kind outer.0 in
     let n : (have_no_null head ≡ true) × (have_no_null rest ≡ true) = and_parts (have_no_null head) (have_no_null rest) (and_parts (have_no_null inner) true z).0 in
     let r : Rest space body_attributes body = rest_plain space body_attributes body parts.1 p.4.5.6 n.1 in
-    let page : Page = record { html = attrs_of html; head = attrs_of head_attributes; metadata = nodes_of head; space = chars space; body = attrs_of body_attributes; contents = nodes_of body } in
-    let same : nodes_of (document html head_attributes body_attributes head space body) ≡ page_trees page =
-    ap (λ t. doctype (codes "html") (element (codes "html") (attrs_of html) (element (codes "head") (attrs_of head_attributes) (nodes_of head) t) no_nodes)) r.is in
-    let plain : IsPlainPage page = record { metadata = calm_is_plain (inside (inside top Html) Head) head refl p.4.5.5 n.0 parts.0; space = r.white; contents = r.contents } in
-    ap (λ t. switched_page (tokens t)) same ∙ page_switched page plain ∙ ap Some (sym same)
+    record {
+      page = record { html = plain_attrs html; head = plain_attrs head_attributes; metadata = plain_nodes head; space = chars space; body = plain_attrs body_attributes; contents = plain_nodes body };
+      same = ap (λ t. doctype (codes "html") (element (codes "html") (plain_attrs html) (element (codes "head") (plain_attrs head_attributes) (plain_nodes head) t) no_nodes)) r.is;
+      plain = record { metadata = calm_is_plain (inside (inside top Html) Head) head refl p.4.5.5 n.0 parts.0; space = r.white; contents = r.contents };
+    }
 
--- the tokens of a calm document give that document
-pub calm_document_switched : (t : ValueTrees) → IsCalmDocument t → IsPlainTrees true t → have_no_null t ≡ true → switched_page (tokens (nodes_of t)) ≡ Some (nodes_of t)
+pub calm_document_plain : (t : ValueTrees) → IsCalmDocument t → IsPlainTrees true t → have_no_null t ≡ true → PlainDocument t
 unfolding document
-calm_document_switched t d p z =
+calm_document_plain t d p z =
     let same : t ≡ document d.html_attributes d.head_attributes d.body_attributes d.head d.space d.body = d.is in
-    let whole : ValueTrees = document d.html_attributes d.head_attributes d.body_attributes d.head d.space d.body in
-    subst (λ (x : ValueTrees). switched_page (tokens (nodes_of x)) ≡ Some (nodes_of x)) (sym same)
-    (document_built d.html_attributes d.head_attributes d.body_attributes d.head d.space d.body (ap (are_calm top) (sym same) ∙ d.calm) (subst (IsPlainTrees true) same p) (ap have_no_null (sym same) ∙ z))
-
-pub calm_document_built : (t : ValueTrees) → IsCalmDocument t → IsPlainTrees true t → have_no_null t ≡ true → built (tokens (nodes_of t)) ≡ Some (nodes_of t)
-calm_document_built t d p z = switched_tree start (tokens (nodes_of t) ++ AnEof ∷ []) (nodes_of t) (calm_document_switched t d p z)
+    subst PlainDocument (sym same)
+    (document_plain d.html_attributes d.head_attributes d.body_attributes d.head d.space d.body (ap (are_calm top) (sym same) ∙ d.calm) (subst (IsPlainTrees true) same p) (ap have_no_null (sym same) ∙ z))
 
 -- what the category of a context is to the rules
 FlowContext : List ℕ → Type 0
@@ -129,14 +128,10 @@ pub inner_context : (context : List ℕ) → is_among context flow_contexts ≡ 
 unfolding FlowContext
 inner_context context is = (contexts context is).0
 
--- the same as a fragment in such a context
-pub calm_fragment_switched : (context : List ℕ) (t : ValueTrees) → is_among context flow_contexts ≡ true → are_calm (record top { parent = kind_of context }) t ≡ true → IsPlainTrees false t → have_no_null t ≡ true →
-    switched_fragment context (tokens (nodes_of t)) ≡ Some (nodes_of t)
+-- the same of calm trees in such a context
+pub calm_fragment_plain : (context : List ℕ) (t : ValueTrees) → is_among context flow_contexts ≡ true → are_calm (scope_in context) t ≡ true → IsPlainTrees false t → have_no_null t ≡ true →
+    are_plain (outermost FlowPlace) (plain_nodes t) ≡ true
 unfolding FlowContext
-calm_fragment_switched context t is c p z =
+calm_fragment_plain context t is c p z =
     let k : (is_inner (kind_of context) ≡ true) × (place_in (kind_of context) ≡ FlowPlace) = contexts context is in
-    fragment_switched context (nodes_of t) is (ap (λ place. are_plain (outermost place) (nodes_of t)) (sym k.1) ∙ calm_is_plain (record top { parent = kind_of context }) t k.0 p z c)
-
-pub calm_fragment_built : (context : List ℕ) (t : ValueTrees) → is_among context flow_contexts ≡ true → are_calm (record top { parent = kind_of context }) t ≡ true → IsPlainTrees false t → have_no_null t ≡ true →
-    built_fragment context (tokens (nodes_of t)) ≡ Some (nodes_of t)
-calm_fragment_built context t is c p z = switched_children (fragment_start context) (tokens (nodes_of t) ++ AnEof ∷ []) (nodes_of t) (calm_fragment_switched context t is c p z)
+    ap (λ place. are_plain (outermost place) (plain_nodes t)) (sym k.1) ∙ calm_is_plain (scope_in context) t k.0 p z c

@@ -1,7 +1,6 @@
 -- What is written of calm trees is parsed as these trees.
-use Rattle.std.specs.Prelude.{◌≡◌, ℕ, Bool, true, false, not, ◌==◌, List, [], ◌∷◌, ◌++◌, flat_map, Option, None, Some, refl}
+use Rattle.std.specs.Prelude.{◌≡◌, ℕ, Bool, true, false, not, ◌==◌, List, [], ◌∷◌, refl}
 use Rattle.std.specs.List.{list_all}
-use Rattle.std.specs.Option.{option_and_then}
 use Rattle.std.specs.Str.{IsUtf8, chars}
 use Rattle.std.specs.Cmp.Derive.{both_true}
 use Rattle.std.proofs.lemmas.Bool.{and_parts, eqb-true, true≢false}
@@ -17,38 +16,36 @@ use Rattle.dom_markup.specs.ReadingBack.{DocumentIsWrittenAsTrees}
 use Rattle.dom_markup.specs.ValueTrees.{ValueTrees}
 use Rattle.dom_markup.specs.ValueTrees.ValueTrees.{no_trees, text_node, comment_node, doctype_node, element_node}
 use Rattle.calm_pages.specs.Calm.{IsCalmDocument, is_calm_text}
-use Rattle.standard_rules.specs.Building.{Building, children_of, fragment_start, start, tree_of}
-use Rattle.standard_rules.specs.PlainTrees.{flow_contexts}
-use Rattle.standard_rules.specs.TreeTokens.{is_among, tokens}
-use Rattle.standard_rules.proofs.TreeLists.{switched_steps, of_each}
-use Rattle.standard_tokens.specs.Machine.{normalized, start_in}
-use Rattle.standard_tokens.specs.PlainMarkup.{AreAnswered, Item, Piece, is_raw_char, tokens as item_tokens, written}
-use Rattle.standard_tokens.specs.Reading.{IsFeedback, plain_feedback}
-use Rattle.standard_tokens.specs.States.{Data}
-use Rattle.standard_tokens.specs.Tokens.{AnEof}
-use Rattle.standard_tokens.proofs.PlainPages.{plain_page}
+use Rattle.standard_rules.specs.PlainTrees.{page_trees}
+use Rattle.standard_rules.specs.TreeTokens.{Trees, tokens}
+use Rattle.standard_tokens.specs.PlainMarkup.{Piece, is_raw_char}
+use Rattle.standard_tokens.specs.Reading.{plain_feedback}
+use Rattle.standard_trees.specs.Parsing.{IsDocumentOf, IsFragmentOf}
+use Rattle.standard_agreement.specs.PlainPages.{context_named, no_quirks, whole}
+use Rattle.standard_agreement.specs.PlainTexts.{IsMarkupOf, PlainFragmentsAreParsed, PlainPagesAreParsed}
+use Rattle.standard_agreement.proofs.Telling.{behind_last}
 use Rattle.standard_laws.specs.TokenLaws.{FollowsHtml}
 use Rattle.standard_laws.specs.ReadableTrees.{AreReadable}
 use Rattle.standard_laws.specs.TreeItems.{items_of}
 use Rattle.standard_laws.specs.TreeTokens.{tokens_in}
 use Rattle.standard_laws.specs.Values.{WritesValues, value_piece}
-use Rattle.standard_laws.specs.WrittenTrees.{ValueChar, text_by}
+use Rattle.dom_markup.specs.WrittenTrees.{ValueChar, text_by}
 use Rattle.standard_laws.proofs.Answering.{html_answers}
 use Rattle.standard_laws.proofs.Encodings.{chars_are}
-use Rattle.standard_laws.proofs.HtmlRead.{text_same}
+use Rattle.dom_markup.proofs.plain.PlainText.{text_same}
 use Rattle.standard_laws.proofs.Pieces.{html_writes_values}
 use Rattle.standard_laws.proofs.TreesPlain.{trees_plain}
 use Rattle.standard_laws.proofs.TreesTokens.{trees_tokens}
 use Rattle.standard_laws.proofs.TreesWritten.{trees_written}
 use Rattle.standard_laws.specs.CalmTrees.{have_no_null, nodes_of, scope_in}
-use Rattle.standard_laws.proofs.CalmDocuments.{calm_document_switched, calm_fragment_switched, inner_context}
+use Rattle.standard_laws.proofs.CalmDocuments.{PlainDocument, calm_document_plain, calm_fragment_plain, inner_context}
+use Rattle.standard_laws.proofs.PlainNodes.{plain_nodes, whole_nodes}
 use Rattle.standard_laws.specs.ParsingLaws.{CalmDocumentsAreParsed, CalmFragmentsAreParsed, CalmHtmlIsParsed, CalmPagesAreParsed}
-use Rattle.standard_laws.specs.Parsing.{IsFragmentOf, IsPageOf, first_state, parsed, parser}
+use Rattle.standard_laws.specs.Parsing.{IsPageOf}
 use Rattle.standard_laws.proofs.CalmReadable.{document_readable}
 use Rattle.standard_laws.proofs.Kept.{ShowsBoth, calm_kept, value_shows}
 use Rattle.standard_laws.proofs.CalmTokens.{calm_tokens, document_tokens}
 use Rattle.standard_laws.proofs.Utf8Pieces.{document_bare, document_utf8}
-use Rattle.standard_laws.proofs.Joined.{behind_last, page_parsed}
 
 -- ---- laws of dom_markup
 
@@ -86,52 +83,32 @@ no_null (element_node name attributes children later) r = both_true (no_null chi
 -- ---- what is written of trees
 
 follows : FollowsHtml (plain_feedback false)
-follows seen token = behind_last seen token []
+follows seen token = behind_last seen token
 
-markup_parsed : (by : ValueChar) (piece : ℕ → Piece) → WritesValues by piece → (top : Bool) (t : ValueTrees) → IsPlainTrees top t → AreReadable t → tokens_in t ≡ tokens (nodes_of t) →
-    (b e : Building) → switched_steps b (tokens (nodes_of t) ++ AnEof ∷ []) ≡ Some e → (steps : ℕ) × (parsed steps (parser (start_in Data) (normalized (chars (text_by by false t))) b) ≡ Some e)
-markup_parsed by piece writes top t plain readable same b e h =
-    let items : List Item = items_of piece t in
-    let text : chars (text_by by false t) ≡ flat_map written items = chars_are (trees_written by piece writes top t plain readable) in
-    let found : flat_map item_tokens items ≡ tokens (nodes_of t) = trees_tokens by piece writes top t plain readable ∙ same in
-    let answers : IsFeedback (plain_feedback false) × AreAnswered (plain_feedback false) [] items = html_answers (plain_feedback false) follows piece t readable [] in
-    let p : (steps : ℕ) × (parsed steps (parser (start_in Data) (normalized (flat_map written items)) b) ≡ Some e) =
-    page_parsed answers.0 plain_page items (trees_plain by piece writes top t plain readable) answers.1 b e (ap (λ ts. switched_steps b (ts ++ AnEof ∷ [])) found ∙ h) in
-    (p.0, ap (λ cs. parsed p.0 (parser (start_in Data) (normalized cs) b)) text ∙ p.1)
+-- it is plain markup
+markup_of : (by : ValueChar) (piece : ℕ → Piece) → WritesValues by piece → (top : Bool) (t : ValueTrees) → IsPlainTrees top t → AreReadable t → (n : Trees) → tokens_in t ≡ tokens n →
+    IsMarkupOf (chars (text_by by false t)) (tokens n)
+markup_of by piece writes top t plain readable n same = record {
+  items = items_of piece t;
+  plain = trees_plain by piece writes top t plain readable;
+  answered = (html_answers (plain_feedback false) follows piece t readable []).1;
+  is = chars_are (trees_written by piece writes top t plain readable);
+  tokens = sym (trees_tokens by piece writes top t plain readable ∙ same);
+}
 
 -- as a page
-pub documents_parsed : (by : ValueChar) (piece : ℕ → Piece) → WritesValues by piece → CalmDocumentsAreParsed by
-documents_parsed by piece writes t d plain readable = by_end (switched_steps start (tokens (nodes_of t) ++ AnEof ∷ [])) refl (calm_document_switched t d plain (no_null t readable))
-  where
-    by_end : (o : Option Building) → switched_steps start (tokens (nodes_of t) ++ AnEof ∷ []) ≡ o → tree_of o ≡ Some (nodes_of t) → IsPageOf (chars (text_by by false t)) (nodes_of t)
-    by_end None is k = cc
-    by_end (Some e) is k =
-        let m : (steps : ℕ) × (parsed steps (parser (start_in Data) (normalized (chars (text_by by false t))) start) ≡ Some e) =
-        markup_parsed by piece writes true t plain readable (document_tokens t d plain) start e is in
-        (m.0, ap tree_of m.1 ∙ k)
+pub documents_parsed : PlainPagesAreParsed → (by : ValueChar) (piece : ℕ → Piece) → WritesValues by piece → CalmDocumentsAreParsed by
+documents_parsed law by piece writes t d plain readable scripting =
+    let c : PlainDocument t = calm_document_plain t d plain (no_null t readable) in
+    subst (λ n. IsDocumentOf scripting (chars (text_by by false t)) (no_quirks n)) (ap whole (sym c.same) ∙ whole_nodes t)
+    (law scripting (chars (text_by by false t)) c.page c.plain (markup_of by piece writes true t plain readable (page_trees c.page) (document_tokens t d plain ∙ ap tokens c.same)))
 
 -- as a fragment
-begins_in_data : (context : List ℕ) → is_among context flow_contexts ≡ true → first_state context ≡ Data
-begins_in_data = of_each (λ context. first_state context ≡ Data) flow_contexts (refl, (refl, (refl, (refl, (refl, tt)))))
-
-pub fragments_parsed : (by : ValueChar) (piece : ℕ → Piece) → WritesValues by piece → CalmFragmentsAreParsed by
-fragments_parsed by piece writes context t is calm plain readable = by_start (fragment_start context) refl (calm_fragment_switched context t is calm plain (no_null t readable))
-  where
-    by_end : (b : Building) → fragment_start context ≡ Some b → (o : Option Building) → switched_steps b (tokens (nodes_of t) ++ AnEof ∷ []) ≡ o → children_of o ≡ Some (nodes_of t) →
-        IsFragmentOf context (chars (text_by by false t)) (nodes_of t)
-    by_end b begins None ends k = cc
-    by_end b begins (Some e) ends k =
-        let m : (steps : ℕ) × (parsed steps (parser (start_in Data) (normalized (chars (text_by by false t))) b) ≡ Some e) =
-        markup_parsed by piece writes false t plain readable (calm_tokens (scope_in context) t (inner_context context is) plain calm) b e ends in (
-          m.0,
-          ap (λ s. children_of (option_and_then (λ c. parsed m.0 (parser (start_in s) (normalized (chars (text_by by false t))) c)) (fragment_start context))) (begins_in_data context is)
-              ∙ ap (λ o. children_of (option_and_then (λ c. parsed m.0 (parser (start_in Data) (normalized (chars (text_by by false t))) c)) o)) begins ∙ ap children_of m.1 ∙ k,
-        )
-
-    by_start : (o : Option Building) → fragment_start context ≡ o → children_of (option_and_then (λ b. switched_steps b (tokens (nodes_of t) ++ AnEof ∷ [])) o) ≡ Some (nodes_of t) →
-        IsFragmentOf context (chars (text_by by false t)) (nodes_of t)
-    by_start None begins k = cc
-    by_start (Some b) begins k = by_end b begins (switched_steps b (tokens (nodes_of t) ++ AnEof ∷ [])) refl k
+pub fragments_parsed : PlainFragmentsAreParsed → (by : ValueChar) (piece : ℕ → Piece) → WritesValues by piece → CalmFragmentsAreParsed by
+fragments_parsed law by piece writes context t among calm plain readable scripting attrs =
+    subst (IsFragmentOf scripting (context_named context attrs) (chars (text_by by false t))) (whole_nodes t)
+    (law scripting context attrs (chars (text_by by false t)) (plain_nodes t) among (calm_fragment_plain context t among calm plain (no_null t readable))
+    (markup_of by piece writes false t plain readable (plain_nodes t) (calm_tokens (scope_in context) t (inner_context context among) plain calm)))
 
 -- ---- calm pages
 
@@ -139,20 +116,20 @@ fragments_parsed by piece writes context t is calm plain readable = by_start (fr
 plain_trees : OneMeaning → (forest : Forest) → (plain : IsPlain forest) → (t : ValueTrees) → Represents forest (ids_below forest 0) t → IsPlainTrees true t
 plain_trees meaning forest plain t below = subst (IsPlainTrees true) (meaning forest (ids_below forest 0) plain.trees t plain.below below) plain.plain
 
-calm_parsed : (by : ValueChar) (piece : ℕ → Piece) → WritesValues by piece → ShowsBoth by → (t : ValueTrees) → IsCalmDocument t → IsPlainTrees true t → is_calm_text (text_by by false t) ≡ true →
+calm_parsed : PlainPagesAreParsed → (by : ValueChar) (piece : ℕ → Piece) → WritesValues by piece → ShowsBoth by → (t : ValueTrees) → IsCalmDocument t → IsPlainTrees true t → is_calm_text (text_by by false t) ≡ true →
     IsUtf8 (text_by by false t) → IsPageOf (chars (text_by by false t)) (nodes_of t)
-calm_parsed by piece writes shows t d plain bytes utf8 =
-    documents_parsed by piece writes t d plain (document_readable by shows t d plain (document_utf8 by piece writes t d plain utf8) (calm_kept (text_by by false t) bytes))
+calm_parsed law by piece writes shows t d plain bytes utf8 =
+    documents_parsed law by piece writes t d plain (document_readable by shows t d plain (document_utf8 by piece writes t d plain utf8) (calm_kept (text_by by false t) bytes))
 
-pub pages_parsed : OneMeaning → ReadIsPlain → StandForTheirTrees → (by : ValueChar) (piece : ℕ → Piece) → WritesValues by piece → ShowsBoth by → CalmPagesAreParsed by
-pages_parsed meaning read stand by piece writes shows t utf8 page =
+pub pages_parsed : PlainPagesAreParsed → OneMeaning → ReadIsPlain → StandForTheirTrees → (by : ValueChar) (piece : ℕ → Piece) → WritesValues by piece → ShowsBoth by → CalmPagesAreParsed by
+pages_parsed law meaning read stand by piece writes shows t utf8 page =
     let plain : IsPlainTrees true t = plain_trees meaning (document_of t) (read (text_by by false t) t utf8 page.spelled (document_bare t page.document)) t (stand t) in
-    calm_parsed by piece writes shows t page.document plain page.bytes utf8
+    calm_parsed law by piece writes shows t page.document plain page.bytes utf8
 
 -- the HTML of a document
-pub html_parsed : OneMeaning → ((forest : Forest) → IsForest forest → DocumentIsWrittenAsTrees forest) → CalmHtmlIsParsed
-html_parsed meaning law forest sound plain calm utf8 =
+pub html_parsed : PlainPagesAreParsed → OneMeaning → ((forest : Forest) → IsForest forest → DocumentIsWrittenAsTrees forest) → CalmHtmlIsParsed
+html_parsed parsed meaning law forest sound plain calm utf8 =
     let same : html_of forest 0 ≡ text_by value_char false calm.trees = law forest sound plain.root calm.trees calm.below ∙ text_same false calm.trees in
     subst (λ text. IsPageOf (chars text) (nodes_of calm.trees)) (sym same)
-    (calm_parsed value_char value_piece html_writes_values value_shows calm.trees calm.document (plain_trees meaning forest plain calm.trees calm.below) (ap is_calm_text (sym same) ∙ calm.bytes)
+    (calm_parsed parsed value_char value_piece html_writes_values value_shows calm.trees calm.document (plain_trees meaning forest plain calm.trees calm.below) (ap is_calm_text (sym same) ∙ calm.bytes)
     (subst IsUtf8 same utf8))

@@ -22,7 +22,8 @@ use Rattle.standard_rules.specs.PlainTrees.{ARowGroup, ARow, ACell, Within, are_
 use Rattle.standard_rules.specs.TreeTokens.{text_node as text}
 use Rattle.standard_rules.proofs.PlainElements.{not_so}
 use Rattle.standard_rules.proofs.TreeLists.{Each}
-use Rattle.standard_laws.specs.CalmTrees.{have_no_null, nodes_of, place_in, within}
+use Rattle.standard_laws.specs.CalmTrees.{have_no_null}
+use Rattle.standard_laws.proofs.PlainNodes.{place_in, plain_nodes, within}
 use Rattle.standard_laws.proofs.CategoryPlaces.{is_inner, holds_Phrase, holds_Anchor, holds_Button, holds_Paragraph, holds_Block, holds_Form, holds_Pre, holds_ItemList, holds_DescriptionList, holds_Table, holds_Heading, holds_Verbatim, holds_Item, holds_Description, holds_Ruby, holds_RubyText}
 use Rattle.standard_laws.proofs.CategoryPlaces.{holds_Caption, holds_ColumnGroup, holds_RowGroup, holds_Column, holds_TableRow, holds_Cell, holds_Metadata, holds_no_Html, holds_no_Head, holds_no_Body, holds_no_Other, text_in}
 use Rattle.standard_laws.proofs.CharTexts.{feed_chars}
@@ -31,11 +32,11 @@ use Rattle.standard_laws.proofs.CharTexts.{feed_chars}
 abbrev Meets : ElementCategory → List ℕ → Type 0
 Meets kind name = (scope : Scope) (children : ValueTrees) → is_inner scope.parent ≡ true → admits scope kind ≡ true → (is_among name void_names ≡ true → children ≡ no_trees) →
     IsPlainIn (mode_in name) children → IsPlainTrees false children → are_calm (inside scope kind) children ≡ true →
-    (admits_class (within scope) (class_of name) (nodes_of children) ≡ true) × (inside_class (within scope) (class_of name) ≡ within (inside scope kind)) × (is_inner (inside scope kind).parent ≡ true)
+    (admits_class (within scope) (class_of name) (plain_nodes children) ≡ true) × (inside_class (within scope) (class_of name) ≡ within (inside scope kind)) × (is_inner (inside scope kind).parent ≡ true)
 
 -- what a class has to meet
 abbrev Met : ElementCategory → Class → Scope → ValueTrees → Type 0
-Met kind class scope children = (admits_class (within scope) class (nodes_of children) ≡ true) × (inside_class (within scope) class ≡ within (inside scope kind)) × (is_inner (inside scope kind).parent ≡ true)
+Met kind class scope children = (admits_class (within scope) class (plain_nodes children) ≡ true) × (inside_class (within scope) class ≡ within (inside scope kind)) × (is_inner (inside scope kind).parent ≡ true)
 
 met : (kind : ElementCategory) (class : Class) (name : List ℕ) (scope : Scope) (children : ValueTrees) → class_of name ≡ class → Met kind class scope children → Met kind (class_of name) scope children
 met kind class name scope children is = subst (λ (c : Class). Met kind c scope children) (sym is)
@@ -48,8 +49,8 @@ neither : (x y : Bool) → not (x || y) ≡ true → (not x ≡ true) × (not y 
 neither true y h = absurd (true≢false (sym h))
 neither false y h = (refl, h)
 
-none_below : (children : ValueTrees) → children ≡ no_trees → is_none (nodes_of children) ≡ true
-none_below children e = ap (λ t. is_none (nodes_of t)) e
+none_below : (children : ValueTrees) → children ≡ no_trees → is_none (plain_nodes children) ≡ true
+none_below children e = ap (λ t. is_none (plain_nodes t)) e
 
 as_phrase : (name : List ℕ) → class_of name ≡ APhrase → Meets Phrase name
 as_phrase name is scope children i h v m p c =
@@ -165,15 +166,15 @@ as_form name is scope children i h v m p c =
     met Form AForm name scope children is (both_true (both_true (holds_Form scope.parent i a.0) b.0) b.1, refl, refl)
 
 -- the first text of a `pre` begins with no line feed
-feedless : (children : ValueTrees) (scope : Scope) → IsPlainTrees false children → are_calm (inside scope Pre) children ≡ true → not (begins_feed (nodes_of children)) ≡ true
+feedless : (children : ValueTrees) (scope : Scope) → IsPlainTrees false children → are_calm (inside scope Pre) children ≡ true → not (begins_feed (plain_nodes children)) ≡ true
 feedless no_trees scope p c = refl
 feedless (text_node contents later) scope p c =
     let h : (not (begins_line contents) ≡ true) × (are_calm (behind (inside scope Pre)) later ≡ true) = and_parts (not (begins_line contents)) (are_calm (behind (inside scope Pre)) later) c in
     by_chars (chars contents) refl (not_so (begins_line contents) h.0)
   where
-    by_chars : (cs : List ℕ) → chars contents ≡ cs → begins_line contents ≡ false → not (begins_feed (nodes_of (text_node contents later))) ≡ true
-    by_chars [] e f = ap (λ t. not (begins_feed (text t (nodes_of later)))) e
-    by_chars (x ∷ xs) e f = ap (λ t. not (begins_feed (text t (nodes_of later)))) e ∙ ap not (feed_chars contents p.1 f x xs e)
+    by_chars : (cs : List ℕ) → chars contents ≡ cs → begins_line contents ≡ false → not (begins_feed (plain_nodes (text_node contents later))) ≡ true
+    by_chars [] e f = ap (λ t. not (begins_feed (text t (plain_nodes later)))) e
+    by_chars (x ∷ xs) e f = ap (λ t. not (begins_feed (text t (plain_nodes later)))) e ∙ ap not (feed_chars contents p.1 f x xs e)
 feedless (comment_node contents later) scope p c = refl
 feedless (doctype_node name public system later) scope p c = refl
 feedless (element_node name attributes below later) scope p c = refl
@@ -204,7 +205,7 @@ as_ruby_text name is scope children i h v m p c =
     met RubyText ARubyText name scope children is (holds_RubyText scope.parent i a.0, refl, refl)
 
 -- an element that holds a text alone holds one or none
-raw_text : (name : List ℕ) (children : ValueTrees) → IsPlainIn (raw_text_of name) children → is_raw (nodes_of children) ≡ true
+raw_text : (name : List ℕ) (children : ValueTrees) → IsPlainIn (raw_text_of name) children → is_raw (plain_nodes children) ≡ true
 raw_text name no_trees p = refl
 raw_text name (text_node contents no_trees) p = refl
 raw_text name (text_node contents (text_node more later)) p = absurd p
@@ -215,7 +216,7 @@ raw_text name (comment_node contents later) p = absurd p
 raw_text name (doctype_node n public system later) p = absurd p
 raw_text name (element_node n attributes below later) p = absurd p
 
-own_text : (name : List ℕ) (children : ValueTrees) → IsPlainIn (text_of name) children → is_raw (nodes_of children) ≡ true
+own_text : (name : List ℕ) (children : ValueTrees) → IsPlainIn (text_of name) children → is_raw (plain_nodes children) ≡ true
 own_text name no_trees p = refl
 own_text name (text_node contents no_trees) p = refl
 own_text name (text_node contents (text_node more later)) p = absurd p
@@ -226,7 +227,7 @@ own_text name (comment_node contents later) p = absurd p
 own_text name (doctype_node n public system later) p = absurd p
 own_text name (element_node n attributes below later) p = absurd p
 
-as_raw : (name : List ℕ) → class_of name ≡ ARawText → ((children : ValueTrees) → IsPlainIn (mode_in name) children → is_raw (nodes_of children) ≡ true) → Meets Verbatim name
+as_raw : (name : List ℕ) → class_of name ≡ ARawText → ((children : ValueTrees) → IsPlainIn (mode_in name) children → is_raw (plain_nodes children) ≡ true) → Meets Verbatim name
 as_raw name is raw scope children i h v m p c =
     let a : (may_hold scope.parent Verbatim ≡ true) × (not (bars scope Verbatim) ≡ true) = halves scope Verbatim h in
     met Verbatim ARawText name scope children is (both_true (holds_Verbatim scope.parent i a.0) (raw children m), refl, refl)
@@ -546,7 +547,7 @@ of_kind name = by_category name named_kinds
 
 -- ---- trees
 
-same_begin : (t : ValueTrees) → begins_text (nodes_of t) ≡ begins_with_text t
+same_begin : (t : ValueTrees) → begins_text (plain_nodes t) ≡ begins_with_text t
 same_begin no_trees = refl
 same_begin (text_node contents later) = refl
 same_begin (comment_node contents later) = refl
@@ -614,11 +615,11 @@ inner_behind TableRow i = i
 inner_behind Cell i = i
 inner_behind Other i = i
 
-plain_behind : (scope : Scope) (t : ValueTrees) → are_plain (within (behind scope)) (nodes_of t) ≡ true → are_plain (within scope) (nodes_of t) ≡ true
-plain_behind scope t h = ap (λ place. are_plain (record (within scope) { place = place }) (nodes_of t)) (sym (place_behind scope.parent)) ∙ h
+plain_behind : (scope : Scope) (t : ValueTrees) → are_plain (within (behind scope)) (plain_nodes t) ≡ true → are_plain (within scope) (plain_nodes t) ≡ true
+plain_behind scope t h = ap (λ place. are_plain (record (within scope) { place = place }) (plain_nodes t)) (sym (place_behind scope.parent)) ∙ h
 
 -- calm trees inside a head or a body are plain
-pub calm_is_plain : (scope : Scope) (t : ValueTrees) → is_inner scope.parent ≡ true → IsPlainTrees false t → have_no_null t ≡ true → are_calm scope t ≡ true → are_plain (within scope) (nodes_of t) ≡ true
+pub calm_is_plain : (scope : Scope) (t : ValueTrees) → is_inner scope.parent ≡ true → IsPlainTrees false t → have_no_null t ≡ true → are_calm scope t ≡ true → are_plain (within scope) (plain_nodes t) ≡ true
 calm_is_plain scope no_trees i p z c = refl
 calm_is_plain scope (text_node contents later) i p z c =
     let h : (may_hold_text scope.parent contents ≡ true) × (are_calm (behind scope) later ≡ true) = and_parts (may_hold_text scope.parent contents) (are_calm (behind scope) later) c in
@@ -633,8 +634,8 @@ calm_is_plain scope (element_node name attributes children later) i p z c =
     and_parts (admits scope (kind_of name) && are_calm (inside scope (kind_of name)) children) (are_calm (behind scope) later) c in
     let k : (admits scope (kind_of name) ≡ true) × (are_calm (inside scope (kind_of name)) children ≡ true) = and_parts (admits scope (kind_of name)) (are_calm (inside scope (kind_of name)) children) h.0 in
     let n : (have_no_null children ≡ true) × (have_no_null later ≡ true) = and_parts (have_no_null children) (have_no_null later) z in
-    let m : (admits_class (within scope) (class_of name) (nodes_of children) ≡ true) × (inside_class (within scope) (class_of name) ≡ within (inside scope (kind_of name))) × (is_inner (inside scope (kind_of name)).parent ≡ true) =
+    let m : (admits_class (within scope) (class_of name) (plain_nodes children) ≡ true) × (inside_class (within scope) (class_of name) ≡ within (inside scope (kind_of name))) × (is_inner (inside scope (kind_of name)).parent ≡ true) =
     of_kind name scope children i k.0 p.3 p.4 p.5 k.1 in
     both_true
-    (both_true m.0 (ap (λ (w : Within). are_plain w (nodes_of children)) m.1 ∙ calm_is_plain (inside scope (kind_of name)) children m.2 p.5 n.0 k.1))
+    (both_true m.0 (ap (λ (w : Within). are_plain w (plain_nodes children)) m.1 ∙ calm_is_plain (inside scope (kind_of name)) children m.2 p.5 n.0 k.1))
     (plain_behind scope later (calm_is_plain (behind scope) later (inner_behind scope.parent i) p.6 n.1 h.1))

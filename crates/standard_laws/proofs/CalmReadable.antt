@@ -20,7 +20,8 @@ use Rattle.standard_laws.proofs.CategoryPlaces.{is_inner}
 use Rattle.standard_laws.proofs.CalmPlain.{inner_behind}
 use Rattle.standard_laws.proofs.CalmDocuments.{body_kind, calm_parts, head_kind, html_kind}
 use Rattle.standard_laws.specs.ReadableTrees.{AreKept, AreReadable, EndsByTag, kind_of as text_kind}
-use Rattle.standard_laws.specs.WrittenTrees.{ValueChar, attr_by, end_by, start_by, text_by}
+use Rattle.dom_markup.specs.Html.{end_tag}
+use Rattle.dom_markup.specs.WrittenTrees.{ValueChar, attr_by, start_by, text_by}
 use Rattle.standard_laws.proofs.TreesPlain.{mode_by}
 use Rattle.standard_laws.proofs.CalmTokens.{Known, body_name, head_name, held, html_name, inner_inside, known_name}
 use Rattle.standard_laws.proofs.Kept.{ShowsBoth, comment_kept, is_kept, kept_by, kept_parts, kept_text, raw_lacks}
@@ -97,16 +98,16 @@ element_readable : (by : ValueChar) → ShowsBoth by → (name : List ℕ) → K
     (is_among name void_names ≡ true → children ≡ no_trees) → EndsByTag (mode_in name) children → (list_all is_kept (text_by by (is_among name raw_names) children) ≡ true → AreReadable children) →
     (list_all is_kept (text_by by raw later) ≡ true → AreReadable later) → list_all is_kept (text_by by raw (element_node name attributes children later)) ≡ true → AreReadable (element_node name attributes children later)
 element_readable by shows name known attributes children later raw u void ends inner after h =
-    let middle : List ℕ = if is_among name void_names then [] else text_by by (is_among name raw_names) children ++ end_by name in
+    let middle : List ℕ = if is_among name void_names then [] else text_by by (is_among name raw_names) children ++ end_tag name in
     let p : (list_all is_kept (start_by by name attributes) ≡ true) × (list_all is_kept (middle ++ text_by by raw later) ≡ true) = kept_parts (start_by by name attributes) (middle ++ text_by by raw later) h in
     let q : (list_all is_kept middle ≡ true) × (list_all is_kept (text_by by raw later) ≡ true) = kept_parts middle (text_by by raw later) p.1 in
     let r : (list_all is_kept (codes "<") ≡ true) × (list_all is_kept (name ++ (flat_map (attr_by by) attributes ++ codes ">")) ≡ true) = kept_parts (codes "<") (name ++ (flat_map (attr_by by) attributes ++ codes ">")) p.0 in
     let s : (list_all is_kept name ≡ true) × (list_all is_kept (flat_map (attr_by by) attributes ++ codes ">") ≡ true) = kept_parts name (flat_map (attr_by by) attributes ++ codes ">") r.1 in
     (known.utf8, attrs_kept by shows attributes u (kept_parts (flat_map (attr_by by) attributes) (codes ">") s.1).0, ends, by_void (is_among name void_names) refl q.0, after q.1)
   where
-    by_void : (x : Bool) → is_among name void_names ≡ x → list_all is_kept (if x then [] else text_by by (is_among name raw_names) children ++ end_by name) ≡ true → AreReadable children
+    by_void : (x : Bool) → is_among name void_names ≡ x → list_all is_kept (if x then [] else text_by by (is_among name raw_names) children ++ end_tag name) ≡ true → AreReadable children
     by_void true e k = subst AreReadable (sym (void e)) tt
-    by_void false e k = inner (kept_parts (text_by by (is_among name raw_names) children) (end_by name) k).0
+    by_void false e k = inner (kept_parts (text_by by (is_among name raw_names) children) (end_tag name) k).0
 
 -- ---- trees in a head or a body
 

@@ -20,7 +20,7 @@ use Rattle.page_trees.specs.declared.element_kinds.ElementCategory.TheVariants.{
 use Rattle.standard_rules.specs.TreeTokens.{doctype_named, end_of, tokens}
 use Rattle.standard_rules.proofs.TreeLists.{Each}
 use Rattle.standard_tokens.specs.Tokens.{Token, AChar, AComment, ADoctype, AStart, AnEnd}
-use Rattle.standard_laws.specs.CalmTrees.{attrs_of, nodes_of}
+use Rattle.standard_laws.proofs.PlainNodes.{plain_attrs, plain_nodes}
 use Rattle.standard_laws.proofs.CategoryPlaces.{is_inner, holds_no_Document, holds_no_Html, holds_no_Other}
 use Rattle.standard_laws.proofs.CalmPlain.{inner_behind, of_names}
 use Rattle.standard_laws.proofs.CalmDocuments.{body_kind, calm_parts, head_kind, html_kind}
@@ -403,24 +403,24 @@ held parent kind i h e = true≢false (sym (holds_no_Other parent i (subst (λ (
 
 -- ---- tokens
 
-tail_same : (name : List ℕ) → Known name → (children later : ValueTrees) → (is_among name void_names ≡ true → children ≡ no_trees) → tokens_in children ≡ tokens (nodes_of children) →
-    (more : List Token) → (if is_among name void_names then [] else tokens_in children ++ AnEnd (chars name) ∷ []) ++ more ≡ tokens (nodes_of children) ++ (end_of name ++ more)
+tail_same : (name : List ℕ) → Known name → (children later : ValueTrees) → (is_among name void_names ≡ true → children ≡ no_trees) → tokens_in children ≡ tokens (plain_nodes children) →
+    (more : List Token) → (if is_among name void_names then [] else tokens_in children ++ AnEnd (chars name) ∷ []) ++ more ≡ tokens (plain_nodes children) ++ (end_of name ++ more)
 tail_same name known children later void below more = by_test (is_among name void_names) refl known.ends
   where
     by_test : (x : Bool) → is_among name void_names ≡ x → end_of name ≡ (if x then [] else AnEnd name ∷ []) →
-        (if x then [] else tokens_in children ++ AnEnd (chars name) ∷ []) ++ more ≡ tokens (nodes_of children) ++ (end_of name ++ more)
-    by_test true is ends = sym (ap (λ t. tokens (nodes_of t) ++ (end_of name ++ more)) (void is) ∙ ap (λ ts. ts ++ more) ends)
+        (if x then [] else tokens_in children ++ AnEnd (chars name) ∷ []) ++ more ≡ tokens (plain_nodes children) ++ (end_of name ++ more)
+    by_test true is ends = sym (ap (λ t. tokens (plain_nodes t) ++ (end_of name ++ more)) (void is) ∙ ap (λ ts. ts ++ more) ends)
     by_test false is ends =
         ap (λ n. (tokens_in children ++ AnEnd n ∷ []) ++ more) known.ascii ∙ append_assoc (tokens_in children) (AnEnd name ∷ []) more
-        ∙ ap (λ ts. ts ++ (AnEnd name ∷ more)) below ∙ ap (λ ts. tokens (nodes_of children) ++ (ts ++ more)) (sym ends)
+        ∙ ap (λ ts. ts ++ (AnEnd name ∷ more)) below ∙ ap (λ ts. tokens (plain_nodes children) ++ (ts ++ more)) (sym ends)
 
 element_same : (name : List ℕ) → Known name → (attributes : List Attribute) (children later : ValueTrees) → (is_among name void_names ≡ true → children ≡ no_trees) →
-    tokens_in children ≡ tokens (nodes_of children) → tokens_in later ≡ tokens (nodes_of later) →
-    tokens_in (element_node name attributes children later) ≡ tokens (nodes_of (element_node name attributes children later))
+    tokens_in children ≡ tokens (plain_nodes children) → tokens_in later ≡ tokens (plain_nodes later) →
+    tokens_in (element_node name attributes children later) ≡ tokens (plain_nodes (element_node name attributes children later))
 element_same name known attributes children later void below after =
     ap (λ ts. start_of name attributes ∷ ((if is_among name void_names then [] else tokens_in children ++ AnEnd (chars name) ∷ []) ++ ts)) after
-    ∙ ap (λ ts. start_of name attributes ∷ ts) (tail_same name known children later void below (tokens (nodes_of later)))
-    ∙ ap (λ n. AStart n (attrs_of attributes) false ∷ (tokens (nodes_of children) ++ (end_of name ++ tokens (nodes_of later)))) known.ascii
+    ∙ ap (λ ts. start_of name attributes ∷ ts) (tail_same name known children later void below (tokens (plain_nodes later)))
+    ∙ ap (λ n. AStart n (plain_attrs attributes) false ∷ (tokens (plain_nodes children) ++ (end_of name ++ tokens (plain_nodes later)))) known.ascii
 
 -- what an element is held in has a category that is not the document's and not that of `html`
 pub inner_inside : (scope : Scope) (kind : ElementCategory) → is_inner scope.parent ≡ true → may_hold scope.parent kind ≡ true → is_inner (inside scope kind).parent ≡ true
@@ -454,7 +454,7 @@ inner_inside scope Cell i h = refl
 inner_inside scope Other i h = refl
 
 -- inside a head or a body
-pub calm_tokens : (scope : Scope) (t : ValueTrees) → is_inner scope.parent ≡ true → IsPlainTrees false t → are_calm scope t ≡ true → tokens_in t ≡ tokens (nodes_of t)
+pub calm_tokens : (scope : Scope) (t : ValueTrees) → is_inner scope.parent ≡ true → IsPlainTrees false t → are_calm scope t ≡ true → tokens_in t ≡ tokens (plain_nodes t)
 calm_tokens scope no_trees i p c = refl
 calm_tokens scope (text_node contents later) i p c =
     let h : (may_hold_text scope.parent contents ≡ true) × (are_calm (behind scope) later ≡ true) = and_parts (may_hold_text scope.parent contents) (are_calm (behind scope) later) c in
@@ -486,7 +486,7 @@ unfolding names_of kind_of chars void_names raw_names encode
 body_name = record { ascii = refl; ends = refl; utf8 = (codes "body", (refl, refl)); read = inl refl }
 
 body_tokens : (attributes : List Attribute) (body : ValueTrees) → are_calm (inside top Html) (element_node (codes "body") attributes body no_trees) ≡ true →
-    IsPlainTrees false (element_node (codes "body") attributes body no_trees) → tokens_in (element_node (codes "body") attributes body no_trees) ≡ tokens (nodes_of (element_node (codes "body") attributes body no_trees))
+    IsPlainTrees false (element_node (codes "body") attributes body no_trees) → tokens_in (element_node (codes "body") attributes body no_trees) ≡ tokens (plain_nodes (element_node (codes "body") attributes body no_trees))
 body_tokens attributes body c p =
     let inner : are_calm (inside (inside top Html) Body) body ≡ true = (calm_parts (inside top Html) (codes "body") Body attributes body no_trees body_kind c).0 in
     element_same (codes "body") body_name attributes body no_trees p.3 (calm_tokens (inside (inside top Html) Body) body refl p.5 inner) refl
@@ -494,7 +494,7 @@ body_tokens attributes body c p =
 -- white space, if any, and the body
 rest_tokens : (space : List ℕ) (attributes : List Attribute) (body : ValueTrees) → are_calm (inside top Html) (behind_text space (element_node (codes "body") attributes body no_trees)) ≡ true →
     IsPlainTrees false (behind_text space (element_node (codes "body") attributes body no_trees)) →
-    tokens_in (behind_text space (element_node (codes "body") attributes body no_trees)) ≡ tokens (nodes_of (behind_text space (element_node (codes "body") attributes body no_trees)))
+    tokens_in (behind_text space (element_node (codes "body") attributes body no_trees)) ≡ tokens (plain_nodes (behind_text space (element_node (codes "body") attributes body no_trees)))
 rest_tokens [] attributes body c p = body_tokens attributes body c p
 rest_tokens (b ∷ space) attributes body c p =
     let e : ValueTrees = element_node (codes "body") attributes body no_trees in
@@ -505,19 +505,19 @@ whole_tokens : (html head_attributes body_attributes : List Attribute) (head : V
     t ≡ doctype_node (codes "html") [] [] (element_node (codes "html") html (element_node (codes "head") head_attributes head (behind_text space (element_node (codes "body") body_attributes body no_trees))) no_trees) →
     are_calm top (doctype_node (codes "html") [] [] (element_node (codes "html") html (element_node (codes "head") head_attributes head (behind_text space (element_node (codes "body") body_attributes body no_trees))) no_trees)) ≡ true →
     IsPlainTrees true (doctype_node (codes "html") [] [] (element_node (codes "html") html (element_node (codes "head") head_attributes head (behind_text space (element_node (codes "body") body_attributes body no_trees))) no_trees)) →
-    tokens_in t ≡ tokens (nodes_of t)
+    tokens_in t ≡ tokens (plain_nodes t)
 whole_tokens html head_attributes body_attributes head space body t is c p =
     let rest : ValueTrees = behind_text space (element_node (codes "body") body_attributes body no_trees) in
     let inner : ValueTrees = element_node (codes "head") head_attributes head rest in
     let root : ValueTrees = element_node (codes "html") html inner no_trees in
     let outer : (are_calm (inside top Html) inner ≡ true) × (are_calm top no_trees ≡ true) = calm_parts top (codes "html") Html html inner no_trees html_kind c in
     let parts : (are_calm (inside (inside top Html) Head) head ≡ true) × (are_calm (inside top Html) rest ≡ true) = calm_parts (inside top Html) (codes "head") Head head_attributes head rest head_kind outer.0 in
-    let first : tokens_in head ≡ tokens (nodes_of head) = calm_tokens (inside (inside top Html) Head) head refl p.4.5.5 parts.0 in
-    let below : tokens_in inner ≡ tokens (nodes_of inner) =
+    let first : tokens_in head ≡ tokens (plain_nodes head) = calm_tokens (inside (inside top Html) Head) head refl p.4.5.5 parts.0 in
+    let below : tokens_in inner ≡ tokens (plain_nodes inner) =
     element_same (codes "head") head_name head_attributes head rest p.4.5.3 first (rest_tokens space body_attributes body parts.1 p.4.5.6) in
-    let all : tokens_in root ≡ tokens (nodes_of root) = element_same (codes "html") html_name html inner no_trees p.4.3 below refl in
-    subst (λ (x : ValueTrees). tokens_in x ≡ tokens (nodes_of x)) (sym is) (ap (λ ts. doctype_of (codes "html") ∷ ts) all ∙ ap (λ n. ADoctype (doctype_named n) ∷ tokens (nodes_of root)) html_name.ascii)
+    let all : tokens_in root ≡ tokens (plain_nodes root) = element_same (codes "html") html_name html inner no_trees p.4.3 below refl in
+    subst (λ (x : ValueTrees). tokens_in x ≡ tokens (plain_nodes x)) (sym is) (ap (λ ts. doctype_of (codes "html") ∷ ts) all ∙ ap (λ n. ADoctype (doctype_named n) ∷ tokens (plain_nodes root)) html_name.ascii)
 
-pub document_tokens : (t : ValueTrees) → IsCalmDocument t → IsPlainTrees true t → tokens_in t ≡ tokens (nodes_of t)
+pub document_tokens : (t : ValueTrees) → IsCalmDocument t → IsPlainTrees true t → tokens_in t ≡ tokens (plain_nodes t)
 document_tokens t d p =
     whole_tokens d.html_attributes d.head_attributes d.body_attributes d.head d.space d.body t d.is (ap (are_calm top) (sym d.is) ∙ d.calm) (subst (IsPlainTrees true) d.is p)

@@ -11,7 +11,7 @@ use Rattle.page_trees.specs.declared.element_kinds.ElementCategory.{ElementCateg
 use Rattle.page_trees.specs.declared.element_kinds.ElementCategory.TheVariants.{Document, Html, Head, Body, Metadata, Verbatim, Phrase, Anchor, Button, Paragraph, Block, Heading, Form, Pre, ItemList, Item, DescriptionList, Description, Ruby, RubyText, Table, Caption, ColumnGroup, Column, RowGroup}
 use Rattle.page_trees.specs.declared.element_kinds.ElementCategory.TheVariants.{TableRow, Cell, Other}
 use Rattle.standard_rules.specs.PlainTrees.{is_column_group, is_description_list, is_flow, is_head, is_heading, is_list, is_row, is_row_group, is_ruby, is_table, may_be_text}
-use Rattle.standard_laws.specs.CalmTrees.{place_in}
+use Rattle.standard_laws.proofs.PlainNodes.{place_in}
 use Rattle.standard_laws.proofs.CharTexts.{space_chars, text_chars}
 
 -- a category of elements inside a head or a body

@@ -16,8 +16,7 @@ use Rattle.calm_pages.specs.Calm.{begins_close, has_close, is_calm_byte, is_calm
 use Rattle.standard_tokens.specs.Machine.{same_case_less}
 use Rattle.standard_tokens.specs.PlainMarkup.{TextKind, Rcdata, Rawtext, Script, begins_with, contains_word, is_comment_text, is_raw_char, lacks_end}
 use Rattle.standard_laws.specs.ReadableTrees.{IsKept}
-use Rattle.standard_laws.specs.Values.{safe_char}
-use Rattle.standard_laws.specs.WrittenTrees.{ValueChar}
+use Rattle.dom_markup.specs.WrittenTrees.{ValueChar, safe_char}
 
 -- ---- bytes
 

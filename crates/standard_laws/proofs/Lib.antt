@@ -1,4 +1,5 @@
 pub mod Answering
+pub mod CalmBuilt
 pub mod CalmDocuments
 pub mod CalmParsed
 pub mod CalmPlain
@@ -8,12 +9,11 @@ pub mod CategoryPlaces
 pub mod CharTexts
 pub mod Encodings
 pub mod HtmlRead
-pub mod Joined
 pub mod Kept
 pub mod NameChars
-pub mod OneWay
 pub mod ParsedExamples
 pub mod Pieces
+pub mod PlainNodes
 pub mod TreesPlain
 pub mod TreesRead
 pub mod TreesTokens

@@ -1,12 +1,11 @@
 -- The characters of names.
-use Rattle.std.specs.Prelude.{◌≡◌, ◌≢◌, ◌<◌, ◌≤◌, ℕ, Bool, true, false, not, ◌==◌, ◌&&◌, ◌||◌, nat_le, nat_lt, List, [], ◌∷◌, ◌++◌, map, bytes_eq, codes, encode_utf8, refl}
+use Rattle.std.specs.Prelude.{◌≡◌, ◌≢◌, ◌<◌, ◌≤◌, ℕ, Bool, true, false, ◌==◌, ◌&&◌, nat_le, List, [], ◌∷◌, ◌++◌, bytes_eq, encode_utf8, refl}
 use Rattle.std.proofs.Common.{inl, inr}
 use Rattle.std.specs.Char.{is_ascii_lowercase, to_ascii_lowercase}
-use Rattle.std.specs.List.{list_all, list_any}
-use Rattle.std.specs.Str.{all_scalars, chars, encode_utf8_all, IsUtf8}
+use Rattle.std.specs.List.{list_all}
+use Rattle.std.specs.Str.{chars, encode_utf8_all, IsUtf8}
 use Rattle.std.specs.Cmp.Derive.{both_true}
 use Rattle.std.proofs.lemmas.Bool.{and_parts, cases_lt, ne_eqb, or_cases, true≢false}
-use Rattle.std.proofs.lemmas.List.{append-nil}
 use Rattle.std.proofs.lemmas.List.Folds.{list_all-append}
 use Rattle.std.proofs.lemmas.Slice.Eq.{bytes_eq-Decides}
 use Rattle.std.proofs.lemmas.Str.{chars_past_char, encode_ascii}
@@ -16,7 +15,7 @@ use Rattle.dom_nodes.specs.Words.{is_among}
 use Rattle.dom_markup.specs.Bytes.{folded, is_letter, is_name_byte}
 use Rattle.dom_markup.specs.Markup.{IsTagName}
 use Rattle.standard_tokens.specs.PlainMarkup.{is_name, is_name_char, is_tag_name}
-use Rattle.standard_laws.proofs.Encodings.{Encodes, encodes_chars}
+use Rattle.standard_laws.proofs.Encodings.{encodes_chars}
 
 -- ---- bytes
 

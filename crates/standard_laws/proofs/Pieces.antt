@@ -1,8 +1,8 @@
 -- Characters as they are written, and the pieces that they are.
-use Rattle.std.specs.Prelude.{◌≡◌, ℕ, Bool, true, false, not, ◌==◌, ◌&&◌, ◌||◌, List, [], ◌∷◌, ◌++◌, map, codes, encode_utf8, refl}
+use Rattle.std.specs.Prelude.{◌≡◌, ℕ, Bool, true, false, ◌==◌, List, [], ◌∷◌, ◌++◌, map, codes, refl}
 use Rattle.std.proofs.Common.{inl, inr}
 use Rattle.std.specs.List.{flat_map, list_all}
-use Rattle.std.specs.Str.{all_scalars, encode_utf8_all}
+use Rattle.std.specs.Str.{all_scalars}
 use Rattle.std.specs.Cmp.Derive.{both_true}
 use Rattle.std.proofs.lemmas.Bool.{and_parts, cases_Bool, eqb-true}
 use lib.Utf8.{encode, scalar}
@@ -13,7 +13,8 @@ use Rattle.dom_markup.specs.Escaping.{text_char}
 use Rattle.standard_tokens.specs.PlainMarkup.{Piece, Itself, Amp, Lt, Gt, Quot, Nbsp, character, is_plain_piece, is_raw_char, is_text_char, is_value_char, written_piece}
 use Rattle.standard_laws.proofs.Encodings.{Encodes, encodes_each, encodes_one}
 use Rattle.standard_laws.specs.TreeItems.{text_piece}
-use Rattle.standard_laws.specs.Values.{WritesValues, safe_char, safe_piece, value_piece}
+use Rattle.dom_markup.specs.WrittenTrees.{safe_char}
+use Rattle.standard_laws.specs.Values.{WritesValues, safe_piece, value_piece}
 
 -- ---- the five references
 

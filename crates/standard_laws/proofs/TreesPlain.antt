@@ -1,12 +1,12 @@
 -- The items of trees are plain markup.
-use Rattle.std.specs.Prelude.{◌≡◌, ℕ, Bool, true, false, not, ◌&&◌, ◌||◌, List, [], ◌∷◌, ◌++◌, map, bytes_eq, codes, refl, if◌then◌else◌}
+use Rattle.std.specs.Prelude.{◌≡◌, ℕ, Bool, true, false, ◌&&◌, List, [], ◌∷◌, ◌++◌, map, bytes_eq, codes, refl, if◌then◌else◌}
 use Rattle.std.proofs.Common.{inl, inr}
 use Rattle.std.specs.List.{list_all}
 use Rattle.std.specs.Str.{chars, IsUtf8}
 use Rattle.std.specs.Cmp.Derive.{both_true}
 use Rattle.std.proofs.lemmas.Bool.{cases_Bool}
 use Rattle.std.proofs.lemmas.List.Folds.{list_all-append}
-use mathlib.Core.Path.{◌∙◌, sym, ap, subst}
+use mathlib.Core.Path.{◌∙◌, subst}
 use Rattle.dom_nodes.specs.Words.{is_among}
 use Rattle.dom_markup.specs.Bytes.{folded}
 use Rattle.dom_markup.specs.Markup.{IsTagName}
@@ -14,13 +14,13 @@ use Rattle.dom_markup.specs.Names.{Mode, markup, text_of, raw_text_of, mode_in, 
 use Rattle.dom_markup.specs.Plain.{ArePlain, IsPlainIn, IsPlainTrees}
 use Rattle.dom_markup.specs.ValueTrees.{Attribute, ValueTrees}
 use Rattle.dom_markup.specs.ValueTrees.ValueTrees.{no_trees, text_node, comment_node, doctype_node, element_node}
-use Rattle.standard_tokens.specs.PlainMarkup.{TextKind, Rcdata, Rawtext, Script, Piece, Item, CharItem, StartTag, EndTag, TextElement, RawElement, is_letter_name, is_own_char, is_plain_attr, is_plain_item, is_plain_piece, is_raw_char, is_tag_name, is_text_char, is_value_char, lacks_end}
+use Rattle.standard_tokens.specs.PlainMarkup.{Piece, Item, CharItem, EndTag, is_letter_name, is_own_char, is_plain_attr, is_plain_item, is_plain_piece, is_raw_char, is_tag_name, is_text_char, is_value_char, lacks_end}
 use Rattle.standard_laws.proofs.NameChars.{name_chars, of_each, tag_name_chars}
 use Rattle.standard_laws.proofs.Pieces.{plain_all, text_plain_all}
-use Rattle.standard_laws.specs.ReadableTrees.{AreKept, AreReadable, EndsByTag, IsKept, kind_of}
+use Rattle.standard_laws.specs.ReadableTrees.{AreKept, AreReadable, EndsByTag, kind_of}
 use Rattle.standard_laws.specs.TreeItems.{element_items, items_of, own_text, plain_attr, text_piece}
 use Rattle.standard_laws.specs.Values.{WritesValues}
-use Rattle.standard_laws.specs.WrittenTrees.{ValueChar}
+use Rattle.dom_markup.specs.WrittenTrees.{ValueChar}
 
 attrs_plain : (by : ValueChar) (piece : ℕ → Piece) → WritesValues by piece → (attributes : List Attribute) → ArePlain attributes → AreKept attributes →
     list_all is_plain_attr (map (plain_attr piece) attributes) ≡ true

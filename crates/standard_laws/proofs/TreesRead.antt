@@ -1,12 +1,12 @@
 -- What is written of trees is read as their tokens.
-use Rattle.std.specs.Prelude.{◌≡◌, ℕ, Bool, true, false, List, [], ◌∷◌, ◌++◌}
+use Rattle.std.specs.Prelude.{◌≡◌, ℕ, false, [], ◌∷◌, ◌++◌}
 use Rattle.std.specs.List.{flat_map}
 use Rattle.std.specs.Str.{chars}
 use mathlib.Core.Path.{◌∙◌, sym, ap, subst}
 use Rattle.standard_tokens.specs.Laws.{IsReadAnywhere, PlainMarkupIsRead, PlainPagesAreRead, PlainPagesAreReadOneWay}
 use Rattle.standard_tokens.specs.PlainMarkup.{Piece, tokens, written}
 use Rattle.standard_tokens.specs.Reading.{ReadsPage}
-use Rattle.standard_tokens.specs.Tokens.{Token, AnEof}
+use Rattle.standard_tokens.specs.Tokens.{AnEof}
 use Rattle.standard_laws.proofs.Encodings.{chars_are}
 use Rattle.standard_laws.proofs.TreesPlain.{trees_plain}
 use Rattle.standard_laws.proofs.TreesTokens.{trees_tokens}
@@ -15,7 +15,7 @@ use Rattle.standard_laws.specs.TokenLaws.{TreesAreReadAnywhere, TreesAreReadAsPa
 use Rattle.standard_laws.specs.TreeItems.{items_of}
 use Rattle.standard_laws.specs.TreeTokens.{tokens_in}
 use Rattle.standard_laws.specs.Values.{WritesValues}
-use Rattle.standard_laws.specs.WrittenTrees.{ValueChar, text_by}
+use Rattle.dom_markup.specs.WrittenTrees.{ValueChar, text_by}
 
 pub read_anywhere : PlainMarkupIsRead → (by : ValueChar) (piece : ℕ → Piece) → WritesValues by piece → TreesAreReadAnywhere by piece
 read_anywhere law by piece writes f honest top trees plain readable seen answers =

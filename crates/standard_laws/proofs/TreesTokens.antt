@@ -1,21 +1,21 @@
 -- The tokens of trees are those of their items.
-use Rattle.std.specs.Prelude.{◌≡◌, ◌≢◌, ℕ, Bool, true, false, ◌||◌, List, [], ◌∷◌, ◌++◌, map, bytes_eq, refl, if◌then◌else◌}
+use Rattle.std.specs.Prelude.{◌≡◌, ℕ, Bool, false, List, [], ◌∷◌, ◌++◌, map, bytes_eq, refl, if◌then◌else◌}
 use Rattle.std.proofs.Common.{inl, inr}
 use Rattle.std.specs.List.{flat_map, list_any}
 use Rattle.std.specs.Str.{chars, encode_utf8_all, IsUtf8}
 use Rattle.std.proofs.lemmas.Bool.{cases_Bool, or_from, or_parts, true≢false}
 use Rattle.std.proofs.lemmas.Grind.{flat_map-append}
-use Rattle.std.proofs.lemmas.List.{append-nil, append_assoc}
+use Rattle.std.proofs.lemmas.List.{append-nil}
 use Rattle.std.proofs.lemmas.Slice.Eq.{bytes_eq-Decides}
 use mathlib.Core.Path.{◌∙◌, sym, ap, subst}
 use Rattle.dom_nodes.specs.Words.{is_among}
 use Rattle.dom_markup.specs.Markup.{has_name}
-use Rattle.dom_markup.specs.Names.{Mode, markup, text_of, raw_text_of, mode_in, raw_names, text_names, void_names}
+use Rattle.dom_markup.specs.Names.{text_of, raw_text_of, mode_in, raw_names, text_names, void_names}
 use Rattle.dom_markup.specs.Plain.{ArePlain, IsPlainIn, IsPlainTrees}
 use Rattle.dom_markup.specs.ValueTrees.{Attribute, ValueTrees}
 use Rattle.dom_markup.specs.ValueTrees.ValueTrees.{no_trees, text_node, comment_node, doctype_node, element_node}
 use Rattle.standard_tokens.specs.Machine.{distinct, distinct_behind}
-use Rattle.standard_tokens.specs.PlainMarkup.{Piece, Item, CharItem, EndTag, attr_of, character, start_token, tokens}
+use Rattle.standard_tokens.specs.PlainMarkup.{Piece, CharItem, EndTag, attr_of, character, start_token, tokens}
 use Rattle.standard_tokens.specs.Tokens.{Attr, Token, AChar, AComment, AStart, AnEnd}
 use Rattle.standard_laws.proofs.Encodings.{encodes_chars}
 use Rattle.standard_laws.proofs.Pieces.{means_all, text_means_all}
@@ -25,7 +25,7 @@ use Rattle.standard_laws.specs.ReadableTrees.{AreKept, AreReadable}
 use Rattle.standard_laws.specs.TreeItems.{element_items, items_of, own_text, plain_attr, text_piece}
 use Rattle.standard_laws.specs.TreeTokens.{attr_token, doctype_of, start_of, tokens_in}
 use Rattle.standard_laws.specs.Values.{WritesValues}
-use Rattle.standard_laws.specs.WrittenTrees.{ValueChar}
+use Rattle.dom_markup.specs.WrittenTrees.{ValueChar}
 
 -- ---- attributes
 

@@ -1,27 +1,28 @@
 -- The text of trees is that of their items.
-use Rattle.std.specs.Prelude.{◌≡◌, ◌≢◌, ℕ, Bool, true, false, not, ◌&&◌, List, [], ◌∷◌, ◌++◌, map, bytes_eq, codes, encode_utf8, refl, if◌then◌else◌}
+use Rattle.std.specs.Prelude.{◌≡◌, ℕ, Bool, true, false, not, List, [], ◌∷◌, ◌++◌, map, codes, refl, if◌then◌else◌}
 use Rattle.std.proofs.Common.{inl, inr}
-use Rattle.std.specs.List.{flat_map, list_all}
+use Rattle.std.specs.List.{flat_map}
 use Rattle.std.specs.Str.{chars, IsUtf8}
-use Rattle.std.proofs.lemmas.Bool.{cases_Bool, true≢false}
+use Rattle.std.proofs.lemmas.Bool.{cases_Bool}
 use Rattle.std.proofs.lemmas.List.{append-nil, append_assoc}
 use Rattle.std.proofs.lemmas.Grind.{flat_map-append}
 use lib.Utf8.{encode}
 use mathlib.Core.Path.{◌∙◌, sym, ap, subst}
 use Rattle.dom_nodes.specs.Words.{is_among}
 use Rattle.dom_markup.specs.Escaping.{escaped_text}
-use Rattle.dom_markup.specs.Names.{Mode, markup, text_of, raw_text_of, mode_in, raw_names, text_names, void_names}
+use Rattle.dom_markup.specs.Names.{markup, text_of, raw_text_of, mode_in, raw_names, text_names, void_names}
 use Rattle.dom_markup.specs.Plain.{ArePlain, IsPlainIn, IsPlainTrees}
 use Rattle.dom_markup.specs.ValueTrees.{Attribute, ValueTrees}
 use Rattle.dom_markup.specs.ValueTrees.ValueTrees.{no_trees, text_node, comment_node, doctype_node, element_node}
-use Rattle.standard_tokens.specs.PlainMarkup.{Piece, Item, CharItem, EndTag, TextElement, RawElement, PlainAttr, written, written_attr, written_end, written_piece, written_start}
+use Rattle.standard_tokens.specs.PlainMarkup.{Piece, Item, CharItem, EndTag, TextElement, RawElement, written, written_attr, written_end, written_piece, written_start}
 use Rattle.standard_laws.proofs.Encodings.{Encodes, encodes_both, encodes_chars, nothing}
 use Rattle.standard_laws.proofs.NameChars.{of_each}
 use Rattle.standard_laws.proofs.Pieces.{text_encodes, value_encodes}
 use Rattle.standard_laws.specs.ReadableTrees.{AreKept, AreReadable, kind_of}
 use Rattle.standard_laws.specs.TreeItems.{element_items, items_of, own_text, plain_attr, text_piece}
 use Rattle.standard_laws.specs.Values.{WritesValues}
-use Rattle.standard_laws.specs.WrittenTrees.{ValueChar, attr_by, end_by, start_by, text_by}
+use Rattle.dom_markup.specs.Html.{end_tag}
+use Rattle.dom_markup.specs.WrittenTrees.{ValueChar, attr_by, start_by, text_by}
 
 -- ---- text that is the same in both
 
@@ -77,7 +78,7 @@ start_written : (by : ValueChar) (piece : ℕ → Piece) → WritesValues by pie
 start_written by piece writes name utf8 attributes plain kept =
     encodes_both less_is (encodes_both (encodes_chars name utf8) (encodes_both (attrs_written by piece writes attributes plain kept) greater_is))
 
-end_written : (name : List ℕ) → IsUtf8 name → Encodes (written_end (chars name)) (end_by name)
+end_written : (name : List ℕ) → IsUtf8 name → Encodes (written_end (chars name)) (end_tag name)
 end_written name utf8 = encodes_both close_is (encodes_both (encodes_chars name utf8) greater_is)
 
 -- ---- texts
@@ -129,19 +130,19 @@ alone item bytes e = subst (λ cs. Encodes cs bytes) (sym (append-nil (written i
 -- an element, up to its end
 abbrev element_text : ValueChar → List ℕ → List Attribute → ValueTrees → List ℕ
 element_text by name attributes children =
-    start_by by name attributes ++ (if is_among name void_names then [] else text_by by (is_among name raw_names) children ++ end_by name)
+    start_by by name attributes ++ (if is_among name void_names then [] else text_by by (is_among name raw_names) children ++ end_tag name)
 
 element_written : (by : ValueChar) (piece : ℕ → Piece) → WritesValues by piece → (name : List ℕ) → IsUtf8 name → (attributes : List Attribute) → ArePlain attributes → AreKept attributes →
     (children : ValueTrees) → IsPlainIn (mode_in name) children → IsPlainTrees false children → Encodes (flat_map written (items_of piece children)) (text_by by false children) →
     Encodes (flat_map written (element_items piece (mode_in name) name attributes children (items_of piece children))) (element_text by name attributes children)
 element_written by piece writes name utf8 attributes plain kept children inside below inner =
     let start : Encodes (written_start (chars name) (map (plain_attr piece) attributes)) (start_by by name attributes) = start_written by piece writes name utf8 attributes plain kept in
-    let end : Encodes (written_end (chars name)) (end_by name) = end_written name utf8 in
+    let end : Encodes (written_end (chars name)) (end_tag name) = end_written name utf8 in
     elim (cases_Bool (is_among name raw_names)) [
       | inl raw ↦
           let as_raw : IsPlainIn (raw_text_of name) children = subst (λ b. IsPlainIn (if b then raw_text_of name else if is_among name text_names then text_of name else markup) children) raw inside in
           rw (raw, raw_is_no_void name raw)
-          (alone (RawElement (kind_of name) (chars name) (map (plain_attr piece) attributes) (own_text children)) (start_by by name attributes ++ (text_by by true children ++ end_by name))
+          (alone (RawElement (kind_of name) (chars name) (map (plain_attr piece) attributes) (own_text children)) (start_by by name attributes ++ (text_by by true children ++ end_tag name))
           (encodes_both start (encodes_both (raw_written by name children as_raw below) end)))
       | inr no_raw ↦ elim (cases_Bool (is_among name text_names)) [
         | inl text ↦
@@ -149,13 +150,13 @@ element_written by piece writes name utf8 attributes plain kept children inside 
             subst (λ b. IsPlainIn (if b then raw_text_of name else if is_among name text_names then text_of name else markup) children) no_raw inside in
             let as_text : IsPlainIn (text_of name) children = subst (λ b. IsPlainIn (if b then text_of name else markup) children) text once in
             rw (no_raw, text, text_is_no_void name text)
-            (alone (TextElement (chars name) (map (plain_attr piece) attributes) (map text_piece (own_text children))) (start_by by name attributes ++ (text_by by false children ++ end_by name))
+            (alone (TextElement (chars name) (map (plain_attr piece) attributes) (map text_piece (own_text children))) (start_by by name attributes ++ (text_by by false children ++ end_tag name))
             (encodes_both start (encodes_both (text_written by name children as_text below) end)))
         | inr no_text ↦ rw (no_raw, no_text) (elim (cases_Bool (is_among name void_names)) [
           | inl void ↦ rw void (encodes_both start nothing)
           | inr no_void ↦ rw no_void (encodes_both start
-              (subst (λ cs. Encodes cs (text_by by false children ++ end_by name)) (sym (flat_map-append written (items_of piece children) (EndTag (chars name) ∷ [])))
-              (encodes_both inner (alone (EndTag (chars name)) (end_by name) end))))
+              (subst (λ cs. Encodes cs (text_by by false children ++ end_tag name)) (sym (flat_map-append written (items_of piece children) (EndTag (chars name) ∷ [])))
+              (encodes_both inner (alone (EndTag (chars name)) (end_tag name) end))))
         ])
       ]
     ]
@@ -183,7 +184,7 @@ trees_written by piece writes top (element_node name attributes children later) 
     let more : Encodes (flat_map written (items_of piece later)) (text_by by false later) = trees_written by piece writes top later plain.6 readable.4 in
     let element : Encodes (flat_map written (element_items piece (mode_in name) name attributes children (items_of piece children))) (element_text by name attributes children) =
     element_written by piece writes name readable.0 attributes plain.2 readable.1 children plain.4 plain.5 inner in
-    let middle : List ℕ = if is_among name void_names then [] else text_by by (is_among name raw_names) children ++ end_by name in
+    let middle : List ℕ = if is_among name void_names then [] else text_by by (is_among name raw_names) children ++ end_tag name in
     subst (λ cs. Encodes cs (text_by by false (element_node name attributes children later)))
     (sym (flat_map-append written (element_items piece (mode_in name) name attributes children (items_of piece children)) (items_of piece later)))
     (subst (λ bytes. Encodes (flat_map written (element_items piece (mode_in name) name attributes children (items_of piece children)) ++ flat_map written (items_of piece later)) bytes)

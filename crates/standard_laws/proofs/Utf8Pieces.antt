@@ -26,7 +26,8 @@ use Rattle.standard_laws.proofs.CategoryPlaces.{is_inner}
 use Rattle.standard_laws.proofs.CalmPlain.{inner_behind}
 use Rattle.standard_laws.proofs.CalmDocuments.{body_kind, calm_parts, head_kind, html_kind}
 use Rattle.standard_laws.specs.Values.{WritesValues}
-use Rattle.standard_laws.specs.WrittenTrees.{ValueChar, attr_by, end_by, text_by}
+use Rattle.dom_markup.specs.Html.{end_tag}
+use Rattle.dom_markup.specs.WrittenTrees.{ValueChar, attr_by, text_by}
 use Rattle.standard_laws.proofs.Encodings.{Encodes, encodes_chars}
 use Rattle.standard_laws.proofs.Pieces.{text_encodes, value_encodes}
 use Rattle.standard_laws.proofs.CalmReadable.{AreUtf8, HaveUtf8Names, whole}
@@ -105,7 +106,7 @@ text_utf8 : (raw : Bool) (text : List ℕ) → IsUtf8 text → IsUtf8 (if raw th
 text_utf8 true text u = u
 text_utf8 false text u = of_encodes (text_encodes (chars text) (encodes_chars text u).scalars)
 
-end_utf8 : (name : List ℕ) → IsUtf8 name → IsUtf8 (end_by name)
+end_utf8 : (name : List ℕ) → IsUtf8 name → IsUtf8 (end_tag name)
 end_utf8 name u = IsUtf8-append (codes "</") (name ++ codes ">") words.close (IsUtf8-append name (codes ">") u words.greater)
 
 element_utf8 : (by : ValueChar) (piece : ℕ → Piece) → WritesValues by piece → (name : List ℕ) → Known name → (attributes : List Attribute) (children later : ValueTrees) (raw : Bool) → ArePlain attributes →
@@ -113,7 +114,7 @@ element_utf8 : (by : ValueChar) (piece : ℕ → Piece) → WritesValues by piec
     IsUtf8 (text_by by raw (element_node name attributes children later)) → AreUtf8 (element_node name attributes children later)
 element_utf8 by piece writes name known attributes children later raw plain void inner after u =
     let attrs : List ℕ = flat_map (attr_by by) attributes in
-    let middle : List ℕ = if is_among name void_names then [] else text_by by (is_among name raw_names) children ++ end_by name in
+    let middle : List ℕ = if is_among name void_names then [] else text_by by (is_among name raw_names) children ++ end_tag name in
     let rest : List ℕ = middle ++ text_by by raw later in
     let first : IsUtf8 (codes "<" ++ (name ++ (attrs ++ (codes ">" ++ rest)))) =
     subst IsUtf8 (append_assoc (codes "<") (name ++ (attrs ++ codes ">")) rest ∙ ap (λ t. codes "<" ++ t) (append_assoc name (attrs ++ codes ">") rest ∙ ap (λ t. name ++ t) (append_assoc attrs (codes ">") rest))) u in
@@ -123,15 +124,15 @@ element_utf8 by piece writes name known attributes children later raw plain void
     let b : AreUtf8 children × IsUtf8 (text_by by raw later) = by_void (is_among name void_names) refl (utf8_behind (codes ">") rest a.1 words.greater) in
     (a.0, b.0, after b.1)
   where
-    by_void : (x : Bool) → is_among name void_names ≡ x → IsUtf8 ((if x then [] else text_by by (is_among name raw_names) children ++ end_by name) ++ text_by by raw later) →
+    by_void : (x : Bool) → is_among name void_names ≡ x → IsUtf8 ((if x then [] else text_by by (is_among name raw_names) children ++ end_tag name) ++ text_by by raw later) →
         AreUtf8 children × IsUtf8 (text_by by raw later)
     by_void true e k = (subst AreUtf8 (sym (void e)) tt, k)
     by_void false e k =
         let below : List ℕ = text_by by (is_among name raw_names) children in
         let more : List ℕ = text_by by raw later in
-        let parts : IsUtf8 (below ++ (end_by name ++ more)) = subst IsUtf8 (append_assoc below (end_by name) more) k in
+        let parts : IsUtf8 (below ++ (end_tag name ++ more)) = subst IsUtf8 (append_assoc below (end_tag name) more) k in
         let own : IsUtf8 below = utf8_before below 60 (47 ∷ ((name ++ codes ">") ++ more)) (ltb-true 60 128 refl) parts in
-        (inner own, utf8_behind (end_by name) more (utf8_behind below (end_by name ++ more) parts own) (end_utf8 name known.utf8))
+        (inner own, utf8_behind (end_tag name) more (utf8_behind below (end_tag name ++ more) parts own) (end_utf8 name known.utf8))
 
 -- ---- trees in a head or a body
 

@@ -9,4 +9,3 @@ pub mod TokenLaws
 pub mod TreeItems
 pub mod TreeTokens
 pub mod Values
-pub mod WrittenTrees

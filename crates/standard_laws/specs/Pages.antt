@@ -10,8 +10,7 @@ use Rattle.dom_markup.specs.Plain.{IsPlain}
 use Rattle.dom_markup.specs.ValueTrees.{ValueTrees}
 use Rattle.calm_pages.specs.Calm.{IsCalmForest, IsCalmPage}
 use Rattle.standard_laws.specs.CalmTrees.{nodes_of}
-use Rattle.standard_laws.specs.Values.{safe_char}
-use Rattle.standard_laws.specs.WrittenTrees.{text_by}
+use Rattle.dom_markup.specs.WrittenTrees.{safe_char, text_by}
 use Rattle.standard_laws.specs.Parsing.{IsPageOnlyOf}
 
 -- the text is written as HTML is, or as cautious writers do, who escape `<` and `>` in values too
@@ -24,7 +23,7 @@ pub record IsWrittenPage (text : List ℕ) : Type 0 where
   pub page : IsCalmPage text trees
   pub written : IsWrittenOf text trees
 
--- the tree is the one as which the HTML Standard parses the text, and it parses it as no other
+-- the tree is the one as which the HTML Standard parses the text, in no-quirks mode, and it parses it as no other
 pub record IsParsedPage (text : List ℕ) (forest : Forest) : Type 0 where
   pub trees : ValueTrees
   pub is : forest ≡ document_of trees

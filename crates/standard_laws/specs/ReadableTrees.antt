@@ -2,7 +2,7 @@
 use Rattle.std.specs.Prelude.{◌≡◌, ℕ, true, false, List, [], ◌∷◌, codes, bytes_eq, if◌then◌else◌}
 use Rattle.std.specs.List.{list_all}
 use Rattle.std.specs.Str.{chars, IsUtf8}
-use Rattle.dom_markup.specs.Names.{Mode, markup, text_of, raw_text_of, mode_in}
+use Rattle.dom_markup.specs.Names.{Mode, raw_text_of, mode_in}
 use Rattle.dom_markup.specs.ValueTrees.{Attribute, ValueTrees}
 use Rattle.dom_markup.specs.ValueTrees.ValueTrees.{no_trees, text_node, comment_node, doctype_node, element_node}
 use Rattle.standard_tokens.specs.PlainMarkup.{TextKind, Rawtext, Script, is_comment_text, is_raw_char, lacks_end}

@@ -1,5 +1,5 @@
 -- What the laws say.
-use Rattle.std.specs.Prelude.{◌≡◌, ℕ, Bool, true, false, List, [], ◌∷◌, ◌++◌}
+use Rattle.std.specs.Prelude.{◌≡◌, ℕ, Bool, false, List, [], ◌∷◌, ◌++◌}
 use Rattle.std.specs.Str.{chars}
 use Rattle.dom_markup.specs.Plain.{IsPlainTrees}
 use Rattle.dom_markup.specs.ValueTrees.{ValueTrees}
@@ -10,8 +10,7 @@ use Rattle.standard_tokens.specs.Tokens.{Token, AnEof}
 use Rattle.standard_laws.specs.ReadableTrees.{AreReadable}
 use Rattle.standard_laws.specs.TreeItems.{items_of}
 use Rattle.standard_laws.specs.TreeTokens.{tokens_in}
-use Rattle.standard_laws.specs.Values.{WritesValues, safe_char, safe_piece}
-use Rattle.standard_laws.specs.WrittenTrees.{ValueChar, text_by}
+use Rattle.dom_markup.specs.WrittenTrees.{ValueChar, text_by}
 
 -- the tokens of a page of these trees
 abbrev pub page_in : ValueTrees → List Token

@@ -1,5 +1,5 @@
 -- The tokens that value trees represent.
-use Rattle.std.specs.Prelude.{ℕ, Bool, false, List, [], ◌∷◌, ◌++◌, map, None, Some, if◌then◌else◌}
+use Rattle.std.specs.Prelude.{ℕ, false, List, [], ◌∷◌, ◌++◌, map, None, Some, if◌then◌else◌}
 use Rattle.std.specs.Str.{chars}
 use Rattle.dom_nodes.specs.Words.{is_among}
 use Rattle.dom_markup.specs.Names.{void_names}

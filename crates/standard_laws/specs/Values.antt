@@ -1,12 +1,10 @@
 -- Ways to write the characters of a value.
-use Rattle.std.specs.Prelude.{◌≡◌, ℕ, ◌==◌, true, List, [], ◌∷◌, codes, if◌then◌else◌}
+use Rattle.std.specs.Prelude.{◌≡◌, ℕ, ◌==◌, true, List, [], ◌∷◌, if◌then◌else◌}
 use Rattle.std.specs.Str.{all_scalars, encode_utf8_all}
-use Rattle.dom_nodes.specs.Ascii.{double_quote}
-use Rattle.dom_markup.specs.Escaping.{text_char}
 use Rattle.standard_tokens.specs.PlainMarkup.{Piece, Itself, Amp, Quot, Nbsp, character, is_plain_piece, is_raw_char, is_value_char}
 use Rattle.standard_tokens.specs.PlainMarkup.{written_piece}
 use Rattle.standard_laws.specs.TreeItems.{text_piece}
-use Rattle.standard_laws.specs.WrittenTrees.{ValueChar}
+use Rattle.dom_markup.specs.WrittenTrees.{ValueChar}
 
 -- each character is written as a piece that represents it, and that a value in double quotes may contain
 pub record WritesValues (by : ValueChar) (piece : ℕ → Piece) : Type 0 where
@@ -18,9 +16,6 @@ pub record WritesValues (by : ValueChar) (piece : ℕ → Piece) : Type 0 where
 abbrev pub value_piece : ℕ → Piece
 value_piece c = if c == 38 then Amp else if c == 34 then Quot else if c == 160 then Nbsp else Itself c
 
--- as cautious writers do: `<` and `>` are escaped too
-abbrev pub safe_char : ℕ → List ℕ
-safe_char c = if c == double_quote then codes "&quot;" else text_char c
-
+-- where `<` and `>` are escaped in values too
 abbrev pub safe_piece : ℕ → Piece
 safe_piece c = if c == 34 then Quot else text_piece c

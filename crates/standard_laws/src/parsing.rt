@@ -1,12 +1,11 @@
-//! Parsing by the HTML Standard, the tokenizer and tree construction together, and what it makes of
-//! calm documents. The crate has no code that runs: its functions are laws.
+//! What parsing by the HTML Standard, the tokenizer and tree construction together, makes of calm
+//! documents. The crate has no code that runs: its functions are laws.
 
 ghost use Rattle.dom_nodes.specs.Escaping.{value_char};
-ghost use Rattle.standard_laws.specs.Values.{safe_char};
+ghost use Rattle.dom_markup.specs.WrittenTrees.{safe_char};
 ghost use Rattle.standard_laws.specs.Examples.{ImpliedTagsAreParsed, TextStatesAreParsed};
 ghost use Rattle.standard_laws.specs.ParsingLaws.{CalmDocumentsAreParsed, CalmFragmentsAreParsed};
 ghost use Rattle.standard_laws.specs.ParsingLaws.{CalmHtmlIsParsed, CalmPagesAreParsed};
-ghost use Rattle.standard_laws.specs.ParsingLaws.{FragmentsAreParsedOneWay, PagesAreParsedOneWay};
 ghost use Rattle.standard_laws.specs.Pages.{CalmHtmlIsWritten, WrittenPagesAreParsed};
 
 use calm_pages::laws::calm_documents_are_pages;
@@ -14,6 +13,8 @@ use dom_markup::laws::plain::{
     documents_stand_for_their_trees, html_of_trees, one_meaning, plain_reads_back,
     what_is_read_is_plain,
 };
+use standard_agreement::plain_texts_are_parsed;
+pub use standard_trees::one_parse;
 
 /// The HTML of a calm document is parsed as that document (`html`), and so is every calm page that
 /// is written so (`page`) and the HTML of a calm and readable document (`document`). The HTML of
@@ -29,6 +30,7 @@ pub fn calm_html_is_parsed()
     documents_stand_for_their_trees();
     html_of_trees();
     one_meaning();
+    plain_texts_are_parsed();
     what_is_read_is_plain();
 }
 
@@ -40,14 +42,9 @@ pub fn safe_html_is_parsed()
 {
     documents_stand_for_their_trees();
     one_meaning();
+    plain_texts_are_parsed();
     what_is_read_is_plain();
 }
-
-/// A text is parsed as one document at most, and in one context as one fragment at most.
-pub fn one_parse()
-    ensures page { PagesAreParsedOneWay }
-    ensures fragment { FragmentsAreParsedOneWay }
-{}
 
 /// A calm page that is written as `html` writes it, or with `<` and `>` escaped in values too, is
 /// parsed as its document and as no other.

@@ -5,7 +5,8 @@ ghost use Rattle.standard_laws.specs.HtmlLaws.{HtmlIsRead, HtmlIsReadOneWay};
 ghost use Rattle.standard_laws.specs.TokenLaws.{HtmlAnswers, TreesAreReadAnywhere};
 ghost use Rattle.standard_laws.specs.TokenLaws.{TreesAreReadAsPages, TreesAreReadOneWay};
 ghost use Rattle.dom_nodes.specs.Escaping.{value_char};
-ghost use Rattle.standard_laws.specs.Values.{safe_char, safe_piece, value_piece};
+ghost use Rattle.dom_markup.specs.WrittenTrees.{safe_char};
+ghost use Rattle.standard_laws.specs.Values.{safe_piece, value_piece};
 
 use dom_markup::laws::plain::html_of_trees;
 use standard_tokens::laws::{plain_markup, plain_pages};

@@ -1,10 +1,10 @@
 -- Whole pages, and fragments.
-use Rattle.std.specs.Prelude.{◌≡◌, ℕ, suc, true, false, List, [], ◌∷◌, ◌++◌, map, Option, Some, codes, refl}
+use Rattle.std.specs.Prelude.{◌≡◌, ℕ, suc, true, false, List, [], ◌∷◌, ◌++◌, map, Option, None, Some, codes, refl}
 use Rattle.std.specs.List.{list_all}
 use Rattle.std.specs.Option.{option_and_then}
 use Rattle.std.proofs.lemmas.List.{append_assoc}
 use mathlib.Core.Path.{◌∙◌, sym, ap, subst}
-use Rattle.standard_rules.specs.Building.{Building, Open, act, built, built_fragment, children_of, fragment_start, in_found_mode, in_scope, is_space, mode_of, run, start, taken, tree_of, tree_step, with_stack}
+use Rattle.standard_rules.specs.Building.{Building, Open, act, built, built_fragment, children_from, children_of, fragment_start, in_found_mode, in_scope, is_space, mode_of, run, start, taken, tree_of, tree_step, with_stack}
 use Rattle.standard_rules.specs.PlainTrees.{FlowPlace, HeadPlace, IsPlainPage, Page, are_plain, begins_text, flow_contexts, outermost, page_trees, space_node}
 use Rattle.standard_rules.specs.RuleWords.{AfterAfterBody, AfterHead, InBody, InHead, Mode}
 use Rattle.standard_rules.specs.TreeRules.{rules}
@@ -186,39 +186,55 @@ page_built page h = switched_tree start (tokens (page_trees page) ++ AnEof ∷ [
 
 -- ---- fragments
 
-html_only : Open
+abbrev pub html_only : Open
 html_only = record { number = 0; name = codes "html"; attrs = []; children = no_trees }
 
-in_context : List ℕ → Building
+abbrev pub in_context : List ℕ → Building
 in_context context = record start { stack = html_only ∷ []; mode = InBody; next = 1; context = Some context }
 
 eof_built : (b : Building) (os : List Open) → Steps (with_stack (record b { mode = InBody; skip = false }) os) (AnEof ∷ []) (with_stack (record b { mode = InBody; skip = false }) os)
 unfolding tree_step run taken act rules
 eof_built b os = refl
 
--- the same of a fragment
-abbrev pub switched_fragment : List ℕ → List Token → Option Trees
-switched_fragment context fragment = children_of (option_and_then (λ b. switched_steps b (fragment ++ AnEof ∷ [])) (fragment_start context))
+-- behind the end of the file the lowest element has the trees as its children
+pub record FragmentBuilt (context : List ℕ) (t : Trees) : Type 0 where
+  pub after : Building
+  pub steps : Steps (in_context context) (tokens t ++ AnEof ∷ []) after
+  pub stack : after.stack ≡ record html_only { children = t } ∷ []
+  pub document : after.document ≡ no_trees
+
+body_context : (context : List ℕ) → is_among context flow_contexts ≡ true → mode_of (Some context) (codes "html" ∷ []) ≡ Some InBody
+body_context = of_each (λ c. mode_of (Some c) (codes "html" ∷ []) ≡ Some InBody) flow_contexts (refl, (refl, (refl, (refl, (refl, tt)))))
 
 -- plain trees are built as a fragment where the mode is reset to "in body"
-fragment_in : (context : List ℕ) → mode_of (Some context) (codes "html" ∷ []) ≡ Some InBody → (t : Trees) → are_plain (outermost FlowPlace) t ≡ true → switched_fragment context (tokens t) ≡ Some t
-unfolding html_only in_context
-fragment_in context is t h =
+pub fragment_steps : (context : List ℕ) → is_among context flow_contexts ≡ true → (t : Trees) → are_plain (outermost FlowPlace) t ≡ true → FragmentBuilt context t
+fragment_steps context among t h =
     let b : Building = in_context context in
     let p : Open = record html_only { children = t } in
-    let f : InFlow (outer b) (key html_only ∷ []) = record { flow = body; mode = refl; found = is } in
+    let f : InFlow (outer b) (key html_only ∷ []) = record { flow = body; mode = refl; found = body_context context among } in
     let m : Built b html_only [] (tokens t) t = plain_built (outermost FlowPlace) t h b html_only [] (no_and (begins_text t))
     (record { place = (f, refl); bars = record { no_p = λ e. refl; no_a = λ e. refl; no_button = λ e. refl; no_form = λ e. refl } }) (record { skip = refl; fits = none; numbers = refl }) in
     let d : Building = m.after in
     let e : Building = with_stack (record d { mode = InBody; skip = false }) (p ∷ []) in
     let ends : Steps (with_stack d (p ∷ [])) (AnEof ∷ []) e =
     subst (λ (x : Building). Steps (with_stack x (p ∷ [])) (AnEof ∷ []) e) (plain_state d InBody (ap (λ (x : Outer). x.mode) m.kept) m.ready.skip) (eof_built d (p ∷ [])) in
-    ap (λ x. children_of (option_and_then (λ b. switched_steps b (tokens t ++ AnEof ∷ [])) (in_found_mode (record start { stack = html_only ∷ []; next = 1; context = Some context }) x))) is
-    ∙ ap children_of (steps_on b (with_stack d (p ∷ [])) e (tokens t) (AnEof ∷ []) m.steps ends)
+    record { after = e; steps = steps_on b (with_stack d (p ∷ [])) e (tokens t) (AnEof ∷ []) m.steps ends; stack = refl; document = ap (λ (x : Outer). x.document) m.kept }
+
+pub fragment_begins : (context : List ℕ) → is_among context flow_contexts ≡ true → fragment_start context ≡ Some (in_context context)
+fragment_begins context among =
+    ap (in_found_mode (record start { stack = html_only ∷ []; next = 1; context = Some context })) (body_context context among)
+
+-- the nodes of a fragment of these tokens, in which each token whose name has a state switches the tokenizer
+abbrev pub switched_fragment : List ℕ → List Token → Option Trees
+switched_fragment context fragment = children_of (option_and_then (λ b. switched_steps b (fragment ++ AnEof ∷ [])) (fragment_start context))
+
+nodes_built : (e : Building) (t : Trees) → e.stack ≡ record html_only { children = t } ∷ [] → children_of (Some e) ≡ Some t
+nodes_built e t is = ap (λ os. elim os [ [] ↦ None | o ∷ os ↦ Some (children_from o os) ]) is
 
 pub fragment_switched : (context : List ℕ) (t : Trees) → is_among context flow_contexts ≡ true → are_plain (outermost FlowPlace) t ≡ true → switched_fragment context (tokens t) ≡ Some t
-fragment_switched context t h =
-    fragment_in context (of_each (λ c. mode_of (Some c) (codes "html" ∷ []) ≡ Some InBody) flow_contexts (refl, (refl, (refl, (refl, (refl, tt))))) context h) t
+fragment_switched context t among h =
+    let m : FragmentBuilt context t = fragment_steps context among t h in
+    ap (λ o. children_of (option_and_then (λ b. switched_steps b (tokens t ++ AnEof ∷ [])) o)) (fragment_begins context among) ∙ ap children_of m.steps ∙ nodes_built m.after t m.stack
 
 pub fragment_built : (context : List ℕ) (t : Trees) → is_among context flow_contexts ≡ true → are_plain (outermost FlowPlace) t ≡ true → built_fragment context (tokens t) ≡ Some t
 fragment_built context t h plain = switched_children (fragment_start context) (tokens t ++ AnEof ∷ []) t (fragment_switched context t h plain)

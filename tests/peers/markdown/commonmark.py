@@ -8,7 +8,7 @@ first command the script prints a line for each page that is read otherwise and 
 a hundred each kind of thing is the same, for each command. The environment's JOBS says how many pages are compared at once. So with
 other programs beside it:
 
-    commonmark.py 2000 /usr/share/doc "commonmark=hq --md html" "crate=hq --md=crate html" \\
+    commonmark.py 2000 /usr/share/doc "commonmark=hq --charset utf-8 --md html" "crate=hq --charset utf-8 --md=crate html" \\
         "pandoc=pandoc -f html -t gfm --wrap=none --preserve-tabs" "html2text=/usr/bin/python3 -m html2text --body-width=0"
 
 What is compared, of the page and of what is read (both parsed by html5-parser, without elements that a page doesn't show):
@@ -16,9 +16,10 @@ What is compared, of the page and of what is read (both parsed by html5-parser, 
   left out, here and in items, since cmark-gfm reads a box of a task as such only in the first list of a line that isn't in a quote
 - headings: level and text of each, where it has text; headings in headings or in cells of tables of data are text
 - links: for each address, the joined text of all links to it, outside of preformatted text; a link around blocks becomes one for each.
-  A link in a link is text. Of a link to an address of mail the text without that address, since GFM makes links of all of them
+  Links in drawings (`xlink:href`) count, too. A link in a link is text. Of a link to an address of mail the text without that address, since GFM makes links of all of them
 - images: the address of each, and its words, outside of preformatted text
-- code: the text of each block of preformatted text, without a line feed at its end, where it isn't blank
+- code: the text of each block of preformatted text, without a line feed at its end, where it isn't blank. A block in it begins and ends
+  a line, and a tab is between the cells of a row
 - languages: the language of each such block. On the page, it is that of a class `language-x`, `lang-x`, `highlight-source-x` or
   `highlight-x` of the element, of the first element in it or in that, or of the two elements around it
 - items: depth and text of each item of a list, without the text of items in it, where there is some. What is in a list but in no item
@@ -60,6 +61,7 @@ KINDS = ("text", "headings", "links", "images", "code", "languages", "items", "c
 BOXES = {"[x]", "[", "]"}
 LANGUAGE = re.compile(r"(?:language-|lang-|highlight-source-|highlight-)([\w+.#-]+)", re.ASCII)
 NO_LANGUAGE = {"default", "none", "notranslate", "text"}
+BORDER, CELL = object(), object()
 
 
 def tree_of(markup):
@@ -114,6 +116,10 @@ def span(cell):
 def address(text):
     """An address as a browser reads it; readers write some of its characters as %XX."""
     return urllib.parse.unquote("".join(text.strip().translate(LINES)))
+
+
+def href(node):
+    return node.get("href") or node.get("{http://www.w3.org/1999/xlink}href") or ""
 
 
 def image_of(node):
@@ -200,7 +206,7 @@ class Seen:
             return inside
         if tag == "img":
             self.images += [it for it in [image_of(node)] if it]
-        elif tag == "a" and (node.get("href") or "").strip() and "l" not in inside:
+        elif tag == "a" and href(node).strip() and "l" not in inside:
             self.see_link(node)
             inside += "l"
         elif tag in CODE:
@@ -217,7 +223,7 @@ class Seen:
         return inside
 
     def see_link(self, node):
-        to = address(node.get("href"))
+        to = address(href(node))
         text = "".join(self.outside_of_code(node).split()).replace(to.removeprefix("mailto:") if to.startswith("mailto:") else " ", "")
         if text:
             self.by_address[to] += text
@@ -235,10 +241,28 @@ class Seen:
         return text
 
     def lines(self, node):
-        text = node.text or ""
-        for it in node:
-            text += ("\n" if it.tag == "br" else self.lines(it)) + (it.tail or "")
-        return text.replace("\r\n", "\n").replace("\r", "\n")
+        made, parted = "", False
+        for piece in line_pieces(node):
+            in_line = made and not made.endswith("\n")
+            if piece is BORDER:
+                parted = True
+            elif piece is CELL:
+                made += "\t" if in_line and not parted else ""
+            elif piece:
+                made += "\n" + piece if in_line and parted else piece
+                parted = False
+        return made.replace("\r\n", "\n").replace("\r", "\n")
+
+
+def line_pieces(node):
+    """The texts of preformatted text, with the borders of blocks and of cells in it."""
+    yield node.text or ""
+    for it in node:
+        border = CELL if it.tag in ("td", "th") else BORDER if it.tag in BLOCKS - {"br"} else ""
+        yield border
+        yield from ["\n"] if it.tag == "br" else line_pieces(it)
+        yield BORDER if border is BORDER else ""
+        yield it.tail or ""
 
 
 def difference(one, two, kind):

@@ -4,6 +4,8 @@
     whole_trees.py browsers COUNT SEED      random soups, without scripting, by Chromium and Firefox; left out are those of `is_asked`
     whole_trees.py parse5 COUNT SEED        random soups by parse5 (NODE_PATH: a copy that mend_trees.py made); left out are those with `select` and
                                             what stands in it, whose rules are newer than parse5 7.1.2, and with `search`, which it does not know
+    whole_trees.py files COUNT SEED SIZE FOLDER..   COUNT files `*.html` below the folders, by chance, of at most SIZE bytes, by parse5; left out are
+                                            the same
     whole_trees.py seeds COUNT SEED..       the digests of soups for tests/standard/trees/soups.jsonl, where parse5 has the same trees
     whole_trees.py selects COUNT SEED..     the same of soups with `select`, where Chromium and Firefox have the same trees
 
@@ -85,6 +87,27 @@ def parse5(count, seed):
         print(dict(seen), flush=True)
 
 
+def files(count, seed, size, folders):
+    names = sorted(str(path) for folder in folders for path in pathlib.Path(folder).rglob("*.html") if path.is_file() and not path.is_symlink())
+    names = [name for name in names if pathlib.Path(name).stat().st_size <= size]
+    names = sorted(random.Random(seed).sample(names, min(count, len(names))))
+    seen = collections.Counter()
+    for begin in range(0, len(names), 100):
+        texts = [pathlib.Path(name).read_bytes().decode("utf-8", "replace").removeprefix("\ufeff") for name in names[begin : begin + 100]]
+        tests = [(text, None, False) for text in texts if soups.is_older((text, None))]
+        chosen = [name for name, text in zip(names[begin : begin + 100], texts) if soups.is_older((text, None))]
+        for name, test, (tree, quirks) in zip(chosen, tests, by_parse5(tests)):
+            found = by_rules(*test)
+            seen["pages"] += 1
+            seen["characters"] += len(test[0])
+            if found != (tree, quirks):
+                seen["differ"] += 1
+                ours, theirs = found[0].split("\n"), tree.split("\n")
+                at = next((i for i, (a, b) in enumerate(zip(ours, theirs)) if a != b), 0)
+                print("DIFFERS", name, found[1], ours[at : at + 1], "parse5", quirks, theirs[at : at + 1], flush=True)
+        print(dict(seen), flush=True)
+
+
 def is_asked(test):
     """Browsers and the Standard agree on such texts: Chromium makes processing instructions, Firefox takes `noscript` as with scripting in a
     fragment, and both drop null characters where a fragment is the text of an element."""
@@ -149,6 +172,8 @@ if __name__ == "__main__":
     what, *numbers = sys.argv[1:]
     if what == "rows":
         rows()
+    elif what == "files":
+        files(*map(int, numbers[:3]), numbers[3:])
     elif what in ("seeds", "selects"):
         {"seeds": seeds, "selects": selects}[what](int(numbers[0]), map(int, numbers[1:]))
     else:

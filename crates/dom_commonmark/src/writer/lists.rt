@@ -206,16 +206,27 @@ fn number_in(value: &str) -> u32 {
     }
 }
 
-/// Returns whether a node is a list with children, or a block of which a child is a list.
+/// Returns whether a node is a list with items, or a block of which a child is one.
 fn holds_list(node: &NodeRef<'_>, tag: Tag) -> bool {
     if is_list(node) {
-        return node.first_child().is_some();
+        return has_items(node);
     }
     if tag != Tag::Block {
         return false;
     }
     for child in node.children_it(false) {
-        if is_list(&child) {
+        if is_list(&child) && has_items(&child) {
+            return true;
+        }
+    }
+    false
+}
+
+/// Returns whether a child of a list is an item, a list or an element around items.
+fn has_items(list: &NodeRef<'_>) -> bool {
+    for child in list.children_it(false) {
+        let tag = tag_of(&child);
+        if tag == Tag::Item || is_list(&child) || holds_items(&child, tag) {
             return true;
         }
     }

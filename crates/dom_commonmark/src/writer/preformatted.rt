@@ -1,6 +1,7 @@
 //! Preformatted text, as fenced code blocks.
 
 use crate::spans::{longest_run, push_times};
+use crate::tags::{Tag, is_block_tag, tag_named, tag_of};
 use crate::writer::Writer;
 use dom_nodes::fault::OutOfMemory;
 use dom_nodes::node_data::NodeData;
@@ -47,32 +48,148 @@ fn without_end(text: &str) -> &str {
     }
 }
 
-/// Returns the text of preformatted text, with a line feed for each `br`.
+/// A step of the walk through preformatted text.
+#[derive(Clone, Copy)]
+enum Step {
+    Begin(NodeId),
+    End(NodeId),
+}
+
+/// The text of preformatted text, as far as it was read.
+#[derive(Drop)]
+struct Content {
+    text: String,
+    /// A block began or ended after the text.
+    is_parted: bool,
+    /// How many blocks are around the place that was reached.
+    blocks: usize,
+}
+
+/// Returns the text of preformatted text. A block in it begins and ends a line, and a `br` ends
+/// one; tabs are between the cells of a row.
 fn content_of(alloc: Global, node: &NodeRef<'_>) -> Result<String, OutOfMemory> {
-    let mut content = String::new(alloc);
-    for below in node.descendants_it() {
-        push_contents(&mut content, &below)?;
-    }
-    Ok(content)
-}
-
-/// Appends the text of a node that is a text, and a line feed for a `br`.
-fn push_contents(content: &mut String, node: &NodeRef<'_>) -> Result<(), OutOfMemory> {
-    let Some(node) = node.tree.tree_node(&node.id) else {
-        return Ok(());
+    let mut content = Content {
+        text: String::new(alloc),
+        is_parted: false,
+        blocks: 0,
     };
-    match &node.content {
-        NodeData::Text { contents } => push_lines(content, contents.as_str()),
-        NodeData::Element(element) => push_break(content, element.node_name()),
-        _ => Ok(()),
+    let Some(first) = node.first_child() else {
+        return Ok(content.text);
+    };
+    let mut step = Step::Begin(first.id);
+    for _ in 0..u64::MAX {
+        let next = match step {
+            Step::Begin(id) => content.begin(&NodeRef::new(id, node.tree))?,
+            Step::End(id) => content.end(&NodeRef::new(id, node.tree), node.id),
+        };
+        match next {
+            Some(next) => step = next,
+            None => break,
+        }
+    }
+    Ok(content.text)
+}
+
+impl Content {
+    /// Reads the beginning of a node. Returns the next step.
+    fn begin(&mut self, node: &NodeRef<'_>) -> Result<Option<Step>, OutOfMemory> {
+        let Some(tree_node) = node.tree.tree_node(&node.id) else {
+            return Ok(None);
+        };
+        let is_read = match &tree_node.content {
+            NodeData::Text { contents } => {
+                self.push_text(contents.as_str())?;
+                false
+            }
+            NodeData::Element(element) => self.begin_element(tag_named(element.node_name()))?,
+            _ => false,
+        };
+        match tree_node.first_child.get() {
+            Some(first) if is_read => Ok(Some(Step::Begin(first))),
+            _ => Ok(Some(Step::End(node.id))),
+        }
+    }
+
+    /// Begins an element. Returns whether its contents belong to the text.
+    fn begin_element(&mut self, tag: Tag) -> Result<bool, OutOfMemory> {
+        match tag {
+            Tag::Skipped => return Ok(false),
+            Tag::Break => {
+                self.end_line()?;
+                self.text.push('\n')?;
+            }
+            Tag::Cell => self.begin_cell()?,
+            _ => self.begin_block(tag),
+        }
+        Ok(true)
+    }
+
+    /// Begins an element, which may be a block.
+    fn begin_block(&mut self, tag: Tag) {
+        if is_block_tag(tag) {
+            self.is_parted = true;
+            self.blocks = self.blocks.saturating_add(1);
+        }
+    }
+
+    /// Reads the end of a node in preformatted text. Returns the next step, if it isn't the end of
+    /// the whole.
+    fn end(&mut self, node: &NodeRef<'_>, whole: NodeId) -> Option<Step> {
+        if self.blocks > 0 {
+            self.end_block(tag_of(node));
+        }
+        step_after(node, whole)
+    }
+
+    /// Ends an element, which may be a block. Cells go on in the line.
+    fn end_block(&mut self, tag: Tag) {
+        if tag != Tag::Cell && is_block_tag(tag) {
+            self.is_parted = true;
+            self.blocks = self.blocks.saturating_sub(1);
+        }
+    }
+
+    fn push_text(&mut self, text: &str) -> Result<(), OutOfMemory> {
+        if text.is_empty() {
+            return Ok(());
+        }
+        self.end_line()?;
+        push_lines(&mut self.text, text)
+    }
+
+    /// Ends the line where a block begins or ends.
+    fn end_line(&mut self) -> Result<(), OutOfMemory> {
+        if self.is_parted && self.is_in_line() {
+            self.text.push('\n')?;
+        }
+        self.is_parted = false;
+        Ok(())
+    }
+
+    fn begin_cell(&mut self) -> Result<(), OutOfMemory> {
+        if !self.is_parted && self.is_in_line() {
+            self.text.push('\t')?;
+        }
+        Ok(())
+    }
+
+    fn is_in_line(&self) -> bool {
+        !self.text.is_empty() && !self.text.as_str().ends_with('\n')
     }
 }
 
-fn push_break(content: &mut String, name: &str) -> Result<(), OutOfMemory> {
-    if name == "br" {
-        content.push('\n')?;
+/// Returns the step after the end of a node in preformatted text, if it isn't the end of the whole.
+fn step_after(node: &NodeRef<'_>, whole: NodeId) -> Option<Step> {
+    if let Some(next) = node.next_sibling() {
+        return Some(Step::Begin(next.id));
     }
-    Ok(())
+    let Some(above) = node.parent() else {
+        return None;
+    };
+    if above.id == whole {
+        return None;
+    }
+    Some(Step::End(above.id))
 }
 
 /// Appends a text, with line feeds in place of carriage returns, at which readers end lines.

@@ -19,7 +19,7 @@ use Rattle.dom_markup.specs.Markup.{Item, IsTagName, EndsTag, has_name, kept_aft
 use Rattle.dom_markup.specs.Markup.Item.{end_tag as the_end}
 use Rattle.dom_markup.specs.Plain.{HoldsNoClose, IsPlainName, ArePlain, begins_with_text, IsPlainIn, IsPlainTrees, HaveNoIdentifiers}
 use Rattle.dom_markup.proofs.grammar.NameBytes.{above}
-use Rattle.dom_markup.proofs.plain.PlainText.{assoc, tails, bytes_eq-swapped, or_none, none_or, void_not_raw, void_not_text}
+use Rattle.dom_markup.proofs.plain.WrittenTrees.{assoc, tails, bytes_eq-swapped, or_none, none_or, void_not_raw, void_not_text}
 
 -- the texts and values of trees are UTF-8
 abbrev pub ValuesAreUtf8 : List Attribute → Type 0

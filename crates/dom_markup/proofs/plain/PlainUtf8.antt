@@ -20,7 +20,7 @@ use Rattle.dom_markup.specs.Markup.{Item, Fails, IsSpace, after_space, is_bare_b
 use Rattle.dom_markup.specs.Markup.Item.{end_tag as the_end}
 use Rattle.dom_markup.proofs.grammar.ReferenceLemmas.{bare, reference-boundary}
 use Rattle.dom_markup.proofs.html.ReadBack.{decoded-char}
-use Rattle.dom_markup.proofs.plain.PlainText.{void_not_raw, void_not_text}
+use Rattle.dom_markup.proofs.plain.WrittenTrees.{void_not_raw, void_not_text}
 use Rattle.dom_markup.proofs.plain.PlainRead.{ValuesAreUtf8, TextsAreUtf8, small_name, no_second, front_ends}
 
 -- ---- references read

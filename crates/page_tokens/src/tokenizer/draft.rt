@@ -71,12 +71,10 @@ impl TagDraft {
         if self.attr_name.is_empty() {
             return Ok(());
         }
-        let added = self
-            .attrs
-            .add_copy(alloc, self.attr_name.as_str(), self.attr_value.as_str());
-        self.attr_name.clear();
-        self.attr_value.clear();
-        added
+        let (name, value) = self.attrs.at_hand(alloc);
+        let name = mem::replace(&mut self.attr_name, name);
+        let value = mem::replace(&mut self.attr_value, value);
+        self.attrs.add(alloc, name, value)
     }
 
     /// Finishes the tag, stores it in `ended`, and returns `true`; returns `false` if no tag was

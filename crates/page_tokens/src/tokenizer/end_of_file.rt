@@ -1,6 +1,6 @@
 //! The end of the page.
 
-ghost use Rattle.std.specs.Prelude.{◌≡◌, [], None, Some, false, string_bytes};
+ghost use Rattle.std.specs.Prelude.{◌≡◌, [], IfOk, None, Some, false, string_bytes};
 ghost use Rattle.page_tokens.specs.declared.tokenizer.state.State.TheVariants.{Data};
 
 use super::state::{CommentState, DoctypeState, Raw, ScriptState, TagState};
@@ -37,6 +37,7 @@ impl Tokenizer {
     ghost use Rattle.page_tokens.specs.Reading.{IsInText, ReadsNoToken};
     ghost use Rattle.page_tokens.specs.PageEnds.{EndsAsStandard, EndsMark};
     ghost use Rattle.page_tokens.specs.PageEnds.{ended_doctype_of, left_of};
+    ghost use Rattle.page_tokens.specs.TakenTokens.{TakesLast};
     ghost use Rattle.page_tokens.specs.TextStates.{TextGoesOn};
 
     /// Ends the page and returns the comment or doctype that ends with it, if there is one. An
@@ -44,6 +45,7 @@ impl Tokenizer {
     /// memory runs out.
     pub fn end(&mut self) -> Step
         ensures text { IsInText self.old → ReadsNoToken self.old self.new [] result }
+        ensures standard { IfOk result (λ token. TakesLast self.old self.new token) }
     {
         let kind = self.end_kind()?;
         Ok(self.take_token(kind))

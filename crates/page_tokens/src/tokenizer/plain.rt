@@ -1,15 +1,19 @@
 //! The fast path for tags and references in their usual form, which are read in one step: no nulls,
 //! no carriage returns, and in a tag no references. Any other form is read character by character.
 
-ghost use Rattle.std.specs.Prelude.{◌≡◌, ◌<◌, ◌∷◌, ◌++◌, List, ℕ, get_or, true, false};
-ghost use Rattle.std.specs.Prelude.{IfOk, IfSome, OnOk};
+ghost use Rattle.std.specs.Prelude.{◌≡◌, ◌<◌, ◌∷◌, ◌++◌, List, ℕ, get_or, true};
+ghost use Rattle.std.specs.Prelude.{IfOk, IfSome, None, OnOk, false};
+ghost use Rattle.std.specs.List.{prefix_len};
 ghost use Rattle.std.specs.Option.{IsSomeAnd};
+ghost use Rattle.std.specs.Str.{IsCharBoundary};
 ghost use Rattle.standard_tokens.specs.Machine.{is_value};
-ghost use Rattle.page_tokens.specs.FastPaths.{BeginsFrequent};
+ghost use Rattle.page_tokens.specs.FastPaths.{BeginsFrequent, BeginsWithTag, begins_attr_in};
+ghost use Rattle.page_tokens.specs.FastPaths.{is_unquoted_in, spaced_of};
+ghost use Rattle.page_tokens.specs.Runs.{is_space_of};
 ghost use Rattle.page_tokens.specs.Tags.{IsPlainName, written_before};
 
 use super::references::Reference;
-use super::runs::{Run, attr_name_len, run_len, tag_name_len, value_len};
+use super::runs::{Run, attr_name_len, run_len, tag_name_len};
 use super::state::{AttrState, Quote, TagState};
 use super::{State, Tokenizer, append};
 use crate::token::{TagKind, TokenKind};
@@ -29,8 +33,9 @@ pub fn first_byte(text: &str) -> u8
 /// Returns the rest of the text, if it starts with this byte.
 #[inline(always)]
 fn behind(byte: u8, text: &str) -> Option<&str>
-    ensures { (rest : List ℕ) → byte < 128 → text.now ≡ byte ∷ rest →
+    ensures some { (rest : List ℕ) → byte < 128 → text.now ≡ byte ∷ rest →
         IsSomeAnd result (λ left. left.now ≡ rest) }
+    ensures cut { byte < 128 → IfSome result (λ left. text.now ≡ byte ∷ left.now) }
 {
     if first_byte(text) == byte {
         text.get(1..)
@@ -39,87 +44,72 @@ fn behind(byte: u8, text: &str) -> Option<&str>
     }
 }
 
+/// Returns whether a byte is a tab, line feed, form feed or space.
 #[inline(always)]
-fn is_space_byte(byte: u8) -> bool {
+fn is_space_byte(byte: u8) -> bool
+    ensures { result ≡ is_space_of byte }
+{
     matches!(byte, b'\t' | b'\n' | 0xc | b' ')
 }
 
-/// Returns the text without the spaces at its start.
+/// Returns how many spaces come first.
 #[inline(always)]
-fn skip_spaces(text: &str) -> &str {
-    let mut count: usize = 0;
-    for byte in text.as_bytes() {
-        if !is_space_byte(*byte) {
-            break;
+fn spaces_len(text: &str) -> usize
+    ensures boundary { IsCharBoundary text.now result }
+    ensures len { result ≡ prefix_len is_space_of text.now }
+{
+    let bytes = text.as_bytes();
+    for index in 0..bytes.len() {
+        if !is_space_byte(bytes[index]) {
+            return index;
         }
-        count = count.saturating_add(1);
     }
-    text.get(count..).unwrap_or(text)
+    text.len()
 }
 
-/// An attribute in its usual form, and the text after it.
-#[derive(Drop)]
-struct PlainAttr<'a> {
-    name: &'a str,
-    value: &'a str,
-    rest: &'a str,
-}
-
-/// Splits a value off at its closing single quote; the opening one is already read.
-fn quoted_singly(text: &str) -> Option<(&str, &str)> {
-    let (value, rest) = text.split_at(run_len(Run::AttrValue(Quote::Single), text));
-    Some((value, behind(b'\'', rest)?))
-}
-
-/// Splits off an unquoted value.
-fn unquoted(text: &str) -> Option<(&str, &str)> {
-    let (value, rest) = text.split_at(run_len(Run::UnquotedValue, text));
-    let byte = first_byte(rest);
-    if !value.is_empty() && (byte == b'>' || is_space_byte(byte)) {
-        Some((value, rest))
-    } else {
-        None
-    }
-}
-
-/// Splits off the value after an `=`.
+/// Returns the state after spaces in a tag, if the state is one in which spaces may come, which are
+/// no part of the tag.
 #[inline(always)]
-fn plain_value(text: &str) -> Option<(&str, &str)> {
-    if let Some(inner) = behind(b'"', text) {
-        let (value, rest) = inner.split_at(value_len(inner));
-        return Some((value, behind(b'"', rest)?));
-    }
-    match behind(b'\'', text) {
-        Some(inner) => quoted_singly(inner),
-        None => unquoted(text),
+fn after_spaces(state: State) -> Option<State>
+    ensures { result ≡ spaced_of state }
+{
+    match state {
+        State::Tag(TagState::Name)
+        | State::Attribute(AttrState::BeforeName | AttrState::Unquoted | AttrState::AfterQuoted) =>
+            { Some(State::Attribute(AttrState::BeforeName)) }
+        State::Attribute(AttrState::Name | AttrState::AfterName) => {
+            Some(State::Attribute(AttrState::AfterName))
+        }
+        _ => None,
     }
 }
 
-/// Returns the attribute at the start of the text, if it has the usual form.
+/// Returns whether an attribute's name may begin in this state.
 #[inline(always)]
-fn plain_attr(text: &str) -> Option<PlainAttr<'_>> {
-    let (name, rest) = text.split_at(attr_name_len(text));
-    if let Some(written) = behind(b'=', rest) {
-        let (value, rest) = plain_value(written)?;
-        return Some(PlainAttr { name, value, rest });
-    }
-    let rest = skip_spaces(rest);
-    if matches!(first_byte(rest), 0 | b'\r' | b'=' | b'"' | b'\'' | b'<') {
-        return None;
-    }
-    Some(PlainAttr {
-        name,
-        value: "",
-        rest,
-    })
+fn begins_attr(state: State) -> bool
+    ensures { result ≡ begins_attr_in state }
+{
+    matches!(
+        state,
+        State::Attribute(AttrState::BeforeName | AttrState::AfterName | AttrState::AfterQuoted)
+    )
+}
+
+/// Returns whether the state is that of a value without quotes.
+#[inline(always)]
+fn is_unquoted(state: State) -> bool
+    ensures { result ≡ is_unquoted_in state }
+{
+    matches!(state, State::Attribute(AttrState::Unquoted))
 }
 
 /// Returns the kind of a tag and the text from its name on, if a letter follows `<` or `</`.
 #[inline(always)]
 fn tag_begins(text: &str) -> Option<(TagKind, &str)>
-    ensures { (kind : TagKind) (name rest : List ℕ) → IsPlainName name →
+    ensures plain { (kind : TagKind) (name rest : List ℕ) → IsPlainName name →
         text.now ≡ written_before kind name rest → IsSomeAnd result (λ found.
         (found.0 ≡ kind) × (found.1.now ≡ name ++ 62 ∷ rest)) }
+    ensures cut { IfSome result (λ found. BeginsWithTag text.now found.0 found.1.now) }
 {
     let after = behind(b'<', text)?;
     if first_byte(after).is_ascii_alphabetic() {
@@ -166,16 +156,19 @@ fn plain_reference(text: &str) -> Option<(&'static str, &str)>
 }
 
 impl Tokenizer {
-    ghost use Rattle.page_tokens.specs.FastPaths.{FollowsBareTag, FollowsRun, PutsMeant};
+    ghost use Rattle.page_tokens.specs.FastPaths.{FollowsRun, IsOutside, PutsMeant, ReadsAny};
+    ghost use Rattle.page_tokens.specs.FastPaths.{ReadsPlain, begins_with_letter};
     ghost use Rattle.page_tokens.specs.Standard.{AllowsReference};
     ghost use Rattle.page_tokens.specs.StandardStates.{state_of};
     ghost use Rattle.page_tokens.specs.Reading.{IsInText};
-    ghost use Rattle.page_tokens.specs.Tags.{EndsTag, ReadsPlainTag};
+    ghost use Rattle.page_tokens.specs.TagStates.{BeginsAttr};
+    ghost use Rattle.page_tokens.specs.Tags.{EndsTag, ReadsPlainTag, opening};
 
     /// Returns whether the fast path may be taken here.
     #[inline(always)]
     fn is_plain(&self) -> bool
-        ensures { IsInText self.now → self.now.errors ≡ None → result ≡ true }
+        ensures text { IsInText self.now → self.now.errors ≡ None → result ≡ true }
+        ensures outside { result ≡ true → IsOutside self.now }
     {
         self.errors.is_none() && !self.after_return && !self.is_in_reference()
     }
@@ -188,7 +181,9 @@ impl Tokenizer {
         text: &'a str,
         read: &mut Option<TokenKind>,
     ) -> Result<&'a str, AllocError>
-        ensures { ReadsPlainTag self.old self.new text.now read.new result }
+        ensures tag { ReadsPlainTag self.old self.new text.now read.new result }
+        ensures follows { read.old ≡ None →
+            ReadsPlain self.old self.new text.now read.new result }
     {
         if !self.is_plain() {
             return Ok(text);
@@ -198,9 +193,8 @@ impl Tokenizer {
                 Some((kind, named)) => self.read_plain_tag(kind, named, read),
                 None => self.read_plain_reference(text),
             },
-            State::Rcdata | State::Attribute(AttrState::Quoted(_)) => {
-                self.read_plain_reference(text)
-            }
+            State::Rcdata => self.read_plain_reference(text),
+            State::Attribute(AttrState::Quoted(_)) => self.read_plain_reference(text),
             State::Attribute(AttrState::BeforeName | AttrState::AfterQuoted) => {
                 self.read_plain_attrs(text, read)
             }
@@ -239,7 +233,8 @@ impl Tokenizer {
         text: &'a str,
         read: &mut Option<TokenKind>,
     ) -> Result<&'a str, AllocError>
-        ensures follows { FollowsBareTag kind self.old self.new text.now read.new result }
+        ensures follows { IsInText self.old → read.old ≡ None → begins_with_letter text.now ≡ true →
+            ReadsPlain self.old self.new (opening kind ++ text.now) read.new result }
         ensures plain { (name rest : List ℕ) → IsInText self.old → self.old.errors ≡ None →
             IsPlainName name → text.now ≡ name ++ 62 ∷ rest → IfOk result (λ left.
             (left.now ≡ rest) × (read.new ≡ Some TokenKind.Tag)
@@ -252,10 +247,7 @@ impl Tokenizer {
             *read = self.emit_tag()?;
             return Ok(after);
         }
-        if matches!(first_byte(rest), 0 | b'\r') {
-            self.state = State::Tag(TagState::Name);
-            return Ok(rest);
-        }
+        self.state = State::Tag(TagState::Name);
         self.read_plain_attrs(rest, read)
     }
 
@@ -264,51 +256,194 @@ impl Tokenizer {
         &mut self,
         text: &'a str,
         read: &mut Option<TokenKind>,
-    ) -> Result<&'a str, AllocError> {
-        self.state = State::Attribute(AttrState::BeforeName);
-        self.finish_attr()?;
+    ) -> Result<&'a str, AllocError>
+        ensures { read.old ≡ None → ReadsPlain self.old self.new text.now read.new result }
+    {
         let mut rest = text;
         for _ in 0..text.len() {
-            rest = skip_spaces(rest);
-            if let Some(after) = self.plain_end(rest) {
-                *read = self.emit_tag()?;
-                return Ok(after);
+            let left = self.read_tag_part(rest, read)?;
+            if read.is_some() {
+                return Ok(left);
             }
-            let Some(attr) = plain_attr(rest) else {
-                return self.begin_plain_attr(rest);
-            };
-            if attr.name.is_empty() {
-                break;
+            if left.len() >= rest.len() {
+                return Ok(left);
             }
-            self.tag.attrs.add_copy(self.alloc, attr.name, attr.value)?;
-            rest = attr.rest;
+            rest = left;
         }
         Ok(rest)
     }
 
-    /// Starts an attribute whose double-quoted value needs the slow path, and returns the text
-    /// after the opening quote.
-    fn begin_plain_attr<'a>(&mut self, text: &'a str) -> Result<&'a str, AllocError> {
-        let (name, rest) = text.split_at(attr_name_len(text));
-        let Some(inner) = rest.strip_prefix("=\"") else {
+    /// Reads spaces, and then one attribute or the end of the tag.
+    #[inline(always)]
+    fn read_tag_part<'a>(
+        &mut self,
+        text: &'a str,
+        read: &mut Option<TokenKind>,
+    ) -> Result<&'a str, AllocError>
+        ensures { read.old ≡ None → ReadsPlain self.old self.new text.now read.new result }
+    {
+        if !self.is_plain() {
+            return Ok(text);
+        }
+        let rest = self.skip_spaces(text);
+        if let Some(after) = behind(b'>', rest) {
+            return self.read_greater(rest, after, read);
+        }
+        if let Some(after) = behind(b'/', rest) {
+            return self.read_slash(rest, after, read);
+        }
+        self.read_plain_attr(rest)
+    }
+
+    /// Reads spaces in a tag, outside of values in quotes.
+    #[inline(always)]
+    fn skip_spaces<'a>(&mut self, text: &'a str) -> &'a str
+        ensures only { self.new ≡ record self.old { state = self.new.state } }
+        ensures follows { IsOutside self.old →
+            ReadsAny self.old self.new text.now result.now None }
+    {
+        let count = spaces_len(text);
+        if count == 0 {
+            return text;
+        }
+        let Some(state) = after_spaces(self.state) else {
+            return text;
+        };
+        self.state = state;
+        let (_, rest) = text.split_at(count);
+        rest
+    }
+
+    /// Reads the `>` at the start of the text as the end of the tag, if it is one in this state.
+    #[inline(always)]
+    fn read_greater<'a>(
+        &mut self,
+        text: &'a str,
+        after: &'a str,
+        read: &mut Option<TokenKind>,
+    ) -> Result<&'a str, AllocError>
+        ensures { IsOutside self.old → read.old ≡ None → text.now ≡ 62 ∷ after.now →
+            ReadsPlain self.old self.new text.now read.new result }
+    {
+        let Some(_) = after_spaces(self.state) else {
             return Ok(text);
         };
+        *read = self.emit_tag()?;
+        Ok(after)
+    }
+
+    /// Reads the `/` at the start of the text, and a `>` after it, if the tag can end there.
+    fn read_slash<'a>(
+        &mut self,
+        text: &'a str,
+        after: &'a str,
+        read: &mut Option<TokenKind>,
+    ) -> Result<&'a str, AllocError>
+        ensures { IsOutside self.old → read.old ≡ None → text.now ≡ 47 ∷ after.now →
+            ReadsPlain self.old self.new text.now read.new result }
+    {
+        let Some(_) = after_spaces(self.state) else {
+            return Ok(text);
+        };
+        if is_unquoted(self.state) {
+            return Ok(text);
+        }
+        self.state = State::Tag(TagState::SelfClosing);
+        let Some(rest) = behind(b'>', after) else {
+            return Ok(after);
+        };
+        self.tag.self_closing = true;
+        *read = self.emit_tag()?;
+        Ok(rest)
+    }
+
+    /// Reads an attribute, if one begins here.
+    #[inline(always)]
+    fn read_plain_attr<'a>(&mut self, text: &'a str) -> Result<&'a str, AllocError>
+        ensures { IsOutside self.old → FollowsRun self.old self.new text.now result }
+    {
+        let (name, rest) = text.split_at(attr_name_len(text));
         if name.is_empty() {
             return Ok(text);
         }
-        self.tag.attr_name.push_str(name)?;
-        self.state = State::Attribute(AttrState::Quoted(Quote::Double));
-        Ok(inner)
+        if !begins_attr(self.state) {
+            return Ok(text);
+        }
+        self.begin_plain_attr(name)?;
+        let Some(written) = behind(b'=', rest) else {
+            return Ok(rest);
+        };
+        self.state = State::Attribute(AttrState::BeforeValue);
+        self.read_plain_value(written)
     }
 
-    /// Returns the text after the end of the tag, if the tag ends here.
+    /// Starts an attribute with this name, after the one before it is finished.
     #[inline(always)]
-    fn plain_end<'a>(&mut self, text: &'a str) -> Option<&'a str> {
-        if let Some(after) = behind(b'>', text) {
-            return Some(after);
+    fn begin_plain_attr(&mut self, name: &str) -> Result<(), AllocError>
+        ensures place { self.new ≡ record self.old { state = self.new.state; tag = self.new.tag } }
+        ensures state { OnOk result (self.new.state ≡ State.Attribute AttrState.Name) }
+        ensures begins { OnOk result (self.new.refused ≡ false →
+            BeginsAttr self.old self.new name.now) }
+    {
+        self.finish_attr()?;
+        self.state = State::Attribute(AttrState::Name);
+        append(&mut self.tag.attr_name, name)
+    }
+
+    /// Reads the value of an attribute, as far as it is a run of characters.
+    #[inline(always)]
+    fn read_plain_value<'a>(&mut self, text: &'a str) -> Result<&'a str, AllocError>
+        ensures { IsOutside self.old → self.old.state ≡ State.Attribute AttrState.BeforeValue →
+            FollowsRun self.old self.new text.now result }
+    {
+        if let Some(inner) = behind(b'"', text) {
+            self.state = State::Attribute(AttrState::Quoted(Quote::Double));
+            return self.read_plain_quoted(Quote::Double, inner);
         }
-        let after = behind(b'>', behind(b'/', text)?)?;
-        self.tag.self_closing = true;
-        Some(after)
+        if let Some(inner) = behind(b'\'', text) {
+            self.state = State::Attribute(AttrState::Quoted(Quote::Single));
+            return self.read_plain_quoted(Quote::Single, inner);
+        }
+        self.read_plain_unquoted(text)
+    }
+
+    /// Reads a value in quotes, whose opening quote is read, up to what needs another state.
+    fn read_plain_quoted<'a>(&mut self, quote: Quote, text: &'a str) -> Result<&'a str, AllocError>
+        ensures { IsOutside self.old → self.old.state ≡ State.Attribute (AttrState.Quoted quote) →
+            FollowsRun self.old self.new text.now result }
+    {
+        let (value, rest) = text.split_at(run_len(Run::AttrValue(quote), text));
+        if value.is_empty() {
+            return Ok(self.end_plain_quoted(quote, text));
+        }
+        append(&mut self.tag.attr_value, value)?;
+        Ok(self.end_plain_quoted(quote, rest))
+    }
+
+    /// Reads the closing quote of a value, if it comes next.
+    #[inline(always)]
+    fn end_plain_quoted<'a>(&mut self, quote: Quote, text: &'a str) -> &'a str
+        ensures { IsOutside self.old → self.old.state ≡ State.Attribute (AttrState.Quoted quote) →
+            ReadsAny self.old self.new text.now result.now None }
+    {
+        let Some(after) = behind(quote.byte(), text) else {
+            return text;
+        };
+        self.state = State::Attribute(AttrState::AfterQuoted);
+        after
+    }
+
+    /// Reads a value without quotes, up to what ends it or needs another state.
+    fn read_plain_unquoted<'a>(&mut self, text: &'a str) -> Result<&'a str, AllocError>
+        ensures { IsOutside self.old → self.old.state ≡ State.Attribute AttrState.BeforeValue →
+            FollowsRun self.old self.new text.now result }
+    {
+        let (value, rest) = text.split_at(run_len(Run::UnquotedValue, text));
+        if value.is_empty() {
+            return Ok(text);
+        }
+        self.state = State::Attribute(AttrState::Unquoted);
+        append(&mut self.tag.attr_value, value)?;
+        Ok(rest)
     }
 }

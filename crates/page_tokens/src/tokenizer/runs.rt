@@ -242,8 +242,9 @@ impl Tokenizer {
     ghost use Rattle.page_tokens.specs.FastPaths.{CopiesRun, FollowsRun};
     ghost use Rattle.page_tokens.specs.Reading.{IsInText, AddsText};
     ghost use Rattle.page_tokens.specs.Reading.{ReadsNoToken, ReadsRun, ReadsWhole};
-    ghost use Rattle.page_tokens.specs.StandardPages.{ReadsAsStandard};
+    ghost use Rattle.page_tokens.specs.StandardPages.{ReadsAsStandard, ReadsUpTo};
     ghost use Rattle.page_tokens.specs.Tags.{ReadsPlainTag, TakesPlainTag};
+    ghost use Rattle.page_tokens.specs.TakenTokens.{TakesUpTo};
 
     /// Reads a part of a page that contains [`MARKS`] at its end or not at all;
     /// `split_inclusive(MARKS)` splits a page into such parts. Returns the token that ends there,
@@ -261,6 +262,8 @@ impl Tokenizer {
     pub fn read_token<'a>(&mut self, text: &'a str, token: &mut Option<Token>) -> Rest<'a>
         ensures text { ReadsRun self.old self.new text.now token.old token.new result }
         ensures plain_tag { TakesPlainTag self.old self.new text.now token.new result }
+        ensures standard { self.old.errors ≡ None → IfOk result (λ rest.
+            TakesUpTo self.old self.new text.now rest.now token.old token.new) }
     {
         let mut kind = None;
         let rest = self.read_kind(text, &mut kind)?;
@@ -276,6 +279,24 @@ impl Tokenizer {
     pub fn read_kind<'a>(&mut self, text: &'a str, kind: &mut Option<TokenKind>) -> Rest<'a>
         ensures text { ReadsRun self.old self.new text.now kind.old kind.new result }
         ensures plain_tag { ReadsPlainTag self.old self.new text.now kind.new result }
+        ensures standard { self.old.errors ≡ None → IfOk result (λ rest.
+            ReadsUpTo self.old self.new text.now rest.now kind.old kind.new) }
+    {
+        let rest = self.read_next(text, kind)?;
+        if self.refused {
+            return Err(AllocError);
+        }
+        Ok(rest)
+    }
+
+    /// Reads the text up to the end of its first token. That memory ran out for a parse error is
+    /// only remembered.
+    #[inline(always)]
+    fn read_next<'a>(&mut self, text: &'a str, kind: &mut Option<TokenKind>) -> Rest<'a>
+        ensures text { ReadsRun self.old self.new text.now kind.old kind.new result }
+        ensures plain_tag { ReadsPlainTag self.old self.new text.now kind.new result }
+        ensures follows { self.old.errors ≡ None →
+            ReadsAsStandard self.old self.new text.now kind.old kind.new result }
     {
         if self.errors.is_some() {
             return self.read_first(text, kind);
@@ -292,7 +313,8 @@ impl Tokenizer {
 
     /// Reads the text up to the end of a token, without looking for a run at its start.
     fn read_mark<'a>(&mut self, text: &'a str, kind: &mut Option<TokenKind>) -> Rest<'a>
-        ensures { ReadsPlainTag self.old self.new text.now kind.new result }
+        ensures tag { ReadsPlainTag self.old self.new text.now kind.new result }
+        ensures follows { ReadsAsStandard self.old self.new text.now kind.old kind.new result }
     {
         let mut made = None;
         let rest = self.read_front(text, &mut made)?;
@@ -364,18 +386,23 @@ impl Tokenizer {
 
     /// Reads the text up to the end of a token, if one ends in it, or to where tree construction
     /// has to process the characters first.
-    fn read_to_token<'a>(&mut self, text: &'a str, kind: &mut Option<TokenKind>) -> Rest<'a> {
+    fn read_to_token<'a>(&mut self, text: &'a str, kind: &mut Option<TokenKind>) -> Rest<'a>
+        ensures { ReadsAsStandard self.old self.new text.now kind.old kind.new result }
+    {
         let mut made = None;
         let mut rest = text;
         for _ in 0..text.len() {
-            rest = self.read_run(rest)?;
-            if rest.is_empty() || self.wants_characters() {
-                break;
+            let left = self.read_run(rest)?;
+            if left.is_empty() {
+                return Ok(left);
             }
-            rest = self.read_front(rest, &mut made)?;
+            if self.wants_characters() {
+                return Ok(left);
+            }
+            rest = self.read_front(left, &mut made)?;
             if made.is_some() {
                 *kind = made;
-                break;
+                return Ok(rest);
             }
         }
         Ok(rest)
@@ -383,7 +410,9 @@ impl Tokenizer {
 
     /// Reads what has the usual form at the start of the text, or else one character.
     fn read_front<'a>(&mut self, text: &'a str, kind: &mut Option<TokenKind>) -> Rest<'a>
-        ensures { ReadsPlainTag self.old self.new text.now kind.new result }
+        ensures tag { ReadsPlainTag self.old self.new text.now kind.new result }
+        ensures follows { kind.old ≡ None →
+            ReadsAsStandard self.old self.new text.now kind.old kind.new result }
     {
         let rest = self.read_plain(text, kind)?;
         if rest.len() < text.len() {

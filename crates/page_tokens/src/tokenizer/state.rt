@@ -1,6 +1,6 @@
 //! The states of the tokenizer.
 
-ghost use Rattle.std.specs.Prelude.{◌≡◌};
+ghost use Rattle.std.specs.Prelude.{◌≡◌, ◌<◌};
 ghost use Rattle.page_tokens.specs.TagStates.{quote_of};
 
 /// The kinds of text that end at an end tag with the name of the last start tag.
@@ -163,6 +163,17 @@ impl Quote {
         match self {
             Quote::Double => '"',
             Quote::Single => '\'',
+        }
+    }
+
+    /// Returns the quote character as a byte.
+    pub fn byte(self) -> u8
+        ensures is { result ≡ quote_of self }
+        ensures ascii { result < 128 }
+    {
+        match self {
+            Quote::Double => b'"',
+            Quote::Single => b'\'',
         }
     }
 }

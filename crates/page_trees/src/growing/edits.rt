@@ -18,7 +18,7 @@ ghost use Rattle.dom_trees.specs.TreeUnderConstruction.{with_new_element};
 ghost use Rattle.page_trees.specs.Elements.{Grows, IsAround, IsCopy, IsElement, IsFresh, IsInside};
 ghost use Rattle.page_trees.specs.Elements.{IsMade, IsNew, IsRooted};
 ghost use Rattle.page_trees.specs.Foreign.{is_html_annotation};
-ghost use Rattle.page_trees.specs.Insertions.{MakesNext, element_for_tag, with_copy};
+ghost use Rattle.page_trees.specs.Insertions.{MakesNext, element_for_tag, open_for_tag, with_copy};
 ghost use Rattle.page_trees.specs.Insertions.{with_copy_around, with_copy_at};
 ghost use Rattle.page_trees.specs.Insertions.{with_copy_inside, with_element_at};
 ghost use Rattle.page_trees.specs.Insertions.{with_tag_at};
@@ -185,6 +185,7 @@ pub fn put_element(
     requires { IsOpenGap gap tree.old }
     ensures grows { Grows tree.old tree.new }
     ensures element { IfOk result (λ made. IsFresh tree.old tree.new made.id) }
+    ensures shape { IfOk result (λ made. made ≡ open_for_tag ns name tag.now made.id) }
     ensures made { let after = with_tag_at gap ns name tag.now tree.old in
         IfOk result (λ made. MakesNext made.id tree.old tree.new after) }
     ensures rule { (kind : Kind) → IsKind kind (element_for_tag ns name tag.now tree.old) →

@@ -1,7 +1,9 @@
 //! Attributes that later tags add to `html` and to `body`.
 
-ghost use Rattle.std.specs.Prelude.{◌≡◌, ◌==◌, [], IfOk, position};
+ghost use Rattle.std.specs.Prelude.{◌≡◌, ◌==◌, [], ◌∷◌, ◌++◌, IfOk, List, OnOk, position};
 ghost use Rattle.dom_trees.specs.Views.{node_attrs};
+ghost use Rattle.page_tokens.specs.Attributes.{Gains};
+ghost use Rattle.page_trees.specs.LateAttrs.{AddsAbsent, HasNames, Knows};
 
 use crate::attributes::attr_of;
 use crate::fault::PageFault;
@@ -11,7 +13,7 @@ use dom_nodes::node_data::{Attrs, Change};
 use dom_nodes::node_id::NodeId;
 use dom_trees::node_ref::NodeRef;
 use dom_trees::tree::Tree;
-use page_tokens::token::Tag;
+use page_tokens::token::{Tag, TagAttr};
 use std::alloc::Global;
 use std::collections::BTreeSet;
 
@@ -31,11 +33,12 @@ impl LateAttrs {
     pub fn new(tree: &Tree, id: NodeId) -> Result<LateAttrs, PageFault>
         ensures id { IfOk result (λ late. late.id ≡ id) }
         ensures added { IfOk result (λ late. late.added.items ≡ []) }
+        ensures known { IfOk result (λ late. Knows (node_attrs tree.now id) late) }
     {
         let alloc = tree.allocator();
         Ok(LateAttrs {
             id,
-            names: names_of(tree, id)?,
+            names: names_in(alloc, own_attrs(tree, id))?,
             added: Vec::new(alloc),
         })
     }
@@ -49,15 +52,30 @@ impl LateAttrs {
 
     /// Collects those of a tag's attributes whose names the element doesn't have yet. Fails only
     /// when memory runs out.
-    pub fn add(&mut self, alloc: Global, tag: &Tag) -> Result<(), PageFault> {
-        for attr in tag.attrs.as_slice() {
-            if !self.names.contains(attr.name.as_str()) {
-                add_name(&mut self.names, alloc, attr.name.as_str())?;
-                self.added
-                    .push(attr_of(alloc, ElementNamespace::Html, attr)?)?;
-            }
+    pub fn add(&mut self, alloc: Global, tag: &Tag) -> Result<(), PageFault>
+        ensures { (own : List Attr) → Knows own self.old →
+            OnOk result (AddsAbsent own tag.now.attrs.items self.old self.new) }
+    {
+        let mut rest = tag.attrs.as_slice();
+        while let Some((attr, others)) = rest.split_first() {
+            self.add_one(alloc, attr)?;
+            rest = others;
         }
         Ok(())
+    }
+
+    /// Collects an attribute if the element doesn't have its name yet. Fails only when memory runs
+    /// out.
+    fn add_one(&mut self, alloc: Global, attr: &TagAttr) -> Result<(), PageFault>
+        ensures { (own : List Attr) → Knows own self.old →
+            OnOk result (AddsAbsent own (attr.now ∷ []) self.old self.new) }
+    {
+        if self.names.contains(attr.name.as_str()) {
+            return Ok(());
+        }
+        add_name(&mut self.names, alloc, attr.name.as_str())?;
+        let attr = attr_of(alloc, ElementNamespace::Html, attr)?;
+        push(&mut self.added, attr)
     }
 
     /// Adds the collected attributes to the element, after its own. Fails only when memory runs
@@ -147,21 +165,41 @@ fn attrs_at(tree: &Tree, id: NodeId) -> Result<Attrs, PageFault>
     }
 }
 
-/// Returns the names of the attributes of an element.
-fn names_of(tree: &Tree, id: NodeId) -> Result<BTreeSet<String>, PageFault> {
-    let alloc = tree.allocator();
+/// Returns the attributes of an element.
+fn own_attrs(tree: &Tree, id: NodeId) -> &[Attr]
+    ensures { result.now ≡ node_attrs tree.now id }
+{
+    match NodeRef::new(id, tree).element_ref() {
+        Some(element) => element.attrs().as_slice(),
+        None => &[],
+    }
+}
+
+/// Returns the names of attributes. Fails only when memory runs out.
+fn names_in(alloc: Global, attrs: &[Attr]) -> Result<BTreeSet<String>, PageFault>
+    ensures { IfOk result (λ names. HasNames names attrs.now) }
+{
     let mut names = BTreeSet::new(alloc);
-    if let Some(node) = tree.tree_node(&id)
-        && let Some(element) = node.content.as_element()
-    {
-        for attr in element.attrs().as_slice() {
-            add_name(&mut names, alloc, attr.name.local().as_str())?;
-        }
+    let mut rest = attrs;
+    while let Some((attr, others)) = rest.split_first() {
+        add_name(&mut names, alloc, attr.name.local().as_str())?;
+        rest = others;
     }
     Ok(names)
 }
 
-fn add_name(names: &mut BTreeSet<String>, alloc: Global, name: &str) -> Result<(), PageFault> {
+/// Adds a name to the set. Fails only when memory runs out.
+fn add_name(names: &mut BTreeSet<String>, alloc: Global, name: &str) -> Result<(), PageFault>
+    ensures { OnOk result (Gains name.now names.old names.new) }
+{
     names.insert(String::from_str(alloc, name)?)?;
+    Ok(())
+}
+
+/// Appends an attribute. Fails only when memory runs out.
+fn push(attrs: &mut Vec<Attr>, attr: Attr) -> Result<(), PageFault>
+    ensures { OnOk result (attrs.new.items ≡ attrs.old.items ++ attr ∷ []) }
+{
+    attrs.push(attr)?;
     Ok(())
 }

@@ -32,18 +32,6 @@ pub struct Placing {
     pub max_depth: usize,
 }
 
-impl Placing {
-    /// Returns the same without a limit on depth: for texts and comments, which hold nothing.
-    pub fn at_any_depth(self) -> Placing
-        ensures { result ≡ record self { max_depth = usize.MAX } }
-    {
-        Placing {
-            max_depth: usize::MAX,
-            ..self
-        }
-    }
-}
-
 /// A place for a node.
 #[derive(Clone, Copy, Drop)]
 pub enum Place {

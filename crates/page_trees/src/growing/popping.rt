@@ -1,7 +1,8 @@
 //! Removing elements from the stack of open elements and from the list of active formatting
 //! elements. A call that returns a `Result` fails only when memory runs out.
 
-ghost use Rattle.std.specs.Prelude.{◌≡◌, ◌++◌, [], ◌∷◌, IfNone, IfSome, false, remove, take};
+ghost use Rattle.std.specs.Prelude.{◌≡◌, ◌++◌, [], ◌∷◌, IfNone, IfSome, OnOk, false, remove};
+ghost use Rattle.std.specs.Prelude.{take};
 ghost use Rattle.std.specs.Option.{option_to_list};
 ghost use Rattle.standard_trees.specs.GrowingTree.{has_in_scope, implied_of};
 ghost use Rattle.standard_trees.specs.GrowingTree.{popped_until, popped_up_to};
@@ -12,7 +13,7 @@ ghost use Rattle.page_trees.specs.Popping.{before_last, is_a_marker};
 ghost use Rattle.page_trees.specs.Scopes.{has_name, is_name};
 ghost use Rattle.page_trees.specs.Sets.{context_names};
 ghost use Rattle.page_trees.specs.Stands.{Does, Tells, closed_in, popped, popped_if, scope_kind};
-ghost use Rattle.page_trees.specs.Stands.{text_list, without_foreign};
+ghost use Rattle.page_trees.specs.Stands.{text_list, with_marker, without_foreign, without_marker};
 ghost use Rattle.page_trees.specs.declared.name.Name.TheVariants.{Other};
 
 use super::GrowingTree;
@@ -206,14 +207,19 @@ impl GrowingTree {
         self.formatting.push(Entry::Element(open), likeness)
     }
 
-    pub fn push_marker(&mut self) -> Result<(), PageFault> {
-        self.formatting.push(Entry::Marker, 0)
+    pub fn push_marker(&mut self) -> Result<(), PageFault>
+        ensures rule { OnOk result (Does with_marker self.old self.new) }
+        ensures quirks { self.new.quirks ≡ self.old.quirks }
+    {
+        self.formatting.push(Entry::Marker, 0)?;
+        Ok(())
     }
 
     /// Clears the list of active formatting elements up to the last marker.
     pub fn clear_to_marker(&mut self)
-        ensures { let kept = before_last is_a_marker self.old.formatting in
+        ensures kept { let kept = before_last is_a_marker self.old.formatting in
             self.new ≡ record self.old { formatting = kept } }
+        ensures rule { Does without_marker self.old self.new }
     {
         self.formatting.clear_to_marker();
     }

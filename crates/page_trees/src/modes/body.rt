@@ -6,6 +6,7 @@ use crate::builder::{Mode, Next, TreeBuilder};
 use crate::name::Name;
 use crate::sets::{Scope, is_heading};
 use crate::stack::ElementNamespace;
+use dom_trees::quirks::QuirksMode;
 use page_tokens::token::Tag;
 use page_tokens::tokenizer::State;
 
@@ -173,7 +174,7 @@ impl TreeBuilder {
     }
 
     fn start_table(&mut self, tag: &Tag) -> Next {
-        if !self.quirks {
+        if self.quirks != QuirksMode::Quirks {
             self.tree.close(Name::P, Scope::Button);
         }
         self.insert_then(Name::Table, tag, Mode::InTable)

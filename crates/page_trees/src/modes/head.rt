@@ -1,5 +1,15 @@
 //! The modes before the body.
 
+ghost use Rattle.std.specs.Prelude.{◌≡◌, [], ◌∷◌, codes, true};
+ghost use Rattle.standard_trees.specs.RuleWords.{BeforeHead, BeforeHtml, InBody, InHead};
+ghost use Rattle.standard_trees.specs.RuleWords.{InsertElement, InsertNamed, InsertRootNamed};
+ghost use Rattle.standard_trees.specs.RuleWords.{Pop, SetHeadPointer, SetQuirks, SwitchTo};
+ghost use Rattle.page_trees.specs.Constructs.{Performs, PerformsFor, ProcessesTag};
+ghost use Rattle.page_trees.specs.Constructs.{RemembersLimits, is_entered_plainly};
+ghost use Rattle.page_trees.specs.Modes.{is_early_end_name, mode_of};
+ghost use Rattle.page_trees.specs.declared.builder.Next.TheVariants.{Again, Done as IsDone};
+ghost use Rattle.page_trees.specs.declared.name.Name.TheVariants.{Head as HeadName};
+
 use super::groups::is_metadata;
 use super::is_start;
 use crate::builder::{Mode, Next, TreeBuilder};
@@ -9,18 +19,36 @@ use dom_trees::quirks::QuirksMode;
 use page_tokens::token::Tag;
 use page_tokens::tokenizer::State;
 
+/// Returns whether an end tag with that name is processed like anything else before the body.
+fn is_early_end(name: Name) -> bool
+    ensures { result ≡ is_early_end_name name }
+{
+    matches!(name, Name::Head | Name::Body | Name::Html | Name::Br)
+}
+
 impl TreeBuilder {
-    pub fn leave_initial(&mut self) -> Next {
-        self.tree.set_quirks_mode(QuirksMode::Quirks);
-        self.quirks = true;
+    pub fn leave_initial(&mut self) -> Next
+        ensures next { result ≡ Again }
+        ensures limits { RemembersLimits self.old self.new }
+        ensures rule { Performs (SetQuirks ∷ SwitchTo BeforeHtml ∷ []) self.old self.new }
+    {
+        self.quirks = QuirksMode::Quirks;
         self.again_in(Mode::BeforeHtml)
     }
 
-    pub fn imply_html(&mut self) -> Next {
+    pub fn imply_html(&mut self) -> Next
+        ensures next { result ≡ Again }
+        ensures limits { RemembersLimits self.old self.new }
+        ensures rule { let insert = InsertRootNamed (codes "html") in
+            Performs (insert ∷ SwitchTo BeforeHead ∷ []) self.old self.new }
+    {
         self.imply(Name::Html, "html", Mode::BeforeHead)
     }
 
-    pub fn before_html_tag(&mut self, name: Name, tag: &Tag) -> Next {
+    pub fn before_html_tag(&mut self, name: Name, tag: &Tag) -> Next
+        ensures limits { RemembersLimits self.old self.new }
+        ensures rule { ProcessesTag BeforeHtml name tag.now self.old self.new result }
+    {
         if is_start(tag) {
             if name == Name::Html {
                 self.insert_html(tag);
@@ -28,13 +56,18 @@ impl TreeBuilder {
             }
             return self.imply_html();
         }
-        match name {
-            Name::Head | Name::Body | Name::Html | Name::Br => self.imply_html(),
-            _ => Next::Done,
+        if is_early_end(name) {
+            return self.imply_html();
         }
+        Next::Done
     }
 
-    pub fn imply_head(&mut self) -> Next {
+    pub fn imply_head(&mut self) -> Next
+        ensures next { result ≡ Again }
+        ensures limits { RemembersLimits self.old self.new }
+        ensures rule { let insert = InsertNamed (codes "head") in
+            Performs (insert ∷ SetHeadPointer ∷ SwitchTo InHead ∷ []) self.old self.new }
+    {
         self.insert_implied(Name::Head, "head");
         self.tree.set_head();
         self.again_in(Mode::InHead)
@@ -54,7 +87,12 @@ impl TreeBuilder {
         }
     }
 
-    fn start_head(&mut self, tag: &Tag) -> Next {
+    fn start_head(&mut self, tag: &Tag) -> Next
+        ensures next { result ≡ IsDone }
+        ensures limits { RemembersLimits self.old self.new }
+        ensures rule { let rest = SetHeadPointer ∷ SwitchTo InHead ∷ [] in
+            PerformsFor HeadName tag.now (InsertElement ∷ rest) self.old self.new }
+    {
         self.insert(Name::Head, tag);
         self.tree.set_head();
         self.done_in(Mode::InHead)
@@ -69,13 +107,23 @@ impl TreeBuilder {
     }
 
     /// Pops the current node, and reprocesses the token in that mode.
-    pub fn leave_for(&mut self, mode: Mode) -> Next {
+    pub fn leave_for(&mut self, mode: Mode) -> Next
+        ensures next { result ≡ Again }
+        ensures limits { RemembersLimits self.old self.new }
+        ensures rule { is_entered_plainly mode ≡ true →
+            Performs (Pop ∷ SwitchTo (mode_of mode) ∷ []) self.old self.new }
+    {
         self.tree.pop();
         self.again_in(mode)
     }
 
     /// Pops the current node at its end tag, and switches to that mode.
-    pub fn end_in_mode(&mut self, mode: Mode) -> Next {
+    pub fn end_in_mode(&mut self, mode: Mode) -> Next
+        ensures next { result ≡ IsDone }
+        ensures limits { RemembersLimits self.old self.new }
+        ensures rule { is_entered_plainly mode ≡ true →
+            Performs (Pop ∷ SwitchTo (mode_of mode) ∷ []) self.old self.new }
+    {
         self.tree.pop();
         self.done_in(mode)
     }
@@ -166,7 +214,12 @@ impl TreeBuilder {
         }
     }
 
-    pub fn imply_body(&mut self) -> Next {
+    pub fn imply_body(&mut self) -> Next
+        ensures next { result ≡ Again }
+        ensures limits { RemembersLimits self.old self.new }
+        ensures rule { let insert = InsertNamed (codes "body") in
+            Performs (insert ∷ SwitchTo InBody ∷ []) self.old self.new }
+    {
         self.imply(Name::Body, "body", Mode::InBody)
     }
 

@@ -2,7 +2,7 @@ use Rattle.std.proofs.Common.{◌≡◌, ◌∙◌, inl, ℕ, List, false, subst
 use Rattle.dom_links.specs.Forest.{children_of}
 use Rattle.dom_markup.specs.Html.{html_of}
 use Rattle.dom_markup.specs.Markup.{Spells}
-use Rattle.standard_laws.proofs.HtmlRead.{text_same}
+use Rattle.dom_markup.proofs.plain.PlainText.{text_same}
 use Rattle.standard_laws.proofs.parsing.calm_html_is_written.Goals as goal
 
 pub returns : goal.returns

@@ -1,4 +1,5 @@
-use Rattle.standard_laws.specs.Values.{safe_char, safe_piece}
+use Rattle.dom_markup.specs.WrittenTrees.{safe_char}
+use Rattle.standard_laws.specs.Values.{safe_piece}
 use Rattle.standard_laws.proofs.Pieces.{safe_writes_values}
 use Rattle.standard_laws.proofs.TreesRead.{read_anywhere, read_as_pages, read_one_way}
 use Rattle.standard_laws.proofs.tokens.safe_trees_are_read.Goals as goal

@@ -1,4 +1,4 @@
-use Rattle.std.proofs.Common.{ℕ, List, ◌≡◌, [], Result, Ok, Err, OnOk, map, string_bytes, refl, ap, sym}
+use Rattle.std.proofs.Common.{ℕ, List, ◌≡◌, [], Result, Ok, Err, OnOk, map, string_bytes, refl, ap, ◌∙◌}
 use Rattle.std.specs.Char.{to_ascii_lowercase}
 use Rattle.page_tokens.specs.Attributes.{AddsAttr}
 use Rattle.page_tokens.specs.Drafts.{FinishesAttr}
@@ -13,5 +13,5 @@ finishes (Err e) old new only name value adds = tt
 
 pub returns-clause-some : goal.returns-clause-some
 returns-clause-some c some =
-    finishes c.add_copy-added.result c.args.self.now _ refl c.clear.ensures.bytes c.clear-2.ensures.bytes
-    (adds_same c.add_copy-added.result _ _ _ _ _ _ _ refl (ap (map to_ascii_lowercase) c.as_str.ensures.value) c.as_str-2.ensures.value c.add_copy-added.ensures)
+    finishes c.add.result c.args.self.now _ refl (ap (λ t. string_bytes t) c.replace-name.ensures.after ∙ c.at_hand-name.ensures.name) (ap (λ t. string_bytes t) c.replace-value.ensures.after ∙ c.at_hand-name.ensures.value)
+    (adds_same c.add.result _ _ _ _ _ _ _ (ap (λ k. k.items) c.at_hand-name.ensures.kept) (ap (λ t. map to_ascii_lowercase (string_bytes t)) c.replace-name.ensures.value) (ap (λ t. string_bytes t) c.replace-value.ensures.value) c.add.ensures)

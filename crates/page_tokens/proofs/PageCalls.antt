@@ -1,0 +1,135 @@
+-- One call after another, in a page.
+use Rattle.std.specs.Prelude.{◌≡◌, ℕ, ◌+◌, ◌<◌, ◌≤◌, Bool, true, false, List, [], ◌∷◌, ◌++◌, length, Option, None, Some, Result, Ok, Err, IfOk, encode_utf8, refl}
+use Rattle.std.proofs.Common.{arith, inl, inr}
+use Rattle.std.specs.Borrow.{Bor}
+use Rattle.std.specs.Option.{is_some}
+use Rattle.std.specs.Str.{encode_utf8_all}
+use Rattle.std.proofs.lemmas.Bool.{true≢false}
+use Rattle.std.proofs.lemmas.List.{append_assoc, length-append}
+use Rattle.std.proofs.lemmas.Option.{none-some}
+use Rattle.std.proofs.lemmas.Str.{encodes-append}
+use mathlib.Core.Path.{◌∙◌, sym, ap, subst}
+use Rattle.page_tokens.specs.FastPaths.{ReadsAny}
+use Rattle.page_tokens.specs.StandardPages.{ReadsAsStandard, ReadsText, ReadsUpTo, told_or}
+use Rattle.page_tokens.specs.declared.token.TokenKind.{TokenKind}
+use Rattle.page_tokens.specs.declared.tokenizer.Tokenizer.{Tokenizer}
+use Rattle.page_tokens.proofs.AnyState.{outside}
+use Rattle.page_tokens.proofs.AttrFollows.{longer, some_bytes}
+use Rattle.page_tokens.proofs.PageTexts.{MovesOn, moved_on, no_text, then_text, without_returns}
+
+-- ---- the kind of the token
+
+told_alone : (told : Option TokenKind) → told ≡ told_or told None
+told_alone None = refl
+told_alone (Some kind) = refl
+
+none_ends : (told : Option TokenKind) → None ≡ told_or told None → told ≡ None
+none_ends None e = refl
+none_ends (Some kind) e = absurd (none-some kind e)
+
+-- a call that found no kind stored leaves one that is stored
+pub same_kind : (old new : Tokenizer) (text rest : List ℕ) (before : Option TokenKind) → ReadsUpTo old new text rest None None → ReadsUpTo old new text rest before before
+same_kind old new text rest before up = record { read = up.read; told = up.told; cut = up.cut; reads = up.reads; kind = sym (ap (λ k. told_or k before) (none_ends up.told up.kind)) }
+
+pub kept_kind : (old new : Tokenizer) (text rest : List ℕ) (before after : Option TokenKind) → after ≡ before → ReadsUpTo old new text rest None None → ReadsUpTo old new text rest before after
+kept_kind old new text rest before after kept up = subst (λ k. ReadsUpTo old new text rest before k) (sym kept) (same_kind old new text rest before up)
+
+-- and replaces it when a token ended
+pub new_kind : (old new : Tokenizer) (text rest : List ℕ) (made before : Option TokenKind) (some : Bool) → some ≡ is_some made → some ≡ true → ReadsUpTo old new text rest None made → ReadsUpTo old new text rest before made
+new_kind old new text rest None before some is ended up = absurd (true≢false (sym ended ∙ is))
+new_kind old new text rest (Some kind) before some is ended up = record { read = up.read; told = up.told; cut = up.cut; reads = up.reads; kind = up.kind ∙ of up.told up.kind }
+  where
+    of : (told : Option TokenKind) → Some kind ≡ told_or told None → told_or told None ≡ told_or told before
+    of None e = absurd (none-some kind (sym e))
+    of (Some other) e = refl
+
+pub no_kind : (made : Option TokenKind) (some : Bool) → some ≡ is_some made → some ≡ false → made ≡ None
+no_kind None some is no_some = refl
+no_kind (Some kind) some is no_some = absurd (true≢false (sym is ∙ no_some))
+
+-- ---- one call after another
+
+pub up_to_on : (a b c : Tokenizer) (text mid rest : List ℕ) (before after : Option TokenKind) → ReadsUpTo a b text mid None None → ReadsUpTo b c mid rest before after → ReadsUpTo a c text rest before after
+up_to_on a b c text mid rest before after first second = record {
+  read = first.read ++ second.read;
+  told = second.told;
+  cut = first.cut ∙ ap (λ e. encode_utf8_all first.read ++ e) second.cut ∙ sym (append_assoc (encode_utf8_all first.read) (encode_utf8_all second.read) rest)
+      ∙ ap (λ e. e ++ rest) (sym (encodes-append first.read second.read));
+  reads = then_text a b c first.read second.read second.told (subst (λ k. ReadsText a b first.read k) (none_ends first.told first.kind) first.reads) second.reads;
+  kind = second.kind;
+}
+
+-- the same where memory may run out
+pub then_up_to : (a b c : Tokenizer) (text mid rest : List ℕ) (before after : Option TokenKind) → (b.refused ≡ false → ReadsUpTo a b text mid None None) → (c.refused ≡ false → ReadsUpTo b c mid rest before after) → c.refused ≡ false → ReadsUpTo a c text rest before after
+then_up_to a b c text mid rest before after first second free =
+    let more : ReadsUpTo b c mid rest before after = second free in
+    up_to_on a b c text mid rest before after (first more.reads.memory) more
+
+pub nothing_up_to : (old : Tokenizer) (text : List ℕ) → old.refused ≡ false → ReadsUpTo old old text text None None
+nothing_up_to old text free = record { read = []; told = None; cut = refl; reads = no_text old free; kind = refl }
+
+-- ---- what is read at once
+
+pub any_up_to : (old mid new : Tokenizer) (text rest : List ℕ) (told before after : Option TokenKind) → MovesOn mid new → before ≡ None → after ≡ told → ReadsAny old mid text rest told → new.refused ≡ false → ReadsUpTo old new text rest before after
+any_up_to old mid new text rest told before after moves none after_is (inl same) free =
+    let memory : old.refused ≡ false = sym (ap (λ t. t.refused) moves ∙ ap (λ t. t.refused) same.1) ∙ free in
+    record {
+      read = [];
+      told = None;
+      cut = sym same.0;
+      reads = moved_on old mid new [] None moves (subst (λ t. ReadsText old t [] None) (sym same.1) (no_text old memory));
+      kind = after_is ∙ same.2 ∙ sym none;
+    }
+any_up_to old mid new text rest told before after moves none after_is (inr front) free = record {
+  read = front.read;
+  told = told;
+  cut = front.cut;
+  reads = moved_on old mid new front.read told moves (without_returns old mid front.read told front.fresh front.no_return (outside old mid front.read told front.outside (front.follows (sym (ap (λ t. t.refused) moves) ∙ free))));
+  kind = after_is ∙ told_alone told ∙ ap (told_or told) (sym none);
+}
+
+pub run_up_to : (old new : Tokenizer) (text rest : List ℕ) → ReadsAny old new text rest None → new.refused ≡ false → ReadsUpTo old new text rest None None
+run_up_to old new text rest any free = any_up_to old new new text rest None None None refl refl refl any free
+
+-- where nothing was read, nothing changed
+pub unread : (old new : Tokenizer) (text rest : List ℕ) (told : Option TokenKind) → length text ≤ length rest → ReadsAny old new text rest told → (new ≡ old) × (told ≡ None)
+unread old new text rest told long (inl same) = (same.1, same.2)
+unread old new text rest told long (inr front) = absurd (omega (arith, long, shorter))
+  where
+    some : (cs : List ℕ) → 0 < length cs → 0 < length (encode_utf8_all cs)
+    some [] h = absurd (omega (arith, h))
+    some (c ∷ cs) h = longer (encode_utf8 c) (encode_utf8_all cs) (some_bytes c)
+
+    shorter : length rest < length text
+    shorter =
+        let h : 0 < length (encode_utf8_all front.read) = some front.read front.some in
+        let e : length text ≡ length (encode_utf8_all front.read) + length rest = ap length front.cut ∙ length-append (encode_utf8_all front.read) rest in
+        omega (arith, h, e)
+
+-- a call that reads one character where nothing was read at once
+pub unread_up_to : (old mid new : Tokenizer) (text left rest : List ℕ) (told before between after : Option TokenKind) → length text ≤ length left → ReadsAny old mid text left told → before ≡ None → between ≡ told →
+    (between ≡ None → new.refused ≡ false → ReadsUpTo mid new text rest between after) → new.refused ≡ false → ReadsUpTo old new text rest before after
+unread_up_to old mid new text left rest told before between after long any none between_is reads free =
+    let same : (mid ≡ old) × (told ≡ None) = unread old mid text left told long any in
+    subst (λ t. ReadsUpTo t new text rest before after) same.0
+    (subst (λ k. ReadsUpTo mid new text rest k after) (between_is ∙ same.1 ∙ sym none) (reads (between_is ∙ same.1) free))
+
+-- ---- of a call's result
+
+pub unread_arm : {E : Type 0} (old mid new : Tokenizer) (text left : List ℕ) (told before between after : Option TokenKind) (r : Result (Bor (List ℕ)) E) → length text ≤ length left → ReadsAny old mid text left told → before ≡ None →
+    between ≡ told → (between ≡ None → ReadsAsStandard mid new text between after r) → ReadsAsStandard old new text before after r
+unread_arm old mid new text left told before between after (Ok rest) long any none between_is reads = unread_up_to old mid new text left rest.now told before between after long any none between_is reads
+unread_arm old mid new text left told before between after (Err e) long any none between_is reads = tt
+
+-- a call that reads on, where no token was told before
+pub then_arm : {E : Type 0} (a b c : Tokenizer) (text mid : List ℕ) (made before after : Option TokenKind) (r : Result (Bor (List ℕ)) E) → made ≡ None → (b.refused ≡ false → ReadsUpTo a b text mid None made) → ReadsAsStandard b c mid before after r →
+    ReadsAsStandard a c text before after r
+then_arm a b c text mid made before after (Ok rest) none first second = then_up_to a b c text mid rest.now before after (λ free. subst (λ k. ReadsUpTo a b text mid None k) none (first free)) second
+then_arm a b c text mid made before after (Err e) none first second = tt
+
+-- the same of a call that is told that no token was before
+pub front_up_to : (a b c : Tokenizer) (text mid rest : List ℕ) (was made : Option TokenKind) → was ≡ None → (b.refused ≡ false → ReadsUpTo a b text mid None None) → (c.refused ≡ false → ReadsUpTo b c mid rest was made) → c.refused ≡ false → ReadsUpTo a c text rest None made
+front_up_to a b c text mid rest was made none first second = then_up_to a b c text mid rest None made first (subst (λ k. c.refused ≡ false → ReadsUpTo b c mid rest k made) none second)
+
+pub none_made : (a b : Tokenizer) (text rest : List ℕ) (made : Option TokenKind) → made ≡ None → ReadsUpTo a b text rest None made → ReadsUpTo a b text rest None None
+none_made a b text rest made none up = subst (λ k. ReadsUpTo a b text rest None k) none up
