@@ -18,7 +18,6 @@ mod EndTagSteps
 mod FollowsOn
 mod Fronts
 mod IdRuns
-mod LaneLemmas
 mod LongestNames
 mod Lowered
 mod MarkEnds

@@ -6,7 +6,7 @@ use Rattle.std.specs.Simd.Lanes.{zip2, sel_l, mask_l, top}
 use lib.Count.{count_trailing_zeros}
 use Rattle.std.proofs.lemmas.Bool.{cases_Bool}
 use Rattle.std.proofs.lemmas.Simd.{bitmask_splat, first_set_mask_l, length-zip2, get_or-zip2, get_or-replicate, length-replicate, length-sel_l, get_or-sel_l, tops_compared}
-use Rattle.page_tokens.specs.Lanes.{HasLanes, Marks}
+use Rattle.byte_lanes.specs.Lanes.{HasLanes, Marks}
 
 -- an operator on two vectors
 pub HasLanes-zip2 : (f : ℕ → ℕ → ℕ) (a b : List ℕ) → length a ≡ 16 → length b ≡ 16 → HasLanes (zip2 f a b) (λ k. f (get_or a k 0) (get_or b k 0))
