@@ -1,5 +1,6 @@
 mod EditCauses
 pub mod Enclosing
+mod GroupRules
 mod HeldNumbers
 mod KindLemmas
 mod MadeNodes
