@@ -19,6 +19,7 @@ mod FollowsOn
 mod Fronts
 mod IdRuns
 mod LaneLemmas
+mod LastSteps
 mod LongestNames
 mod Lowered
 mod MarkEnds
@@ -40,6 +41,7 @@ mod PlainSpaces
 mod PlainTags
 mod RawEndTags
 mod RawTexts
+mod ReadAhead
 mod ReferenceEnds
 mod ReferenceStops
 mod RepeatedAttributes
@@ -62,4 +64,5 @@ mod TagNames
 mod TagOpens
 mod TagSteps
 mod TextFollows
+mod WholePages
 mod WordSteps
