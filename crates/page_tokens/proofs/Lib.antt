@@ -36,6 +36,7 @@ mod PageTexts
 mod PlaceLetters
 mod Placed
 mod PlainAttrs
+mod PlainNames
 mod PlainReferences
 mod PlainSpaces
 mod PlainTags

@@ -2,6 +2,7 @@
 
 ghost use Rattle.page_tokens.specs.PageLaws.{CharactersAreTold, PagesBegin, PagesEnd};
 ghost use Rattle.page_tokens.specs.PageLaws.{PiecesAreOneText, TextsAreRead, TokensAreRead};
+ghost use Rattle.page_tokens.specs.PlainNames.{NamesArePlain};
 ghost use Rattle.page_tokens.specs.SameNames.{TablesAreTheSame};
 
 /// The tokenizer knows the same named character references as the definition of the HTML Standard's
@@ -26,4 +27,10 @@ pub fn pages()
     ensures characters { CharactersAreTold }
     ensures tokens { TokensAreRead }
     ensures end { PagesEnd }
+{}
+
+/// The names of tags and of their attributes contain no white space, no `/`, no `>` and no ASCII
+/// upper-case letter, whatever page is read, and whatever tree construction answers.
+pub fn names()
+    ensures { NamesArePlain }
 {}
