@@ -18,6 +18,7 @@ mod EndTagSteps
 mod FollowsOn
 mod Fronts
 mod IdRuns
+mod LastSteps
 mod LongestNames
 mod Lowered
 mod MarkEnds
@@ -34,11 +35,13 @@ mod PageTexts
 mod PlaceLetters
 mod Placed
 mod PlainAttrs
+mod PlainNames
 mod PlainReferences
 mod PlainSpaces
 mod PlainTags
 mod RawEndTags
 mod RawTexts
+mod ReadAhead
 mod ReferenceEnds
 mod ReferenceStops
 mod RepeatedAttributes
@@ -61,4 +64,5 @@ mod TagNames
 mod TagOpens
 mod TagSteps
 mod TextFollows
+mod WholePages
 mod WordSteps

@@ -2,9 +2,9 @@
 use Rattle.std.specs.Prelude.{◌≡◌, ℕ, ◌==◌, Bool, true, false, cond, List, [], ◌∷◌, ◌++◌, map, Option, None, Some, Result, IfOk}
 use Rattle.std.specs.Borrow.{Bor}
 use Rattle.std.specs.Str.{encode_utf8_all}
-use Rattle.standard_tokens.specs.Machine.{Machine, at_state, normalized, normalized_behind, start, start_in}
+use Rattle.standard_tokens.specs.Machine.{Machine, at_state, normalized, normalized_behind, start, start_in, step}
 use Rattle.standard_tokens.specs.Reading.{Feedback, Reads, reader}
-use Rattle.standard_tokens.specs.States.{State as StandardState}
+use Rattle.standard_tokens.specs.States.{State as StandardState, Data as DataState}
 use Rattle.standard_tokens.specs.Tokens.{Token as StandardToken, AChar}
 use Rattle.page_tokens.specs.declared.token.TokenKind.{TokenKind}
 use Rattle.page_tokens.specs.declared.tokenizer.Tokenizer.{Tokenizer}
@@ -32,6 +32,23 @@ line_end_of c = cond (c == 13) 10 c
 
 -- ---- a text
 
+-- the token is emitted by the last step, which leads to the data state
+pub record EmitsLast (foreign : Bool) (m : Machine) (text characters : List ℕ) (token : StandardToken) (n : Machine) (rest : List ℕ) :
+    Type 0 where
+  pub before : Machine
+  pub left : List ℕ
+  pub goes : Goes foreign m text (map AChar characters) before left
+  pub runs : (step foreign before left).stopped ≡ false
+  pub tokens : (step foreign before left).tokens ≡ token ∷ []
+  pub machine : (step foreign before left).machine ≡ n
+  pub rest_is : (step foreign before left).rest ≡ rest
+  pub leads : n.state ≡ DataState
+
+-- behind the characters a token is emitted by the last step, or there is none
+abbrev pub Finishes : Bool → Machine → List ℕ → List ℕ → List StandardToken → Machine → List ℕ → Type 0
+Finishes foreign m text characters [] n rest = Unit {0}
+Finishes foreign m text characters (token ∷ tokens) n rest = EmitsLast foreign m text characters token n rest
+
 -- Behind a call that reads characters as they stand in the page: a carriage return, with or without a line feed, is one line feed.
 pub record BehindText (old new : Tokenizer) (read : List ℕ) (told : Option TokenKind) (m : Machine) (ahead rest : List ℕ) : Type 0 where
   pub machine : Machine
@@ -39,6 +56,8 @@ pub record BehindText (old new : Tokenizer) (read : List ℕ) (told : Option Tok
   pub characters : List ℕ
   pub tokens : List StandardToken
   pub goes : Goes old.in_foreign m (ahead ++ normalized_behind old.after_return (read ++ rest)) (map AChar characters ++ tokens) machine
+      (ahead' ++ normalized_behind new.after_return rest)
+  pub last : Finishes old.in_foreign m (ahead ++ normalized_behind old.after_return (read ++ rest)) characters tokens machine
       (ahead' ++ normalized_behind new.after_return rest)
   pub holds : Holds new ahead' machine
   pub text : text_of new ≡ text_of old ++ encode_utf8_all characters
