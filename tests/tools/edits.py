@@ -16,8 +16,10 @@ do, and it is reported as one elsewhere.
 `edits.py [CRATE ..]` tries the edits of these crates, or of all, with the libraries that are built in the workspace, but for those
 that were refused before over the same files: on any machine, as tests/must-fail/refused.txt says, or on this one, where it keeps what
 was refused, as `rt ci` does. `--anew` tries all again. `--record` writes refused.txt: what was refused now or before over the same
-files, and nothing else. A line of it is the name of an edit and a checksum of the edit, of the kit, of the crate's files, and of the
-sources and definitions of the crates below it; proofs below aren't read by a check. A library
+files, and nothing else. A line of it is the name of an edit and a checksum of the edit, of the kit, and of what its trial reads: of
+the crate the definitions, the lemmas, the contracts, and the bodies and answers of the functions that it turns; of the crates below
+the definitions, and the sources without bodies, private functions and comments. What is refused over the whole crate alone is
+refused of all the crate's files. A library
 says the paths of its public functions alone. With `--log=FILE`, the output of a gate that proved the crates, those of the
 others are known, too; without it, an edit of another function is tried over the whole crate, which takes minutes."""
 import functools
@@ -45,10 +47,14 @@ RECORD = EDITS / "refused.txt"
 HEAD = re.compile(r'(\s*)(?:pub(?:\([^)]*\))? )?(?:const )?(?:unsafe )?(?:extern "C" )?fn (\w+)')
 NOTE = re.compile(r"(?:note: )?(?:\./)?(src/\S+?):(\d+):\d+: ")
 IMPL = re.compile(r"impl\b(?:<(.*?)>)? (?:(\w+)(?:<(?:'\w+,? ?)*&?(\w*).*>)? for )?(\w+)")
+ELSEWHERE = "elsewhere"
 HOLE = "use Rattle.{0}.Statement.{{statement}}\n\npub {1}_spec : {{M : Type 1}} → statement M\n{1}_spec = ?\n"
 FUNCTION = re.compile(r"fn (\S+): (?:no proof|not proved)")
 CYCLE = re.compile(r"\s*#\[cycle\((\w+)\)")
 CALLS = re.compile(r"it calls `.*`, which (?:is|are) not proved|a call of `.*`, which has no proof")
+# what begins a block of functions, and the names of the files of one function's proof alone
+BLOCK = re.compile(r"\s*(?:pub )?(?:unsafe )?(?:impl|trait)\b")
+OF_ONE = {"Answers.antt", "Invariants.antt", "Proof.antt"}
 OWN = re.compile(r"did not prove `|it stands on `")
 STANDS = re.compile(r"`Rattle\.\w+\.proofs\.([^`]+)`")
 MET = r'"(?:part/)?Rattle-{0}-proofs\.([\w.]+)\.Met"'
@@ -234,11 +240,55 @@ def name_of_functions(crate):
     return hashlib.sha256(repr((crate.name, "functions", [it.read_bytes() for it in files])).encode()).hexdigest()
 
 
-def sum_of_files(folder, parts):
-    """A checksum of the files in these parts of a crate's folder."""
-    files = sorted(file for part in parts for file in pathlib.Path(folder, part).rglob("*") if file.is_file())
-    read = [(str(file.relative_to(folder)), hashlib.sha256(file.read_bytes()).hexdigest()) for file in files]
+def seen_inside(text, kept):
+    """What a trial reads of a source of its own crate: no comment, and no body but those of the functions at the lines kept."""
+    return [line for line in without_bodies(text, kept)[0].split("\n") if line.strip() and not line.lstrip().startswith("//")]
+
+
+def seen_outside(text):
+    """What a check of a crate above reads of a source: no comment, no body, and no private function but those of a trait."""
+    lines, seen, hidden, is_shown = seen_inside(text, set()), [], -1, False
+    if "macro_rules!" in text:
+        return text
+    for at, line in enumerate(lines):
+        if BLOCK.match(line):
+            is_shown = " for " in line or not line.endswith("{") or "trait " in line
+        if at > hidden and HEAD.match(line) and not (is_shown or line.lstrip().startswith("pub ") or " const fn" in f" {line}"):
+            hidden = function_at(lines, at)[2]
+        if at > hidden:
+            seen.append(line)
+    return seen
+
+
+def sum_of(read):
+    """A checksum of what can be printed."""
     return hashlib.sha256(repr(read).encode()).hexdigest()
+
+
+def texts_in(folder, part):
+    """The texts of the files in a part of a crate's folder, each with its path there."""
+    files = sorted(it for it in pathlib.Path(folder, part).rglob("*") if it.is_file())
+    return [(str(it.relative_to(folder)), it.read_text(encoding="utf-8")) for it in files]
+
+
+def sum_below(folder):
+    """A checksum of what the crates above read of the crate in this folder."""
+    return sum_of([[(path, seen_outside(text)) for path, text in texts_in(folder, "src")], texts_in(folder, "specs")])
+
+
+def sum_of_trial(folder, edit):
+    """A checksum of what the trial of an edit of functions reads of its crate."""
+    kept = {place[1] for place in edit.places}
+    turned = {place[0] for place in edit.places}
+    src = [(path, seen_inside(text, kept if path == edit.path else set())) for path, text in texts_in(folder, "src")]
+    is_read = lambda path: path.name not in OF_ONE or not turned.isdisjoint(path.parts) or "+" in str(path)
+    proofs = [(path, text) for path, text in texts_in(folder, "proofs") if is_read(pathlib.Path(path))]
+    return sum_of([src, texts_in(folder, "specs"), proofs])
+
+
+def sum_of_crate(folder):
+    """A checksum of a crate's files."""
+    return sum_of([texts_in(folder, part) for part in ("src", "specs", "proofs")])
 
 
 class Refusals:
@@ -288,24 +338,25 @@ class Record:
         lines = RECORD.read_text(encoding="utf-8").splitlines() if RECORD.exists() else []
         self.lines, self.is_read, self.found = dict(line.split() for line in lines), is_read, {}
         self.kit = (pathlib.Path(rt.rtlib.KIT) / "KIT-ID").read_text(encoding="utf-8")
-        self.files = functools.lru_cache(maxsize=None)(sum_of_files)
+        self.below, self.whole = (functools.lru_cache(maxsize=None)(it) for it in (sum_below, sum_of_crate))
 
-    def sum_of(self, crate, edit):
-        """The checksum of an edit and of what a check of its crate reads."""
-        read = [self.files(crate.folder, ("src", "specs", "proofs"))]
-        read += sorted((low.name, self.files(low.folder, ("src", "specs"))) for low in crate.below())
-        return hashlib.sha256(repr((self.kit, edit.name, edit.text, read)).encode()).hexdigest()[:24]
+    def sum_of(self, crate, edit, is_whole):
+        """The checksum of an edit and of what its trial reads, which may be the whole crate."""
+        own = self.whole(crate.folder) if is_whole else sum_of_trial(crate.folder, edit)
+        below = sorted((low.name, self.below(low.folder)) for low in crate.below())
+        return sum_of([self.kit, edit.name, edit.text, own, below])[:24]
 
     def has(self, crate, edit):
         """Whether the edit was refused over the same files."""
-        is_same = self.is_read and self.lines.get(edit.name) == self.sum_of(crate, edit)
-        if is_same:
-            self.keep(crate, edit)
-        return is_same
+        for is_whole in [True] if None in edit.places else [False, True]:
+            if self.is_read and self.lines.get(edit.name) == self.sum_of(crate, edit, is_whole):
+                self.found[edit.name] = self.lines[edit.name]
+                return True
+        return False
 
-    def keep(self, crate, edit):
-        """Notes that the edit was refused over these files."""
-        self.found[edit.name] = self.sum_of(crate, edit)
+    def keep(self, crate, edit, line):
+        """Notes that the edit was refused by this line over these files."""
+        self.found[edit.name] = self.sum_of(crate, edit, line.startswith(ELSEWHERE) or None in edit.places)
 
     def write(self, names):
         """Writes the record: for these crates what was found, for others what was there."""
@@ -405,16 +456,16 @@ class Trial:
         begun = time.monotonic()
         said = self.said_of(edits, kept)
         shown = {it: it.refusal(said) for it in edits if it.refusal(said)}
-        if len(edits) == 1 and not shown:
+        if len(edits) == 1 and not shown and any(self.asked_by(edits)):
             said = self.said_of(edits, kept, is_whole=True)
             shown = {it: it.refusal(said) for it in edits if it.refusal(said)}
         print(f"edits of {self.crate.name}: {len(edits)} at once, {time.monotonic() - begun:.0f} s", flush=True)
         if len(edits) == 1 and said and not shown:
-            shown = {edits[0]: f"elsewhere: {next(filter(NOTE.match, said), said[-1])}"}
+            shown = {edits[0]: f"{ELSEWHERE}: {next(filter(NOTE.match, said), said[-1])}"}
         for edit, line in shown.items():
             print(f"must-fail {edit.name}: refused: {line[:160]}", flush=True)
             self.refusals.keep(self.crate, edit, line[:160])
-            self.record.keep(self.crate, edit)
+            self.record.keep(self.crate, edit, line)
         if len(edits) == 1 and not shown:
             why = "NOT REFUSED" if said else "NOT TRIED, for the prover was not reached"
             print(f"must-fail {edits[0].name}: {why}", flush=True)
@@ -524,7 +575,7 @@ class Trials:
         line = self.refusals.of(crate, edit)
         if line:
             print(f"must-fail {edit.name}: refused by an earlier run: {line}", flush=True)
-            self.record.keep(crate, edit)
+            self.record.keep(crate, edit, line)
         return bool(line)
 
     def finish(self):
