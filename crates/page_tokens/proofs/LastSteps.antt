@@ -1,10 +1,10 @@
--- A token that is no character is emitted where `>` is read, by a step that leads to the data state; and no step before or after it is needed
--- to read that `>`.
-use Rattle.std.specs.Prelude.{◌≡◌, ℕ, suc, ◌+◌, ◌<◌, ◌≤◌, ◌==◌, Bool, true, false, not, cond, ◌&&◌, ◌||◌, List, [], ◌∷◌, ◌++◌, ◌⊎◌, map, length, take, drop, reverse, Option, None, Some, refl}
+-- A token that is no character is emitted where `>` is read, by a step that leads to the data state. Where that `>` is the last character that is
+-- read, it is the last step.
+use Rattle.std.specs.Prelude.{◌≡◌, ℕ, suc, ◌+◌, ◌≤◌, ◌==◌, Bool, true, false, not, cond, ◌&&◌, ◌||◌, List, [], ◌∷◌, ◌++◌, ◌⊎◌, map, length, take, drop, reverse, Option, None, Some, refl}
 use Rattle.std.proofs.Common.{arith, inl, inr}
 use Rattle.std.specs.List.{list_all}
 use Rattle.std.proofs.lemmas.Bool.{and_parts, cases_Bool, eqb-true, true≢false}
-use Rattle.std.proofs.lemmas.List.{append-nil, append_assoc, length-append, take-append-drop}
+use Rattle.std.proofs.lemmas.List.{append_assoc, length-append, take-append-drop}
 use Rattle.std.proofs.lemmas.Option.{none-some, same_Some}
 use mathlib.Core.Path.{◌∙◌, sym, ap, subst}
 use Rattle.standard_tokens.specs.Entries.{Act, Emit, EmitTag, EmitComment, EmitDoctype, EmitEndOfFile, NewTag, NewAttr, NewComment, NewDoctype}
@@ -16,10 +16,10 @@ use Rattle.standard_tokens.specs.Machine.{rest_behind, state_behind, step, step_
 use Rattle.standard_tokens.specs.States as there
 use Rattle.standard_tokens.specs.States.{State as StandardState}
 use Rattle.standard_tokens.specs.Table.{entries}
-use Rattle.standard_tokens.specs.Tokens.{Token as StandardToken, AChar, AComment, ADoctype, AStart, AnEnd, AnEof}
+use Rattle.standard_tokens.specs.Tokens.{Token as StandardToken, AChar, AComment, ADoctype, AStart, AnEnd}
 use Rattle.page_tokens.specs.Standard.{Goes, stays, steps}
 use Rattle.page_tokens.specs.StandardPages.{EmitsLast}
-use Rattle.page_tokens.proofs.StandardSteps.{in_its_state, then_on}
+use Rattle.page_tokens.proofs.StandardSteps.{in_its_state}
 use Rattle.page_tokens.proofs.TextFollows.{map_append}
 
 -- ---- the table

@@ -9,14 +9,13 @@ use Rattle.std.proofs.lemmas.Str.{encodes-append, encodes_same}
 use mathlib.Core.Path.{◌∙◌, sym, ap, subst}
 use Rattle.standard_tokens.specs.Entries.{TagKind as StandardKind, Starting, Ending}
 use Rattle.standard_tokens.specs.Machine.{Machine, Step, Tag as StandardTag, at_state, distinct, normalized, normalized_behind, start_in, step, token_of}
-use Rattle.standard_tokens.specs.Reading.{Feedback, IsFeedback, Reader, Reads, here, next, after, answered, reader, step_at, switched}
+use Rattle.standard_tokens.specs.Reading.{Feedback, IsFeedback, Reader, Reads, here, next, after, answered, reader, switched}
 use Rattle.standard_tokens.specs.States as there
 use Rattle.standard_tokens.specs.States.{State as StandardState}
 use Rattle.standard_tokens.specs.Tokens.{Attr, Doctype as StandardDoctype, Token as StandardToken, AChar, AComment, ADoctype, AStart, AnEnd, AnEof}
-use Rattle.page_tokens.specs.PageEnds.{EndsPage}
-use Rattle.page_tokens.specs.PageLaws.{CharactersAreTold, FeedsBack, IsAnswered, IsTaken, PagesBegin, PagesEnd, TellsEnd, TellsToken, TextsAreRead, TokensAreRead}
+use Rattle.page_tokens.specs.PageLaws.{CharactersAreTold, IsAnswered, PagesBegin, PagesEnd, TextsAreRead, TokensAreRead}
 use Rattle.page_tokens.specs.Reading.{text_of}
-use Rattle.page_tokens.specs.Standard.{AreAttrs, Goes, stays, steps, Held, Holds, IsAttr, IsDoctype, IsLast, IsTag, MaySpell, ReferenceHeld, Stands, Stops, Told, kind_of}
+use Rattle.page_tokens.specs.Standard.{AreAttrs, Goes, stays, steps, Held, Holds, IsAttr, IsDoctype, IsLast, IsTag, MaySpell, ReferenceHeld, Stands, Stops, Told}
 use Rattle.page_tokens.specs.StandardPages.{BehindText, EmitsLast, Finishes, HasRead, IsAt, IsForeignNow, IsTextState, ReadsText}
 use Rattle.page_tokens.specs.StandardStates.{attr_state_of, cdata_state_of, comment_state_of, doctype_state_of, end_tag_state_of, script_state_of, state_in, state_of, tag_state_of}
 use Rattle.page_tokens.specs.declared.attribute.TagAttr.{TagAttr}
