@@ -66,8 +66,8 @@ pub record TellsToken (f : Feedback) (first : StandardState) (read : List ℕ) (
 -- a text is read up to the end of a token
 abbrev pub TokensAreRead : Type 0
 TokensAreRead = (f : Feedback) (first : StandardState) (read more : List ℕ) (told : List StandardToken) (old new : Tokenizer)
-    (kind : TokenKind) → IsFeedback f → IsForeignNow f told old.in_foreign → HasRead f first read told old → ReadsText old new more (Some kind) →
-    TellsToken f first (read ++ more) told kind new
+    (kind : TokenKind) → IsFeedback f → IsForeignNow f told old.in_foreign → HasRead f first read told old →
+    ReadsText old new more (Some kind) → TellsToken f first (read ++ more) told kind new
 
 -- The page ended: its tokens are those that were told, the last characters, the last token, if there is one, and the end of the file.
 pub record TellsEnd (f : Feedback) (first : StandardState) (read : List ℕ) (told : List StandardToken) (kind : Option TokenKind)
