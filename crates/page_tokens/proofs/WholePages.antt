@@ -13,10 +13,10 @@ use Rattle.standard_tokens.specs.Reading.{Feedback, IsFeedback, Reader, Reads, h
 use Rattle.standard_tokens.specs.States as there
 use Rattle.standard_tokens.specs.States.{State as StandardState}
 use Rattle.standard_tokens.specs.Tokens.{Attr, Doctype as StandardDoctype, Token as StandardToken, AChar, AComment, ADoctype, AStart, AnEnd, AnEof}
-use Rattle.page_tokens.specs.PageLaws.{CharactersAreTold, IsAnswered, PagesBegin, PagesEnd, TextsAreRead, TokensAreRead}
+use Rattle.page_tokens.specs.PageLaws.{CallsReadTexts, CallsReadTokens, CharactersAreTold, IsAnswered, PagesBegin, PagesEnd, TextsAreRead, TokensAreRead}
 use Rattle.page_tokens.specs.Reading.{text_of}
 use Rattle.page_tokens.specs.Standard.{AreAttrs, Goes, stays, steps, Held, Holds, IsAttr, IsDoctype, IsLast, IsTag, MaySpell, ReferenceHeld, Stands, Stops, Told}
-use Rattle.page_tokens.specs.StandardPages.{BehindText, EmitsLast, Finishes, HasRead, IsAt, IsForeignNow, IsTextState, ReadsText}
+use Rattle.page_tokens.specs.StandardPages.{BehindText, EmitsLast, Finishes, HasRead, IsAt, IsForeignNow, IsTextState, ReadsText, told_or}
 use Rattle.page_tokens.specs.StandardStates.{attr_state_of, cdata_state_of, comment_state_of, doctype_state_of, end_tag_state_of, script_state_of, state_in, state_of, tag_state_of}
 use Rattle.page_tokens.specs.declared.attribute.TagAttr.{TagAttr}
 use Rattle.page_tokens.specs.declared.token.Doctype.{Doctype}
@@ -465,6 +465,20 @@ tokens f first read more told old new kind honest stay has reads =
             text = answers.empty;
           };
     }
+
+-- ---- a call
+
+told_is : (told after : Option TokenKind) → after ≡ told_or told None → told ≡ after
+told_is None after e = sym e
+told_is (Some kind) after e = sym e
+
+pub texts_called : CallsReadTexts
+texts_called f first read told old new text rest honest stay has up =
+    (up.read, up.cut, texts f first read up.read told old new honest stay has (subst (λ k. ReadsText old new up.read k) (told_is up.told None up.kind) up.reads))
+
+pub tokens_called : CallsReadTokens
+tokens_called f first read told old new text rest kind honest stay has up =
+    (up.read, up.cut, tokens f first read up.read told old new kind honest stay has (subst (λ k. ReadsText old new up.read k) (told_is up.told (Some kind) up.kind) up.reads))
 
 -- ---- the end
 

@@ -8,7 +8,7 @@ use Rattle.standard_tokens.specs.Tokens.{Token as StandardToken, AChar, AnEof}
 use Rattle.page_tokens.specs.PageEnds.{EndsPage}
 use Rattle.page_tokens.specs.Reading.{text_of}
 use Rattle.page_tokens.specs.Standard.{Holds, Told}
-use Rattle.page_tokens.specs.StandardPages.{HasRead, IsForeignNow, IsTextState, ReadsText}
+use Rattle.page_tokens.specs.StandardPages.{HasRead, IsForeignNow, IsTextState, ReadsText, ReadsUpTo}
 use Rattle.page_tokens.specs.StandardStates.{state_of}
 use Rattle.page_tokens.specs.declared.token.TokenKind.{TokenKind}
 use Rattle.page_tokens.specs.declared.tokenizer.Tokenizer.{Tokenizer}
@@ -68,6 +68,23 @@ abbrev pub TokensAreRead : Type 0
 TokensAreRead = (f : Feedback) (first : StandardState) (read more : List ℕ) (told : List StandardToken) (old new : Tokenizer)
     (kind : TokenKind) → IsFeedback f → IsForeignNow f told old.in_foreign → HasRead f first read told old →
     ReadsText old new more (Some kind) → TellsToken f first (read ++ more) told kind new
+
+-- ---- the same of a call that reads up to the end of a token (`read_kind`)
+
+-- no token ended: some characters of the text were read, up to the rest
+abbrev pub CallsReadTexts : Type 0
+CallsReadTexts = (f : Feedback) (first : StandardState) (read : List ℕ) (told : List StandardToken) (old new : Tokenizer)
+    (text rest : List ℕ) → IsFeedback f → IsForeignNow f told old.in_foreign → HasRead f first read told old →
+    ReadsUpTo old new text rest None None → (more : List ℕ) × (text ≡ encode_utf8_all more ++ rest) × HasRead f first (read ++ more) told new
+
+-- a token ended behind them
+abbrev pub CallsReadTokens : Type 0
+CallsReadTokens = (f : Feedback) (first : StandardState) (read : List ℕ) (told : List StandardToken) (old new : Tokenizer)
+    (text rest : List ℕ) (kind : TokenKind) → IsFeedback f → IsForeignNow f told old.in_foreign → HasRead f first read told old →
+    ReadsUpTo old new text rest None (Some kind) →
+    (more : List ℕ) × (text ≡ encode_utf8_all more ++ rest) × TellsToken f first (read ++ more) told kind new
+
+-- ---- the end
 
 -- The page ended: its tokens are those that were told, the last characters, the last token, if there is one, and the end of the file.
 pub record TellsEnd (f : Feedback) (first : StandardState) (read : List ℕ) (told : List StandardToken) (kind : Option TokenKind)

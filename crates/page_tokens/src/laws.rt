@@ -1,6 +1,7 @@
 //! Laws of the tokenizer. The functions do nothing at run time; their contracts are the theorems.
 
-ghost use Rattle.page_tokens.specs.PageLaws.{CharactersAreTold, PagesBegin, PagesEnd};
+ghost use Rattle.page_tokens.specs.PageLaws.{CallsReadTexts, CallsReadTokens, CharactersAreTold};
+ghost use Rattle.page_tokens.specs.PageLaws.{PagesBegin, PagesEnd};
 ghost use Rattle.page_tokens.specs.PageLaws.{PiecesAreOneText, TextsAreRead, TokensAreRead};
 ghost use Rattle.page_tokens.specs.PlainNames.{NamesArePlain};
 ghost use Rattle.page_tokens.specs.SameNames.{TablesAreTheSame};
@@ -27,6 +28,13 @@ pub fn pages()
     ensures characters { CharactersAreTold }
     ensures tokens { TokensAreRead }
     ensures end { PagesEnd }
+{}
+
+/// What `read_kind` says of a call, in a page: the call reads on, or up to the end of a token, after
+/// what was read before.
+pub fn calls()
+    ensures texts { CallsReadTexts }
+    ensures tokens { CallsReadTokens }
 {}
 
 /// The names of tags and of their attributes contain no white space, no `/`, no `>` and no ASCII
