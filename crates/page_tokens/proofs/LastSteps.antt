@@ -465,7 +465,7 @@ step_wanted b m text runs = of_taken m text (taken b m text (entries m.state)) r
 
 -- ---- what steps leave of the text
 
-record Splits (text rest : List ℕ) : Type 0 where
+pub record Splits (text rest : List ℕ) : Type 0 where
   pub front : List ℕ
   pub is : text ≡ front ++ rest
 
@@ -477,11 +477,11 @@ rest_split Stay cur text = record { front = take (length cur) text; is = sym (ta
 rest_split SwitchBack cur text = record { front = take (length cur) text; is = sym (take-append-drop (length cur) text) }
 rest_split Stop cur text = record { front = take (length cur) text; is = sym (take-append-drop (length cur) text) }
 
-step_split : (b : Bool) (m : Machine) (text : List ℕ) → Splits text (step b m text).rest
+pub step_split : (b : Bool) (m : Machine) (text : List ℕ) → Splits text (step b m text).rest
 unfolding step
 step_split b m text = let t : Taken = taken b m text (entries m.state) in rest_split t.goes t.current text
 
-goes_split : {b : Bool} {m n : Machine} {text rest : List ℕ} {ts : List StandardToken} → Goes b m text ts n rest → Splits text rest
+pub goes_split : {b : Bool} {m n : Machine} {text rest : List ℕ} {ts : List StandardToken} → Goes b m text ts n rest → Splits text rest
 goes_split stays = record { front = []; is = refl }
 goes_split {b} {m} {n} {text} {rest} {ts} (steps s is runs goes) =
     let one : Splits text s.rest = subst (λ (s : Step). Splits text s.rest) is (step_split b m text) in

@@ -20,8 +20,8 @@ pub fn pieces()
 
 /// Whole pages: the tokens that are read from the beginning of a page to its end, with the answers
 /// of tree construction between them, are those of the definition of the HTML Standard's tokenizer,
-/// while its flag for foreign content stays as it is behind characters. `HasRead` says how far a
-/// page is read and which tokens were told, and each call keeps it.
+/// if `[CDATA[` occurs nowhere in the page, or tree construction's flag for foreign content stays as
+/// it is behind characters. `HasRead` says how far a page is read and which tokens were told.
 pub fn pages()
     ensures begin { PagesBegin }
     ensures texts { TextsAreRead }
