@@ -1,10 +1,10 @@
--- A token that is no character is emitted where `>` is read, by a step that leads to the data state; and no step before or after it is needed
--- to read that `>`.
-use Rattle.std.specs.Prelude.{◌≡◌, ℕ, suc, ◌+◌, ◌<◌, ◌≤◌, ◌==◌, Bool, true, false, not, cond, ◌&&◌, ◌||◌, List, [], ◌∷◌, ◌++◌, ◌⊎◌, map, length, take, drop, reverse, Option, None, Some, refl}
+-- A token that is no character is emitted where `>` is read, by a step that leads to the data state. Where that `>` is the last character that is
+-- read, it is the last step.
+use Rattle.std.specs.Prelude.{◌≡◌, ℕ, suc, ◌+◌, ◌≤◌, ◌==◌, Bool, true, false, not, cond, ◌&&◌, ◌||◌, List, [], ◌∷◌, ◌++◌, ◌⊎◌, map, length, take, drop, reverse, Option, None, Some, refl}
 use Rattle.std.proofs.Common.{arith, inl, inr}
 use Rattle.std.specs.List.{list_all}
 use Rattle.std.proofs.lemmas.Bool.{and_parts, cases_Bool, eqb-true, true≢false}
-use Rattle.std.proofs.lemmas.List.{append-nil, append_assoc, length-append, take-append-drop}
+use Rattle.std.proofs.lemmas.List.{append_assoc, length-append, take-append-drop}
 use Rattle.std.proofs.lemmas.Option.{none-some, same_Some}
 use mathlib.Core.Path.{◌∙◌, sym, ap, subst}
 use Rattle.standard_tokens.specs.Entries.{Act, Emit, EmitTag, EmitComment, EmitDoctype, EmitEndOfFile, NewTag, NewAttr, NewComment, NewDoctype}
@@ -16,10 +16,10 @@ use Rattle.standard_tokens.specs.Machine.{rest_behind, state_behind, step, step_
 use Rattle.standard_tokens.specs.States as there
 use Rattle.standard_tokens.specs.States.{State as StandardState}
 use Rattle.standard_tokens.specs.Table.{entries}
-use Rattle.standard_tokens.specs.Tokens.{Token as StandardToken, AChar, AComment, ADoctype, AStart, AnEnd, AnEof}
+use Rattle.standard_tokens.specs.Tokens.{Token as StandardToken, AChar, AComment, ADoctype, AStart, AnEnd}
 use Rattle.page_tokens.specs.Standard.{Goes, stays, steps}
 use Rattle.page_tokens.specs.StandardPages.{EmitsLast}
-use Rattle.page_tokens.proofs.StandardSteps.{in_its_state, then_on}
+use Rattle.page_tokens.proofs.StandardSteps.{in_its_state}
 use Rattle.page_tokens.proofs.TextFollows.{map_append}
 
 -- ---- the table
@@ -465,7 +465,7 @@ step_wanted b m text runs = of_taken m text (taken b m text (entries m.state)) r
 
 -- ---- what steps leave of the text
 
-record Splits (text rest : List ℕ) : Type 0 where
+pub record Splits (text rest : List ℕ) : Type 0 where
   pub front : List ℕ
   pub is : text ≡ front ++ rest
 
@@ -477,11 +477,11 @@ rest_split Stay cur text = record { front = take (length cur) text; is = sym (ta
 rest_split SwitchBack cur text = record { front = take (length cur) text; is = sym (take-append-drop (length cur) text) }
 rest_split Stop cur text = record { front = take (length cur) text; is = sym (take-append-drop (length cur) text) }
 
-step_split : (b : Bool) (m : Machine) (text : List ℕ) → Splits text (step b m text).rest
+pub step_split : (b : Bool) (m : Machine) (text : List ℕ) → Splits text (step b m text).rest
 unfolding step
 step_split b m text = let t : Taken = taken b m text (entries m.state) in rest_split t.goes t.current text
 
-goes_split : {b : Bool} {m n : Machine} {text rest : List ℕ} {ts : List StandardToken} → Goes b m text ts n rest → Splits text rest
+pub goes_split : {b : Bool} {m n : Machine} {text rest : List ℕ} {ts : List StandardToken} → Goes b m text ts n rest → Splits text rest
 goes_split stays = record { front = []; is = refl }
 goes_split {b} {m} {n} {text} {rest} {ts} (steps s is runs goes) =
     let one : Splits text s.rest = subst (λ (s : Step). Splits text s.rest) is (step_split b m text) in

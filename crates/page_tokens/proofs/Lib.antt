@@ -16,6 +16,7 @@ mod DoctypeFollows
 mod DoctypeSteps
 mod EndTagSteps
 mod FollowsOn
+mod ForeignFlag
 mod Fronts
 mod IdRuns
 mod LastSteps

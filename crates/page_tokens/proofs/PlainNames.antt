@@ -11,17 +11,16 @@ use mathlib.Core.Path.{◌∙◌, sym, ap, subst}
 use Rattle.standard_tokens.specs.Entries.{Act, Emit, EmitTag, EmitComment, EmitDoctype, EmitEndOfFile, NewTag, NewAttr, NewComment, NewDoctype}
 use Rattle.standard_tokens.specs.Entries.{SelfClosing, ForceQuirks, Add, SetEmpty, ReturnTo, CodeZero, CodeDigit, BufferNumber, BufferName, Flush}
 use Rattle.standard_tokens.specs.Entries.{On, Next, Word, AnyCase, Name, Else, Mark, OneOf, Range, End, Guard, Then, Entry, entry, Starting, Ending}
-use Rattle.standard_tokens.specs.Entries.{What, Current, Lower, TheBuffer, These, Place, TheTagName, AttrName, AttrValue, Comment, DoctypeName, PublicId}
+use Rattle.standard_tokens.specs.Entries.{What, Current, Lower, TheBuffer, These, TheTagName, AttrName, AttrValue, Comment, DoctypeName, PublicId}
 use Rattle.standard_tokens.specs.Entries.{SystemId, Buffer, TagKind as StandardKind}
 use Rattle.standard_tokens.specs.Machine.{Machine, Step, Tag as StandardTag, Taken, added, all_done, all_emitted, at_state, characters, consumed, distinct, distinct_behind}
-use Rattle.standard_tokens.specs.Machine.{done, emitted, emptied, fits_mark, is_met, is_value, start_in, step, step_by, taken, taken_if, token_of, with_name, with_value}
-use Rattle.standard_tokens.specs.Reading.{Feedback, Reader, Reads, here, next, after, answered, reader, step_at, switched}
+use Rattle.standard_tokens.specs.Machine.{done, emitted, fits_mark, is_met, is_value, start_in, step, taken, taken_if, token_of, with_name, with_value}
+use Rattle.standard_tokens.specs.Reading.{Feedback, Reader, Reads, here, next, answered, switched}
 use Rattle.standard_tokens.specs.States as there
 use Rattle.standard_tokens.specs.States.{State as StandardState}
 use Rattle.standard_tokens.specs.Table.{entries}
 use Rattle.standard_tokens.specs.Tokens.{Attr, Token as StandardToken, AChar, AStart, AnEnd}
 use Rattle.page_tokens.specs.PlainNames.{NamesArePlain, are_plain, has_plain_names, is_name_char, is_plain}
-use Rattle.page_tokens.proofs.StandardSteps.{in_its_state}
 
 -- ---- the table: what an entry adds to a name is plain
 

@@ -1,11 +1,9 @@
 -- Among the characters that the tokenizer has read ahead of the standard's machine is no `>`.
-use Rattle.std.specs.Prelude.{◌≡◌, ℕ, zero, suc, ◌==◌, Bool, true, false, not, cond, ◌&&◌, List, [], ◌∷◌, ◌++◌, map, take, drop, length, codes, Option, None, Some, unwrap_or, refl}
+use Rattle.std.specs.Prelude.{◌≡◌, ℕ, zero, suc, ◌==◌, Bool, true, false, not, cond, List, [], ◌∷◌, ◌++◌, map, take, drop, length, codes, Option, None, Some, unwrap_or, eqb, nat_lt, refl}
 use Rattle.std.proofs.Common.{arith, inl, inr}
 use Rattle.std.specs.Char.{is_ascii_alphanumeric, to_ascii_lowercase}
-use Rattle.std.specs.List.{list_all}
+use Rattle.std.specs.List.{list_all, starts_with}
 use Rattle.std.specs.Option.{option_map}
-use Rattle.std.specs.Prelude.{nat_lt, eqb}
-use Rattle.std.specs.List.{starts_with}
 use Rattle.std.proofs.lemmas.Bool.{and_from, and_parts}
 use Rattle.std.proofs.lemmas.List.Folds.{list_all-append}
 use Rattle.std.proofs.lemmas.Option.{none-some, same_Some}
@@ -13,7 +11,7 @@ use mathlib.Core.Path.{◌∙◌, sym, ap, subst}
 use Rattle.standard_tokens.specs.Machine.{Machine, longer_of, longest_among, longest_name}
 use Rattle.standard_tokens.specs.NamedReferences.{NamedReference, named_references}
 use Rattle.page_tokens.specs.NamedReferences.{after_name, read_of}
-use Rattle.page_tokens.specs.Standard.{Held, Holds, IsKeyword, IsSeen, ReferenceHeld, keyword_of}
+use Rattle.page_tokens.specs.Standard.{Held, Holds, IsKeyword, IsSeen, ReferenceHeld}
 use Rattle.page_tokens.specs.declared.named_references.Names.{Names}
 use Rattle.page_tokens.specs.declared.tokenizer.Tokenizer.{Tokenizer}
 use Rattle.page_tokens.specs.declared.tokenizer.references.Reference.{Reference}

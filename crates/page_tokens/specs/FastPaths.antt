@@ -1,6 +1,6 @@
 -- The paths on which many characters are read at once: what each reads is what the standard's tokenizer reads one by one.
-use Rattle.std.specs.Prelude.{◌≡◌, ℕ, ◌<◌, Bool, true, false, not, ◌==◌, List, [], ◌∷◌, ◌++◌, ◌⊎◌, codes, length, slice_index_or, encode_utf8}
-use Rattle.std.specs.Prelude.{Option, None, Some, Result, IfOk, String, string_bytes}
+use Rattle.std.specs.Prelude.{◌≡◌, ℕ, ◌<◌, Bool, true, false, not, ◌==◌, List, [], ◌∷◌, ◌++◌, ◌⊎◌, codes, length, slice_index_or}
+use Rattle.std.specs.Prelude.{encode_utf8, Option, None, Some, Result, IfOk, String, string_bytes}
 use Rattle.std.specs.Borrow.{Bor}
 use Rattle.std.specs.Char.{is_ascii_alphabetic}
 use Rattle.std.specs.List.{list_all}

@@ -1,6 +1,8 @@
 -- How the calls of the tokenizer read a page, in pieces cut anywhere.
-use Rattle.std.specs.Prelude.{◌≡◌, ℕ, ◌==◌, Bool, true, false, cond, List, [], ◌∷◌, ◌++◌, map, Option, None, Some, Result, IfOk}
+use Rattle.std.specs.Prelude.{◌≡◌, ℕ, ◌==◌, ◌&&◌, eqb, Bool, true, false, not, cond, List, [], ◌∷◌, ◌++◌, map, codes, Option, None}
+use Rattle.std.specs.Prelude.{Some, Result, IfOk}
 use Rattle.std.specs.Borrow.{Bor}
+use Rattle.std.specs.List.{starts_with}
 use Rattle.std.specs.Str.{encode_utf8_all}
 use Rattle.standard_tokens.specs.Machine.{Machine, at_state, normalized, normalized_behind, start, start_in, step}
 use Rattle.standard_tokens.specs.Reading.{Feedback, Reads, reader}
@@ -132,9 +134,21 @@ pub record IsAt (f : Feedback) (first : StandardState) (read : List ℕ) (told :
   pub holds : Holds t ahead machine
   pub text : text_of t ≡ encode_utf8_all kept
 
-abbrev pub HasRead : Feedback → StandardState → List ℕ → List StandardToken → Tokenizer → Type 0
-HasRead f first read told t = (rest : List ℕ) → IsAt f first read told t rest
+-- `[CDATA[` occurs nowhere
+abbrev pub lacks_cdata : List ℕ → Bool
+lacks_cdata [] = true
+lacks_cdata (c ∷ text) = not (starts_with eqb (c ∷ text) (codes "[CDATA[")) && lacks_cdata text
 
--- tree construction's flag for foreign content stays as it is behind characters
-abbrev pub IsForeignNow : Feedback → List StandardToken → Bool → Type 0
-IsForeignNow f told foreign = (cs : List ℕ) → f.in_foreign (told ++ map AChar cs) ≡ foreign
+-- any text, or else one without it
+abbrev pub IsOfPage : Bool → List ℕ → Type 0
+IsOfPage true text = Unit {0}
+IsOfPage false text = lacks_cdata text ≡ true
+
+-- The flag says whether the page may contain `[CDATA[`.
+abbrev pub HasRead : Bool → Feedback → StandardState → List ℕ → List StandardToken → Tokenizer → Type 0
+HasRead cdata f first read told t = (rest : List ℕ) → IsOfPage cdata (normalized (read ++ rest)) → IsAt f first read told t rest
+
+-- Only in front of `[CDATA[` tree construction's flag for foreign content matters. It stays as it is behind characters.
+abbrev pub IsForeignNow : Bool → Feedback → List StandardToken → Bool → Type 0
+IsForeignNow true f told foreign = (cs : List ℕ) → f.in_foreign (told ++ map AChar cs) ≡ foreign
+IsForeignNow false f told foreign = Unit {0}

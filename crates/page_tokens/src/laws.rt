@@ -1,6 +1,7 @@
 //! Laws of the tokenizer. The functions do nothing at run time; their contracts are the theorems.
 
-ghost use Rattle.page_tokens.specs.PageLaws.{CharactersAreTold, PagesBegin, PagesEnd};
+ghost use Rattle.page_tokens.specs.PageLaws.{CallsReadTexts, CallsReadTokens, CharactersAreTold};
+ghost use Rattle.page_tokens.specs.PageLaws.{PagesBegin, PagesEnd};
 ghost use Rattle.page_tokens.specs.PageLaws.{PiecesAreOneText, TextsAreRead, TokensAreRead};
 ghost use Rattle.page_tokens.specs.PlainNames.{NamesArePlain};
 ghost use Rattle.page_tokens.specs.SameNames.{TablesAreTheSame};
@@ -19,14 +20,21 @@ pub fn pieces()
 
 /// Whole pages: the tokens that are read from the beginning of a page to its end, with the answers
 /// of tree construction between them, are those of the definition of the HTML Standard's tokenizer,
-/// while its flag for foreign content stays as it is behind characters. `HasRead` says how far a
-/// page is read and which tokens were told, and each call keeps it.
+/// if `[CDATA[` occurs nowhere in the page, or tree construction's flag for foreign content stays as
+/// it is behind characters. `HasRead` says how far a page is read and which tokens were told.
 pub fn pages()
     ensures begin { PagesBegin }
     ensures texts { TextsAreRead }
     ensures characters { CharactersAreTold }
     ensures tokens { TokensAreRead }
     ensures end { PagesEnd }
+{}
+
+/// What `read_kind` says of a call, in a page: the call reads on, or up to the end of a token, after
+/// what was read before.
+pub fn calls()
+    ensures texts { CallsReadTexts }
+    ensures tokens { CallsReadTokens }
 {}
 
 /// The names of tags and of their attributes contain no white space, no `/`, no `>` and no ASCII
