@@ -52,3 +52,8 @@ pub mod ModeOutcomes
 pub mod Dispatching
 pub mod BuilderSteps
 pub mod ElementSteps
+pub mod CurrentForeign
+pub mod DoctypeTexts
+pub mod TokenStates
+pub mod TokenRules
+pub mod PageEnds

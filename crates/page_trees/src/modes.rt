@@ -1,7 +1,6 @@
 //! The insertion modes: which rules process a token (13.2.6.4).
 
-ghost use Rattle.std.specs.Prelude.{◌≡◌, [], string_bytes};
-ghost use Rattle.std.specs.Option.{option_map_or};
+ghost use Rattle.std.specs.Prelude.{◌≡◌};
 ghost use Rattle.page_trees.specs.Modes.{is_start_kind, next_of};
 
 mod after;
@@ -9,6 +8,7 @@ mod body;
 mod body_ends;
 pub mod groups;
 mod head;
+mod other_tokens;
 mod resetting;
 mod select_tags;
 mod tables;
@@ -19,7 +19,7 @@ use crate::chars::Run;
 use crate::fault::PageFault;
 use crate::name::Name;
 use dom_nodes::name::LocalName;
-use page_tokens::token::{Doctype, Tag, TagKind};
+use page_tokens::token::{Tag, TagKind};
 use page_tokens::tokenizer::State;
 
 /// A token as the insertion modes process it.
@@ -118,71 +118,6 @@ impl TreeBuilder {
         self.switch = Some(state);
         self.original = self.mode;
         self.done_in(Mode::Text)
-    }
-
-    pub fn comment(&mut self, text: &str) {
-        self.skip_line_feed = false;
-        self.flush_table_text();
-        let put = match self.mode {
-            _ if self.is_current_foreign() => self.tree.put_comment(self.placing, text),
-            Mode::Initial | Mode::BeforeHtml | Mode::AfterAfterBody | Mode::AfterAfterFrameset => {
-                self.tree.put_comment_at_top(text)
-            }
-            Mode::AfterBody => self.tree.put_comment_in_html(text),
-            _ => self.tree.put_comment(self.placing, text),
-        };
-        self.keep(put);
-    }
-
-    pub fn doctype(&mut self, doctype: &Doctype) {
-        self.skip_line_feed = false;
-        self.flush_table_text();
-        if self.mode != Mode::Initial {
-            return;
-        }
-        self.quirks = crate::quirks::mode_of(doctype);
-        let name = text_of(&doctype.name);
-        let public_id = text_of(&doctype.public_id);
-        let system_id = text_of(&doctype.system_id);
-        self.mode = Mode::BeforeHtml;
-        let put = self.tree.put_doctype([name, public_id, system_id]);
-        self.keep(put);
-    }
-
-    /// Processes the end of the page.
-    pub fn end(&mut self) {
-        self.flush_table_text();
-        self.process(Token::End);
-    }
-
-    fn end_step(&mut self) -> Next {
-        match self.mode {
-            Mode::Initial
-            | Mode::BeforeHtml
-            | Mode::BeforeHead
-            | Mode::InHead
-            | Mode::InHeadNoscript
-            | Mode::AfterHead => self.leave_mode(),
-            Mode::Text => self.leave_for(self.original),
-            Mode::AfterBody
-            | Mode::AfterAfterBody
-            | Mode::AfterAfterFrameset
-            | Mode::InFrameset
-            | Mode::AfterFrameset => Next::Done,
-            _ if !self.template_modes.is_empty() => next_if(self.close_template()),
-            Mode::InColumnGroup => self.leave_column_group(),
-            _ => Next::Done,
-        }
-    }
-}
-
-/// Returns the text, which is empty if there is none.
-fn text_of(text: &Option<String>) -> &str
-    ensures { result.now ≡ option_map_or string_bytes text.now [] }
-{
-    match text {
-        Some(text) => text.as_str(),
-        None => "",
     }
 }
 
