@@ -1,6 +1,5 @@
 -- A doctype is quirky by its bytes, as it is by its characters: each text of the lists is ASCII.
 use Rattle.std.proofs.Common.{◌≡◌, ℕ, ◌+◌, ◌/◌, ◌%◌, ◌<◌, ◌≤◌, Bool, true, false, cond, ◌&&◌, ◌||◌, not, nat_eq, nat_lt, List, [], ◌∷◌, ◌++◌, length, take, map, refl, sym, ap, ◌∙◌, arith, codes, inl, inr, Option, Some, None}
-use Rattle.std.specs.Borrow.{Bor}
 use Rattle.std.specs.Char.{to_ascii_lowercase}
 use Rattle.std.specs.List.{list_all, list_any}
 use Rattle.std.specs.Option.{option_map_or}
@@ -20,7 +19,6 @@ use Rattle.page_tokens.specs.Standard.{IsDoctype, MaySpell}
 use Rattle.page_tokens.specs.declared.token.Doctype.{Doctype}
 use Rattle.page_trees.specs.Quirks.{bytes_in, mode_of, quirks_mode_of, token_of}
 use Rattle.page_trees.specs.SameNodes.{part_for}
-use Rattle.page_trees.specs.Stands.{AreParts}
 
 abbrev are_ascii : List ℕ → Bool
 are_ascii [] = true
@@ -183,7 +181,8 @@ part_is None (Some cs) spelt = absurd spelt
 part_is (Some text) None spelt = absurd spelt
 part_is (Some text) (Some cs) spelt = spelt
 
-pub same_parts : (x y z : Bor (List ℕ)) (d : StandardDoctype) → x.now ≡ part_for d.name → y.now ≡ part_for d.public_id → z.now ≡ part_for d.system_id → AreParts d (x ∷ y ∷ z ∷ [])
+pub same_parts : (x y z : List ℕ) (d : StandardDoctype) → x ≡ part_for d.name → y ≡ part_for d.public_id → z ≡ part_for d.system_id →
+    x ∷ y ∷ z ∷ [] ≡ part_for d.name ∷ part_for d.public_id ∷ part_for d.system_id ∷ []
 same_parts x y z d name public system =
-    ap (λ (part : List ℕ). part ∷ y.now ∷ z.now ∷ []) name ∙ ap (λ (part : List ℕ). part_for d.name ∷ part ∷ z.now ∷ []) public
+    ap (λ (part : List ℕ). part ∷ y ∷ z ∷ []) name ∙ ap (λ (part : List ℕ). part_for d.name ∷ part ∷ z ∷ []) public
     ∙ ap (λ (part : List ℕ). part_for d.name ∷ part_for d.public_id ∷ part ∷ []) system

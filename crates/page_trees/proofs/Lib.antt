@@ -57,3 +57,5 @@ pub mod DoctypeTexts
 pub mod TokenStates
 pub mod TokenRules
 pub mod PageEnds
+pub mod ForeignTags
+pub mod TextTags

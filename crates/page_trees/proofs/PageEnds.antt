@@ -72,7 +72,7 @@ unfolding rules perform
 end_of_text old new next e plain again by within b token stands =
     let text = text_mode old.mode e in
     let later : returns_later old.mode ≡ true = ap returns_later text in
-    let back = by (plain.original text) within b stands in
+    let back = by (plain.original later) within b stands in
     let stood = subst (λ (m : StandardMode). Constructs new (record (perform Pop b) { mode = m })) (sym (stands.original later)) back in
     subst (λ (n : Next). Outcome Dispatcher b new n) (sym again)
     (by_current Mode.Text b new Next.Again token (stands.mode ∙ ap mode_of text)

@@ -158,6 +158,10 @@ comment_taken m place b new cs early here html mode token stands =
     in_mode m b new Next.Done html mode
     (commented m b new cs early token (subst (λ (p : CommentPlace). Constructs new (all_performed (comment_actions p) b)) (sym here) stands))
 
+pub html_mode : (m : Mode) → comment_place m ≡ CommentPlace.Html → m ≡ Mode.AfterBody
+html_mode Mode.AfterBody e = refl
+html_mode _ e = absurd (cc)
+
 -- ---- doctypes
 
 left_by : (mode : StandardMode) (b : Building) (new : TreeBuilder) (d : StandardDoctype) → b.token ≡ ADoctype d → chosen (ADoctype d) b (rules mode) ≡ [] → Constructs new b →

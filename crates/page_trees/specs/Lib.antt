@@ -22,3 +22,4 @@ pub mod Insertions
 pub mod Constructs
 pub mod TagInsertions
 pub mod TokenSteps
+pub mod TagSteps

@@ -1,10 +1,11 @@
 -- What a function does that processes a token which is no tag: actions of the rules for that token, the rules for a mode, or a whole step
 -- of tree construction (13.2.6).
-use Rattle.std.specs.Prelude.{◌≡◌, Bool, List, None, Option, Some, [], false, true, ℕ}
-use Rattle.standard_tokens.specs.Tokens.{Token}
+use Rattle.std.specs.Prelude.{◌≡◌, ◌∷◌, Bool, List, None, Option, Some, [], codes, false, true, ℕ}
+use Rattle.standard_tokens.specs.Tokens.{AComment, Token}
 use Rattle.standard_trees.specs.Building.{Building, tree_step}
-use Rattle.standard_trees.specs.RuleWords.{Action, Mode as StandardMode}
-use Rattle.page_trees.specs.Constructs.{Constructs, Outcome, WithinLimits, all_performed, is_entered_plainly}
+use Rattle.standard_trees.specs.GrowingTree.{GrowingTree, is_one, topmost}
+use Rattle.standard_trees.specs.RuleWords.{Action, AfterBody, Dispatcher, InsertCommentInHtml, Mode as StandardMode}
+use Rattle.page_trees.specs.Constructs.{Constructs, Outcome, WithinLimits, all_performed, is_entered_plainly, returns_later}
 use Rattle.page_trees.specs.declared.builder.Mode.{Mode}
 use Rattle.page_trees.specs.declared.builder.Next.{Next}
 use Rattle.page_trees.specs.declared.builder.TreeBuilder.{TreeBuilder}
@@ -30,6 +31,31 @@ pub record Processed (token : Token) (b : Building) (new : TreeBuilder) : Type 0
 abbrev pub Processes : Token → TreeBuilder → TreeBuilder → Type 0
 Processes token old new = old.switch ≡ None → WithinLimits new → (b : Building) → Constructs old b → Processed token b new
 
+-- ---- comments
+
+-- where the rules put a comment into `html`, that is the outermost open element
+abbrev pub has_html : GrowingTree → Bool
+has_html t = is_one t (codes "html" ∷ []) (topmost t.stack)
+
+abbrev pub CommentsInHtml : List ℕ → TreeBuilder → TreeBuilder → Type 0
+CommentsInHtml text old new =
+    WithinLimits new → (b : Building) → has_html b.tree ≡ true → b.token ≡ AComment text → Constructs old b →
+    Constructs new (all_performed (InsertCommentInHtml ∷ []) b)
+
+abbrev pub EndsInHtml : Building → Type 0
+EndsInHtml b = b.mode ≡ AfterBody → has_html b.tree ≡ true
+
+-- within the limits, a comment is processed by the dispatcher's rules, or in a whole step
+abbrev pub TakesComment : List ℕ → TreeBuilder → TreeBuilder → Type 0
+TakesComment text old new =
+    WithinLimits new → (b : Building) → EndsInHtml b → b.token ≡ AComment text → Constructs old b → Outcome Dispatcher b new Next.Done
+
+abbrev pub ProcessesComment : List ℕ → TreeBuilder → TreeBuilder → Type 0
+ProcessesComment text old new =
+    old.switch ≡ None → WithinLimits new → (b : Building) → EndsInHtml b → Constructs old b → Processed (AComment text) b new
+
+-- ---- modes
+
 -- the mode in which characters are pending
 abbrev pub keeps_characters : Mode → Bool
 keeps_characters Mode.InTableText = true
@@ -48,6 +74,10 @@ comment_place Mode.AfterAfterFrameset = CommentPlace.Document
 comment_place Mode.AfterBody = CommentPlace.Html
 comment_place Mode.Text = CommentPlace.Nowhere
 comment_place _ = CommentPlace.Here
+
+-- the mode to which this one returns is one that is entered plainly
+abbrev pub ReturnsPlainly : TreeBuilder → Type 0
+ReturnsPlainly s = returns_later s.mode ≡ true → is_entered_plainly s.original ≡ true
 
 -- ---- the end of the page
 
@@ -68,9 +98,9 @@ at_end Mode.AfterAfterFrameset = AtEnd.Stop
 at_end Mode.InTemplate = AtEnd.EndTemplate
 at_end _ = AtEnd.EndContent
 
--- No template is open, no characters are pending, and the text that ends is in another mode.
+-- No template is open, and no characters are pending.
 pub record EndsPlainly (s : TreeBuilder) : Type 0 where
   pub templates : s.template_modes.items ≡ []
   pub outside : s.mode ≡ Mode.InTemplate → ⊥
   pub settled : keeps_characters s.mode ≡ false
-  pub original : s.mode ≡ Mode.Text → is_entered_plainly s.original ≡ true
+  pub original : ReturnsPlainly s

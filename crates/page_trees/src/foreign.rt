@@ -7,6 +7,7 @@ ghost use Rattle.page_trees.specs.Foreign.{names_annotation, names_svg, takes_st
 ghost use Rattle.page_trees.specs.Sets.{has_foreign_content, is_a_text_point, is_an_html_point};
 ghost use Rattle.page_trees.specs.Sets.{is_in_html};
 ghost use Rattle.page_trees.specs.Stands.{Tells};
+ghost use Rattle.page_trees.specs.TagSteps.{DispatchesTag};
 
 use crate::attributes::value_of;
 use crate::builder::{Next, TreeBuilder};
@@ -128,7 +129,9 @@ fn ends_foreign(name: Name, tag: &Tag) -> bool
 
 impl TreeBuilder {
     /// Returns whether a tag is processed by the rules for foreign content.
-    pub fn is_tag_foreign(&self, kind: TagKind, name: Name) -> bool {
+    pub fn is_tag_foreign(&self, kind: TagKind, name: Name) -> bool
+        ensures { DispatchesTag kind name self.now.tree result }
+    {
         match self.tree.adjusted_current() {
             Some(open) => is_foreign_to(&open, kind, name),
             None => false,

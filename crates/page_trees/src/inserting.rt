@@ -3,7 +3,6 @@
 ghost use Rattle.std.specs.Prelude.{◌≡◌, ◌<◌, [], ◌∷◌, List, encode_utf8_all, length, true, ℕ};
 ghost use Rattle.standard_tokens.specs.Tokens.{AComment};
 ghost use Rattle.standard_trees.specs.RuleWords.{InsertComment, InsertCommentInDocument};
-ghost use Rattle.standard_trees.specs.RuleWords.{InsertCommentInHtml};
 ghost use Rattle.standard_trees.specs.RuleWords.{InsertElement, InsertRootElement, Pop, SwitchTo};
 ghost use Rattle.standard_trees.specs.TreeStore.{EndOf};
 ghost use Rattle.page_trees.specs.Constructs.{Performs, PerformsFor};
@@ -11,7 +10,7 @@ ghost use Rattle.page_trees.specs.Constructs.{RemembersLimits, implying, is_ente
 ghost use Rattle.page_trees.specs.Modes.{mode_of};
 ghost use Rattle.page_trees.specs.Names.{text_of};
 ghost use Rattle.page_trees.specs.TagInsertions.{InsertsTag, InsertsTagAt};
-ghost use Rattle.page_trees.specs.TokenSteps.{PerformsOn};
+ghost use Rattle.page_trees.specs.TokenSteps.{CommentsInHtml, PerformsOn};
 ghost use Rattle.page_trees.specs.declared.builder.Next.TheVariants.{Again, Done as IsDone};
 ghost use Rattle.page_trees.specs.declared.name.Name.TheVariants.{Html as HtmlName};
 ghost use Rattle.page_trees.specs.declared.stack.ElementNamespace.TheVariants.{Html as HtmlSpace};
@@ -159,7 +158,7 @@ impl TreeBuilder {
     pub fn put_comment_in_html(&mut self, text: &str)
         ensures limits { RemembersLimits self.old self.new }
         ensures rule { (cs : List ℕ) → text.now ≡ encode_utf8_all cs →
-            PerformsOn (AComment cs) (InsertCommentInHtml ∷ []) self.old self.new }
+            CommentsInHtml cs self.old self.new }
     {
         let put = self.tree.put_comment_in_html(text);
         self.keep(put);

@@ -1,7 +1,13 @@
 //! The insertion modes: which rules process a token (13.2.6.4).
 
-ghost use Rattle.std.specs.Prelude.{◌≡◌};
-ghost use Rattle.page_trees.specs.Modes.{is_start_kind, next_of};
+ghost use Rattle.std.specs.Prelude.{◌≡◌, true};
+ghost use Rattle.standard_trees.specs.RuleWords.{Text};
+ghost use Rattle.page_trees.specs.Constructs.{ProcessesTag, RemembersLimits};
+ghost use Rattle.page_trees.specs.Modes.{is_start_kind, mode_of, next_of};
+ghost use Rattle.page_trees.specs.TagSteps.{DispatchesInMode, covers, covers_outer};
+ghost use Rattle.page_trees.specs.TokenSteps.{ReturnsPlainly};
+ghost use Rattle.page_trees.specs.declared.builder.Mode.TheVariants.{Text as IsText};
+ghost use Rattle.page_trees.specs.declared.name.Name.{Name as TheName};
 
 mod after;
 mod body;
@@ -72,7 +78,10 @@ impl TreeBuilder {
         }
     }
 
-    fn tag_step(&mut self, name: Name, tag: &Tag) -> Next {
+    fn tag_step(&mut self, name: Name, tag: &Tag) -> Next
+        ensures rule { covers self.old.mode ≡ true → ReturnsPlainly self.old →
+            DispatchesInMode name tag.now self.old self.new result }
+    {
         if self.is_tag_foreign(tag.kind, name) {
             self.foreign_tag(name, tag)
         } else {
@@ -80,10 +89,14 @@ impl TreeBuilder {
         }
     }
 
-    pub fn html_tag(&mut self, name: Name, tag: &Tag) -> Next {
+    /// Processes a tag by the rules for the current insertion mode.
+    pub fn html_tag(&mut self, name: Name, tag: &Tag) -> Next
+        ensures rule { covers self.old.mode ≡ true → ReturnsPlainly self.old →
+            ProcessesTag (mode_of self.old.mode) name tag.now self.old self.new result }
+    {
         match self.mode {
             Mode::InBody => self.body_tag(name, tag),
-            Mode::Text => self.end_in_mode(self.original),
+            Mode::Text => self.text_tag(tag),
             Mode::InTable | Mode::InTableText => self.table_tag(name, tag),
             Mode::InCaption => self.caption_tag(name, tag),
             Mode::InColumnGroup => self.column_group_tag(name, tag),
@@ -96,7 +109,10 @@ impl TreeBuilder {
     }
 
     /// Processes a tag in a mode before or after the body.
-    fn outer_tag(&mut self, name: Name, tag: &Tag) -> Next {
+    fn outer_tag(&mut self, name: Name, tag: &Tag) -> Next
+        ensures rule { covers_outer self.old.mode ≡ true →
+            ProcessesTag (mode_of self.old.mode) name tag.now self.old self.new result }
+    {
         match self.mode {
             Mode::BeforeHtml => self.before_html_tag(name, tag),
             Mode::BeforeHead => self.before_head_tag(name, tag),
@@ -110,6 +126,18 @@ impl TreeBuilder {
             Mode::AfterAfterFrameset => self.after_after_frameset_tag(name, tag),
             _ => self.leave_initial(),
         }
+    }
+
+    /// Processes a tag where the text of an element is read; its end tag closes it.
+    fn text_tag(&mut self, tag: &Tag) -> Next
+        ensures limits { RemembersLimits self.old self.new }
+        ensures rule { (name : TheName) → self.old.mode ≡ IsText → ReturnsPlainly self.old →
+            ProcessesTag Text name tag.now self.old self.new result }
+    {
+        if is_start(tag) {
+            return Next::Done;
+        }
+        self.end_in_mode(self.original)
     }
 
     /// Inserts an element whose content is text up to its end tag (13.2.6.2).

@@ -2,13 +2,14 @@
 
 ghost use Rattle.std.specs.Prelude.{◌≡◌, [], ◌∷◌, List, encode_utf8_all, false, string_bytes, ℕ};
 ghost use Rattle.std.specs.Option.{option_map_or};
-ghost use Rattle.standard_tokens.specs.Tokens.{AComment, ADoctype, AnEof};
+ghost use Rattle.standard_tokens.specs.Tokens.{ADoctype, AnEof};
 ghost use Rattle.standard_tokens.specs.Tokens.{Doctype as StandardDoctype};
 ghost use Rattle.standard_trees.specs.RuleWords.{AppendDoctype, BeforeHtml, Dispatcher};
 ghost use Rattle.standard_trees.specs.RuleWords.{SetQuirksByDoctype, SwitchTo};
 ghost use Rattle.page_tokens.specs.Standard.{IsDoctype};
 ghost use Rattle.page_trees.specs.Constructs.{RemembersLimits};
 ghost use Rattle.page_trees.specs.TokenSteps.{EndsPlainly, PerformsOn, Processes, ProcessesBy};
+ghost use Rattle.page_trees.specs.TokenSteps.{ProcessesComment, TakesComment};
 ghost use Rattle.page_trees.specs.TokenSteps.{at_end, comment_place, is_initial};
 ghost use Rattle.page_trees.specs.TokenSteps.{keeps_characters};
 ghost use Rattle.page_trees.specs.declared.builder.Mode.TheVariants.{Initial as IsInitial};
@@ -78,7 +79,7 @@ impl TreeBuilder {
             RemembersLimits self.old self.new }
         ensures rule { (cs : List ℕ) → text.now ≡ encode_utf8_all cs →
             keeps_characters self.old.mode ≡ false →
-            Processes (AComment cs) self.old self.new }
+            ProcessesComment cs self.old self.new }
     {
         self.skip_line_feed = false;
         self.flush_table_text();
@@ -90,7 +91,7 @@ impl TreeBuilder {
         ensures limits { RemembersLimits self.old self.new }
         ensures rule { (cs : List ℕ) → text.now ≡ encode_utf8_all cs →
             keeps_characters self.old.mode ≡ false →
-            ProcessesBy Dispatcher (AComment cs) self.old self.new IsDone }
+            TakesComment cs self.old self.new }
     {
         if self.is_current_foreign() {
             return self.put_comment(text);

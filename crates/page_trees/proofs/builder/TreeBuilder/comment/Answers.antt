@@ -11,8 +11,8 @@ pub returns-clause-limits : goal.returns-clause-limits
 returns-clause-limits c early within = begun_limits c.args.self.now _ (c.flush_table_text.ensures.same early) (c.insert_comment.ensures.limits within)
 
 pub returns-clause-rule : goal.returns-clause-rule
-returns-clause-rule c cs spelt early quiet within b stands =
+returns-clause-rule c cs spelt early quiet within b ends stands =
     let same = c.flush_table_text.ensures.same early in
     processed (AComment cs) b _ refl
-    (c.insert_comment.ensures.rule cs spelt (ap (λ (s : TreeBuilder). keeps_characters s.mode) same ∙ early) within (with_next (AComment cs) b) refl
+    (c.insert_comment.ensures.rule cs spelt (ap (λ (s : TreeBuilder). keeps_characters s.mode) same ∙ early) within (with_next (AComment cs) b) ends refl
     (begun c.args.self.now _ (AComment cs) same quiet b stands))
