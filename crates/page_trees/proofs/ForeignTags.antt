@@ -80,54 +80,62 @@ some_open t o root is = by t.stack refl
 
 -- ---- the rule that is taken
 
-pick_start : (e h g t s a p : Bool) (u f : List Act) → e ≡ false →
-    elim (e && true) [
-      | true ↦ u
-      | false ↦ elim (h && true) [
-        | true ↦ u
-        | false ↦ elim (not g || false) [
-          | true ↦ elim (t && true) [ true ↦ u | false ↦ elim (s || false) [ true ↦ elim (a && true) [ true ↦ u | false ↦ elim (p && true) [ true ↦ u | false ↦ f ] ] | false ↦ elim (p && true) [ true ↦ u | false ↦ f ] ] ]
-          | false ↦ elim (s || false) [ true ↦ elim (a && true) [ true ↦ u | false ↦ elim (p && true) [ true ↦ u | false ↦ f ] ] | false ↦ elim (p && true) [ true ↦ u | false ↦ f ] ]
-        ]
-      ]
+abbrev start_acts : Bool → Bool → Bool → Bool → Bool → Bool → Bool → List Act → List Act → List Act
+start_acts e h g t s a p u f = elim (e && true) [
+  | true ↦ u
+  | false ↦ elim (h && true) [
+    | true ↦ u
+    | false ↦ elim (not g || false) [
+      | true ↦ elim (t && true) [ true ↦ u | false ↦ elim (s || false) [ true ↦ elim (a && true) [ true ↦ u | false ↦ elim (p && true) [ true ↦ u | false ↦ f ] ] | false ↦ elim (p && true) [ true ↦ u | false ↦ f ] ] ]
+      | false ↦ elim (s || false) [ true ↦ elim (a && true) [ true ↦ u | false ↦ elim (p && true) [ true ↦ u | false ↦ f ] ] | false ↦ elim (p && true) [ true ↦ u | false ↦ f ] ]
     ]
-    ≡ elim (not h && not ((t && not g) || (a && s) || p)) [ true ↦ f | false ↦ u ]
-pick_start true h g t s a p u f no = absurd (true≢false no)
-pick_start false true g t s a p u f no = refl
-pick_start false false false true s a p u f no = refl
-pick_start false false false false true true p u f no = refl
-pick_start false false false false true false true u f no = refl
-pick_start false false false false true false false u f no = refl
-pick_start false false false false false true true u f no = refl
-pick_start false false false false false true false u f no = refl
-pick_start false false false false false false true u f no = refl
-pick_start false false false false false false false u f no = refl
-pick_start false false true true true true p u f no = refl
-pick_start false false true true true false true u f no = refl
-pick_start false false true true true false false u f no = refl
-pick_start false false true true false true true u f no = refl
-pick_start false false true true false true false u f no = refl
-pick_start false false true true false false true u f no = refl
-pick_start false false true true false false false u f no = refl
-pick_start false false true false true true p u f no = refl
-pick_start false false true false true false true u f no = refl
-pick_start false false true false true false false u f no = refl
-pick_start false false true false false true true u f no = refl
-pick_start false false true false false true false u f no = refl
-pick_start false false true false false false true u f no = refl
-pick_start false false true false false false false u f no = refl
+  ]
+]
 
-pick_end : (e h : Bool) (u f : List Act) → e ≡ false → elim (e && true) [ true ↦ u | false ↦ elim (h && true) [ true ↦ u | false ↦ f ] ] ≡ elim (not h) [ true ↦ f | false ↦ u ]
-pick_end true h u f no = absurd (true≢false no)
-pick_end false true u f no = refl
-pick_end false false u f no = refl
+abbrev by_test : Bool → List Act → List Act → List Act
+by_test true f u = f
+by_test false f u = u
 
-html_picked : {A : Type 0} → (e h : Bool) (u f : A) → h ≡ true → elim (e && true) [ true ↦ u | false ↦ elim (h && true) [ true ↦ u | false ↦ f ] ] ≡ u
-html_picked true h u f yes = refl
-html_picked false true u f yes = refl
-html_picked false false u f yes = absurd (true≢false (sym yes))
+pick_start : (e h g t s a p : Bool) (u f : List Act) → e ≡ false → start_acts e h g t s a p u f ≡ by_test (not h && not ((t && not g) || (a && s) || p)) f u
+pick_start true h g t s a p u f none = absurd (true≢false none)
+pick_start false true g t s a p u f none = refl
+pick_start false false false true s a p u f none = refl
+pick_start false false false false true true p u f none = refl
+pick_start false false false false true false true u f none = refl
+pick_start false false false false true false false u f none = refl
+pick_start false false false false false true true u f none = refl
+pick_start false false false false false true false u f none = refl
+pick_start false false false false false false true u f none = refl
+pick_start false false false false false false false u f none = refl
+pick_start false false true true true true p u f none = refl
+pick_start false false true true true false true u f none = refl
+pick_start false false true true true false false u f none = refl
+pick_start false false true true false true true u f none = refl
+pick_start false false true true false true false u f none = refl
+pick_start false false true true false false true u f none = refl
+pick_start false false true true false false false u f none = refl
+pick_start false false true false true true p u f none = refl
+pick_start false false true false true false true u f none = refl
+pick_start false false true false true false false u f none = refl
+pick_start false false true false false true true u f none = refl
+pick_start false false true false false true false u f none = refl
+pick_start false false true false false false true u f none = refl
+pick_start false false true false false false false u f none = refl
 
-way_is : (foreign : Bool) → elim foreign [ true ↦ goes (Use ForeignContent) ∷ [] | false ↦ goes UseCurrentMode ∷ [] ] ≡ goes (way_for foreign) ∷ []
+abbrev end_acts : Bool → Bool → List Act → List Act → List Act
+end_acts e h u f = elim (e && true) [ true ↦ u | false ↦ elim (h && true) [ true ↦ u | false ↦ f ] ]
+
+pick_end : (e h : Bool) (u f : List Act) → e ≡ false → end_acts e h u f ≡ by_test (not h) f u
+pick_end true h u f none = absurd (true≢false none)
+pick_end false true u f none = refl
+pick_end false false u f none = refl
+
+html_picked : (e h : Bool) (u f : List Act) → h ≡ true → end_acts e h u f ≡ u
+html_picked true h u f is_html = refl
+html_picked false true u f is_html = refl
+html_picked false false u f is_html = absurd (true≢false (sym is_html))
+
+way_is : (foreign : Bool) → by_test foreign (goes (Use ForeignContent) ∷ []) (goes UseCurrentMode ∷ []) ≡ goes (way_for foreign) ∷ []
 way_is true = refl
 way_is false = refl
 
@@ -148,7 +156,7 @@ start_way b o name root is =
     let kind = adjusted_current b.tree in
     pick_start (is_empty b.tree.stack) (is_html (space_in kind)) (is_among (text_of name) (codes "mglyph" ∷ codes "malignmark" ∷ [])) (is_named text_points kind)
     (is_among (text_of name) (codes "svg" ∷ [])) (is_named annotation kind) (is_html_point kind) (goes UseCurrentMode ∷ []) (goes (Use ForeignContent) ∷ []) (some_open b.tree o root is)
-    ∙ ap (λ (x : Bool). elim x [ true ↦ goes (Use ForeignContent) ∷ [] | false ↦ goes UseCurrentMode ∷ [] ])
+    ∙ ap (λ (x : Bool). by_test x (goes (Use ForeignContent) ∷ []) (goes UseCurrentMode ∷ []))
     (same_test _ _ _ _ _ _ (is_in_html o.ns) (is_glyph_name name) (is_a_text_point o) (names_svg name) (is_in_mathml o.ns) (names_annotation o.name) (is_an_html_point o)
     (in_space o kind is) (glyph_is name) (sym (kind_agrees text_points text_points_known o kind is)) (svg_is name)
     (sym (kind_agrees annotation annotation_known o kind is) ∙ annotation_is o.ns o.name) (sym is.point))
@@ -160,7 +168,7 @@ unfolding rules
 end_way b o name root is =
     let kind = adjusted_current b.tree in
     pick_end (is_empty b.tree.stack) (is_html (space_in kind)) (goes UseCurrentMode ∷ []) (goes (Use ForeignContent) ∷ []) (some_open b.tree o root is)
-    ∙ ap (λ (x : Bool). elim (not x) [ true ↦ goes (Use ForeignContent) ∷ [] | false ↦ goes UseCurrentMode ∷ [] ]) (in_space o kind is)
+    ∙ ap (λ (x : Bool). by_test (not x) (goes (Use ForeignContent) ∷ []) (goes UseCurrentMode ∷ [])) (in_space o kind is)
     ∙ way_is (is_foreign_to o TagKind.End name)
 
 pub some_dispatched : (s : TreeState) (r : Option Open) (o : Open) (kind : TagKind) (name : Name) (foreign : Bool) → r ≡ Some o →

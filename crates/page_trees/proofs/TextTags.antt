@@ -53,19 +53,19 @@ tag_in_mode m b new next e mode o =
     record { after = here.after; stands = here.stands; runs = by_mode b next here.after e here.runs }
 
 pub covered : (m n : Mode) → m ≡ n → covers n ≡ false → covers m ≡ true → ⊥
-covered m n e none yes = (let same = ap covers e in cc)
+covered m n e none covers_it = true≢false (sym covers_it ∙ ap covers e ∙ none)
 
 pub covered_outer : (m n : Mode) → m ≡ n → covers_outer n ≡ false → covers_outer m ≡ true → ⊥
-covered_outer m n e none yes = (let same = ap covers_outer e in cc)
+covered_outer m n e none covers_it = true≢false (sym covers_it ∙ ap covers_outer e ∙ none)
 
 pub outer_of : (m : Mode) → (m ≡ Mode.Text → ⊥) → covers m ≡ true → covers_outer m ≡ true
-outer_of Mode.Text other yes = absurd (other refl)
-outer_of _ other yes = yes
+outer_of Mode.Text other covers_it = absurd (other refl)
+outer_of _ other covers_it = covers_it
 
 pub initial_left : (m : Mode) → (m ≡ Mode.BeforeHtml → ⊥) → covers_outer m ≡ true → m ≡ Mode.Initial
-initial_left Mode.Initial other yes = refl
-initial_left Mode.BeforeHtml other yes = absurd (other refl)
-initial_left _ other yes = absurd (cc)
+initial_left Mode.Initial other covers_it = refl
+initial_left Mode.BeforeHtml other covers_it = absurd (other refl)
+initial_left _ other covers_it = absurd (cc)
 
 pub not_both : (b : Building) (foreign : Bool) → foreign ≡ true → taken b (rules Dispatcher) ≡ goes (way_for foreign) ∷ [] → taken b (rules Dispatcher) ≡ goes UseCurrentMode ∷ [] → ⊥
 not_both b true e one other = (let same = sym one ∙ other in cc)
