@@ -53,3 +53,10 @@ pub mod ModeOutcomes
 pub mod Dispatching
 pub mod BuilderSteps
 pub mod ElementSteps
+pub mod CurrentForeign
+pub mod DoctypeTexts
+pub mod TokenStates
+pub mod TokenRules
+pub mod PageEnds
+pub mod ForeignTags
+pub mod TextTags
