@@ -4,7 +4,8 @@ It does this, in this order:
 
 1. It runs the gate, `rt ci` (through tests/tools/gate.py), which proves every crate and runs every program once. Beside it,
    tests/tools/edits.py tries the must-fail edits of each crate as soon as the gate has proved it, and tests/tools/programs.py builds
-   the programs of tests/programs, which are not proved.
+   the programs of tests/programs, which are not proved. A gate that fails is run once more, over what it proved; where it fails again,
+   what it says of that stands before the last line, and 2 and 3 are left out.
 2. It runs the built programs on rows. A row is a line of JSON in tests/rows/PROGRAM/*.jsonl (for a part of the test program, in
    tests/rows/test_calls/PART/*.jsonl), or in tests/html5lib/*.jsonl (html5lib's tests of tree construction, which are rows of the
    program `hq`).
@@ -88,7 +89,7 @@ class Clock:
 
     def __init__(self):
         self.parts, self.begun = [], time.monotonic()
-        self.last_lines = []  # of the gate
+        self.last_lines, self.faults = [], []  # of the gate
 
     def note(self, part, wall, processor):
         self.parts.append((part, wall, processor))
@@ -104,6 +105,7 @@ class Clock:
         for part, wall, processor in self.parts:
             took = "" if processor is None else f", {processor / 60:.1f} of a processor"
             print(f"time of {part}: {wall / 60:.1f} minutes{took}")
+        print("".join(f"the gate failed: {line}\n" for line in self.faults), end="")
 
 
 def used(of=None):
@@ -118,29 +120,31 @@ def clear_built():
         shutil.rmtree(folder)
 
 
-def gate(clock):
-    """Runs the gate, shows what it says, and has the edits of each crate tried that it proved. Returns how many of its
-    checks passed and failed, and what waits for the edits and returns how many of them did."""
-    rt = shutil.which("rt")
-    if rt is None:
-        print("check: no command rt: the kit's folder bin must be on the PATH")
-        return (0, 1), lambda: (0, 0)
-    clear_built()
-    if "--anew" in sys.argv:
-        minutes.FOUND.unlink(missing_ok=True)
-    trials = edits.Trials(anew=bool({"--anew", "--edits"} & set(sys.argv)), writes="--edits" in sys.argv)
-    begun = time.monotonic()
-    # (a kit whose rt keeps nothing shows all anew each time, and has no such word)
-    anew = ["--anew"] if "--anew" in sys.argv and trials.refusals.kept else []
+def faults_in(lines):
+    """What the gate's lines say of each crate that it did not prove, and at their end, where it stopped there; without the functions
+    that are proved."""
+    found, section = [], []
+    for line in lines:
+        section = [line] if line.startswith("== ") else [*section, line]
+        if re.match(r"rt: .*(NOT PROVED|FAILED|killed)", line):
+            found += [*section[-30:], ""]
+            section = []
+    return found + section[-10:]
+
+
+def run_gate(clock, trials, anew):
+    """Runs the gate, shows what it says, and has the edits of each crate tried that it proved. Returns its status and its last line."""
     side_by_side = max(1, min(trials.processors, trials.rt.free() // PROOF))
     env = {"RT_JOBS": str(side_by_side), **os.environ}
-    command = [sys.executable, TESTS / "tools" / "gate.py", *anew]
+    command, begun = [sys.executable, TESTS / "tools" / "gate.py", *anew], time.monotonic()
     ran = subprocess.Popen(command, cwd=ROOT, env=env, stdout=subprocess.PIPE, stderr=subprocess.STDOUT, text=True)
-    last, proved_at, functions = "", begun, []
+    last, proved_at, functions, others = "", begun, [], []
     for line in ran.stdout:
         function = re.match(r"fn (\w+)::(\S+): proved", line)
         if function:
             functions.append((function[1], function[2].split("::")))
+        else:
+            others.append(line.rstrip())
         kept = re.match(r"rt: (\w+) is kept: ", line)
         proved = re.fullmatch(r"rt: (\w+)(?:: its tests are)? proved", line.strip())
         if kept:
@@ -153,18 +157,39 @@ def gate(clock):
         sys.stdout.write(line)
         sys.stdout.flush()
         last = line.strip() or last
-        clock.last_lines = [*clock.last_lines[-9:], line.rstrip()]
     _, status, of_gate = os.wait4(ran.pid, 0)
     ran.returncode = os.waitstatus_to_exitcode(status)
-    if ran.returncode == 0:
-        c_and_python.keep_of_gate()
     ended = time.monotonic()
+    clock.last_lines, clock.faults = others[-10:], faults_in(others) if ran.returncode else []
     clock.note("the gate's proofs", proved_at - begun, None)
     clock.note("the gate's runs after them", ended - proved_at, None)
     clock.note("the gate", ended - begun, used(of_gate))
+    return ran.returncode, last
+
+
+def gate(clock):
+    """Runs the gate, and runs it once more where it failed, since a proof may have been stopped for memory, or the disk was full: what it
+    proved is kept. Returns how many of its checks passed and failed, and what waits for the edits and returns how many of them
+    did."""
+    rt = shutil.which("rt")
+    if rt is None:
+        print("check: no command rt: the kit's folder bin must be on the PATH")
+        return (0, 1), lambda: (0, 0)
+    clear_built()
+    if "--anew" in sys.argv:
+        minutes.FOUND.unlink(missing_ok=True)
+    trials = edits.Trials(anew=bool({"--anew", "--edits"} & set(sys.argv)), writes="--edits" in sys.argv)
+    # (a kit whose rt keeps nothing shows all anew each time, and has no such word)
+    anew = ["--anew"] if "--anew" in sys.argv and trials.refusals.kept else []
+    status, last = run_gate(clock, trials, anew)
+    if status and trials.refusals.kept and trials.refusals.kept.at and not anew:
+        print("\n".join(["check: the gate failed:", *clock.faults, "check: what it did not prove is tried once more"]), flush=True)
+        status, last = run_gate(clock, trials, anew)
+    if status == 0:
+        c_and_python.keep_of_gate()
     counted = re.fullmatch(r"(\d+) passed, (\d+) failed", last)
     passed, failed = (int(counted[1]), int(counted[2])) if counted else (0, 1)
-    return (passed, failed if ran.returncode == 0 or failed else 1), trials.finish
+    return (passed, failed if status == 0 or failed else 1), trials.finish
 
 
 def fault_of(program, case):
@@ -303,6 +328,17 @@ def refused_callers():
     return passed, failed
 
 
+def summed(clock, counts, sources=None):
+    """Shows the times and the sums, and returns the status. Leaves the record where nothing failed of all that there is."""
+    clock.note("all", time.monotonic() - clock.begun, used())
+    clock.show()
+    passed, failed = (sum(column) for column in zip(*counts))
+    if not failed and sources is not None:
+        record.write(sources, clock.last_lines, f"{passed} passed, {failed} failed")
+    print(f"{passed} passed, {failed} failed")
+    return 1 if failed else 0
+
+
 def main():
     if sys.argv[1:] not in ([], ["--quick"], ["--rows"], ["--edits"], ["--anew"]):
         print("usage: check [--quick | --rows | --edits | --anew]; the head of tests/tools/check.py says what it does", file=sys.stderr)
@@ -322,6 +358,10 @@ def main():
     tables += [standard_rules.checked, standard_parsing.checked, standard_trees.checked, wrong_bodies, line_lengths.line_lengths, coverage.coverage]
     tables += [entries_of_tables.tables, hostile.hostile, decoded, pictures.checked]
     counts = [built_well, counts] if counts else [built_well]
+    if clock.faults:
+        # (most rows and checks run programs that it did not build)
+        counts.append(edits_left())
+        return summed(clock, counts)
     with ThreadPoolExecutor() as pool:
         # (what is done beside the edits neither measures the processor time of others nor changes a child before it starts)
         beside = [("the edits, once the gate had ended", edits_left), ("the refusals", refusals.refusals)]
@@ -333,13 +373,7 @@ def main():
     alone += [("files written in place", in_place.in_place), ("small address spaces", refusals.limited)]
     alone += [("deep and wide trees", depth.depth), ("the growth of the work", growth.growth)]
     counts += [clock.timed(part, each) for part, each in alone]
-    clock.note("all", time.monotonic() - clock.begun, used())
-    clock.show()
-    passed, failed = (sum(column) for column in zip(*counts))
-    if not failed and sources is not None:
-        record.write(sources, clock.last_lines, f"{passed} passed, {failed} failed")
-    print(f"{passed} passed, {failed} failed")
-    return 1 if failed else 0
+    return summed(clock, counts, sources)
 
 
 if __name__ == "__main__":

@@ -528,7 +528,8 @@ class Trials:
         """Takes what the gate built of a crate, if it is a library, into the copy of the workspace."""
         if (ROOT / "crates" / name / "out" / "rlib").is_dir():
             to = pathlib.Path(self.crates[name].folder) / "out" / "rlib"
-            shutil.copytree(ROOT / "crates" / name / "out" / "rlib", to, copy_function=linked)
+            if not to.exists():
+                shutil.copytree(ROOT / "crates" / name / "out" / "rlib", to, copy_function=linked)
 
     def built(self, name, proved):
         """Takes what the gate built of a crate, and has its edits tried: `proved` has the paths of its functions, or

@@ -1,9 +1,10 @@
 -- What may be where by the categories of Calm may be there by the places of the rules.
-use Rattle.std.specs.Prelude.{◌≡◌, ◌≢◌, ℕ, Bool, true, false, not, ◌==◌, ◌||◌, ◌&&◌, List, [], refl}
+use Rattle.std.specs.Prelude.{◌≡◌, ◌≢◌, ℕ, zero, suc, Bool, true, false, not, ◌==◌, ◌||◌, ◌&&◌, List, [], ◌∷◌, refl}
 use Rattle.std.specs.List.{list_all}
 use Rattle.std.specs.Str.{IsUtf8, chars}
 use Rattle.std.proofs.lemmas.Bool.{true≢false}
 use Rattle.std.specs.Cmp.Derive.{both_true}
+use Rattle.dom_nodes.specs.NameLaws.{both_true as both_of}
 use mathlib.Core.Path.{sym}
 use Rattle.calm_pages.specs.Calm.{may_hold_text}
 use Rattle.page_trees.specs.ElementKinds.{may_hold}
@@ -20,845 +21,153 @@ is_inner Document = false
 is_inner Html = false
 is_inner category = true
 
+-- ---- what holds of all categories, by computation
+
+abbrev pub every : List ElementCategory
+every =
+    Document ∷ Html ∷ Head ∷ Body ∷ Metadata ∷ Verbatim ∷ Phrase ∷ Anchor ∷ Button ∷ Paragraph ∷ Block ∷ Heading ∷ Form ∷
+    Pre ∷ ItemList ∷ Item ∷ DescriptionList ∷ Description ∷ Ruby ∷ RubyText ∷ Table ∷ Caption ∷ ColumnGroup ∷ Column ∷
+    RowGroup ∷ TableRow ∷ Cell ∷ Other ∷ []
+
+-- the category at a place of a list
+abbrev pub at : List ElementCategory → ℕ → ElementCategory
+at [] n = Document
+at (c ∷ cs) zero = c
+at (c ∷ cs) (suc n) = at cs n
+
+-- what holds of each category of a list holds of the one at a place
+pub holds_at : (f : ElementCategory → Bool) (cs : List ElementCategory) (n : ℕ) → f Document ≡ true → list_all f cs ≡ true → f (at cs n) ≡ true
+holds_at f [] n first all = first
+holds_at f (c ∷ cs) zero first all = (both_of (f c) (list_all f cs) all).0
+holds_at f (c ∷ cs) (suc n) first all = holds_at f cs n first (both_of (f c) (list_all f cs) all).1
+
+pub of_every : (f : ElementCategory → Bool) → f Document ≡ true → list_all f every ≡ true → (p : ElementCategory) → f p ≡ true
+of_every f first all Document = holds_at f every 0 first all
+of_every f first all Html = holds_at f every 1 first all
+of_every f first all Head = holds_at f every 2 first all
+of_every f first all Body = holds_at f every 3 first all
+of_every f first all Metadata = holds_at f every 4 first all
+of_every f first all Verbatim = holds_at f every 5 first all
+of_every f first all Phrase = holds_at f every 6 first all
+of_every f first all Anchor = holds_at f every 7 first all
+of_every f first all Button = holds_at f every 8 first all
+of_every f first all Paragraph = holds_at f every 9 first all
+of_every f first all Block = holds_at f every 10 first all
+of_every f first all Heading = holds_at f every 11 first all
+of_every f first all Form = holds_at f every 12 first all
+of_every f first all Pre = holds_at f every 13 first all
+of_every f first all ItemList = holds_at f every 14 first all
+of_every f first all Item = holds_at f every 15 first all
+of_every f first all DescriptionList = holds_at f every 16 first all
+of_every f first all Description = holds_at f every 17 first all
+of_every f first all Ruby = holds_at f every 18 first all
+of_every f first all RubyText = holds_at f every 19 first all
+of_every f first all Table = holds_at f every 20 first all
+of_every f first all Caption = holds_at f every 21 first all
+of_every f first all ColumnGroup = holds_at f every 22 first all
+of_every f first all Column = holds_at f every 23 first all
+of_every f first all RowGroup = holds_at f every 24 first all
+of_every f first all TableRow = holds_at f every 25 first all
+of_every f first all Cell = holds_at f every 26 first all
+of_every f first all Other = holds_at f every 27 first all
+
+-- it is not so, or else the place is such a one
+abbrev pub fits : (ElementCategory → Bool) → ElementCategory → ElementCategory → Bool
+fits is c p = not (is_inner p && may_hold p c) || is p
+
+pub is_so : (a b r : Bool) → a ≡ true → b ≡ true → (not (a && b) || r) ≡ true → r ≡ true
+is_so true true r ha hb h = h
+is_so false b r ha hb h = absurd (true≢false (sym ha))
+is_so true false r ha hb h = absurd (true≢false (sym hb))
+
+-- each category that may hold elements of another is such a place, as all 28 are tried
+pub holds : (is : ElementCategory → Bool) (c : ElementCategory) → fits is c Document ≡ true → list_all (fits is c) every ≡ true →
+    (p : ElementCategory) → is_inner p ≡ true → may_hold p c ≡ true → is p ≡ true
+holds is c first all p inner may = is_so (is_inner p) (may_hold p c) (is p) inner may (of_every (fits is c) first all p)
+
 pub holds_Phrase : (p : ElementCategory) → is_inner p ≡ true → may_hold p Phrase ≡ true → is_flow (place_in p) ≡ true
-holds_Phrase Document i h = absurd (true≢false (sym i))
-holds_Phrase Html i h = absurd (true≢false (sym i))
-holds_Phrase Head i h = absurd (true≢false (sym h))
-holds_Phrase Body i h = refl
-holds_Phrase Metadata i h = absurd (true≢false (sym h))
-holds_Phrase Verbatim i h = absurd (true≢false (sym h))
-holds_Phrase Phrase i h = refl
-holds_Phrase Anchor i h = refl
-holds_Phrase Button i h = refl
-holds_Phrase Paragraph i h = refl
-holds_Phrase Block i h = refl
-holds_Phrase Heading i h = refl
-holds_Phrase Form i h = refl
-holds_Phrase Pre i h = refl
-holds_Phrase ItemList i h = refl
-holds_Phrase Item i h = refl
-holds_Phrase DescriptionList i h = refl
-holds_Phrase Description i h = refl
-holds_Phrase Ruby i h = refl
-holds_Phrase RubyText i h = refl
-holds_Phrase Table i h = absurd (true≢false (sym h))
-holds_Phrase Caption i h = refl
-holds_Phrase ColumnGroup i h = absurd (true≢false (sym h))
-holds_Phrase Column i h = absurd (true≢false (sym h))
-holds_Phrase RowGroup i h = absurd (true≢false (sym h))
-holds_Phrase TableRow i h = absurd (true≢false (sym h))
-holds_Phrase Cell i h = refl
-holds_Phrase Other i h = absurd (true≢false (sym h))
+holds_Phrase = holds (λ p. is_flow (place_in p)) Phrase refl refl
 
 pub holds_Ruby : (p : ElementCategory) → is_inner p ≡ true → may_hold p Ruby ≡ true → is_flow (place_in p) ≡ true
-holds_Ruby Document i h = absurd (true≢false (sym i))
-holds_Ruby Html i h = absurd (true≢false (sym i))
-holds_Ruby Head i h = absurd (true≢false (sym h))
-holds_Ruby Body i h = refl
-holds_Ruby Metadata i h = absurd (true≢false (sym h))
-holds_Ruby Verbatim i h = absurd (true≢false (sym h))
-holds_Ruby Phrase i h = refl
-holds_Ruby Anchor i h = refl
-holds_Ruby Button i h = refl
-holds_Ruby Paragraph i h = refl
-holds_Ruby Block i h = refl
-holds_Ruby Heading i h = refl
-holds_Ruby Form i h = refl
-holds_Ruby Pre i h = refl
-holds_Ruby ItemList i h = refl
-holds_Ruby Item i h = refl
-holds_Ruby DescriptionList i h = refl
-holds_Ruby Description i h = refl
-holds_Ruby Ruby i h = refl
-holds_Ruby RubyText i h = refl
-holds_Ruby Table i h = absurd (true≢false (sym h))
-holds_Ruby Caption i h = refl
-holds_Ruby ColumnGroup i h = absurd (true≢false (sym h))
-holds_Ruby Column i h = absurd (true≢false (sym h))
-holds_Ruby RowGroup i h = absurd (true≢false (sym h))
-holds_Ruby TableRow i h = absurd (true≢false (sym h))
-holds_Ruby Cell i h = refl
-holds_Ruby Other i h = absurd (true≢false (sym h))
+holds_Ruby = holds (λ p. is_flow (place_in p)) Ruby refl refl
 
 pub holds_Anchor : (p : ElementCategory) → is_inner p ≡ true → may_hold p Anchor ≡ true → is_flow (place_in p) ≡ true
-holds_Anchor Document i h = absurd (true≢false (sym i))
-holds_Anchor Html i h = absurd (true≢false (sym i))
-holds_Anchor Head i h = absurd (true≢false (sym h))
-holds_Anchor Body i h = refl
-holds_Anchor Metadata i h = absurd (true≢false (sym h))
-holds_Anchor Verbatim i h = absurd (true≢false (sym h))
-holds_Anchor Phrase i h = refl
-holds_Anchor Anchor i h = refl
-holds_Anchor Button i h = refl
-holds_Anchor Paragraph i h = refl
-holds_Anchor Block i h = refl
-holds_Anchor Heading i h = refl
-holds_Anchor Form i h = refl
-holds_Anchor Pre i h = refl
-holds_Anchor ItemList i h = refl
-holds_Anchor Item i h = refl
-holds_Anchor DescriptionList i h = refl
-holds_Anchor Description i h = refl
-holds_Anchor Ruby i h = refl
-holds_Anchor RubyText i h = refl
-holds_Anchor Table i h = absurd (true≢false (sym h))
-holds_Anchor Caption i h = refl
-holds_Anchor ColumnGroup i h = absurd (true≢false (sym h))
-holds_Anchor Column i h = absurd (true≢false (sym h))
-holds_Anchor RowGroup i h = absurd (true≢false (sym h))
-holds_Anchor TableRow i h = absurd (true≢false (sym h))
-holds_Anchor Cell i h = refl
-holds_Anchor Other i h = absurd (true≢false (sym h))
+holds_Anchor = holds (λ p. is_flow (place_in p)) Anchor refl refl
 
 pub holds_Button : (p : ElementCategory) → is_inner p ≡ true → may_hold p Button ≡ true → is_flow (place_in p) ≡ true
-holds_Button Document i h = absurd (true≢false (sym i))
-holds_Button Html i h = absurd (true≢false (sym i))
-holds_Button Head i h = absurd (true≢false (sym h))
-holds_Button Body i h = refl
-holds_Button Metadata i h = absurd (true≢false (sym h))
-holds_Button Verbatim i h = absurd (true≢false (sym h))
-holds_Button Phrase i h = refl
-holds_Button Anchor i h = refl
-holds_Button Button i h = refl
-holds_Button Paragraph i h = refl
-holds_Button Block i h = refl
-holds_Button Heading i h = refl
-holds_Button Form i h = refl
-holds_Button Pre i h = refl
-holds_Button ItemList i h = refl
-holds_Button Item i h = refl
-holds_Button DescriptionList i h = refl
-holds_Button Description i h = refl
-holds_Button Ruby i h = refl
-holds_Button RubyText i h = refl
-holds_Button Table i h = absurd (true≢false (sym h))
-holds_Button Caption i h = refl
-holds_Button ColumnGroup i h = absurd (true≢false (sym h))
-holds_Button Column i h = absurd (true≢false (sym h))
-holds_Button RowGroup i h = absurd (true≢false (sym h))
-holds_Button TableRow i h = absurd (true≢false (sym h))
-holds_Button Cell i h = refl
-holds_Button Other i h = absurd (true≢false (sym h))
+holds_Button = holds (λ p. is_flow (place_in p)) Button refl refl
 
 pub holds_Paragraph : (p : ElementCategory) → is_inner p ≡ true → may_hold p Paragraph ≡ true → is_flow (place_in p) ≡ true
-holds_Paragraph Document i h = absurd (true≢false (sym i))
-holds_Paragraph Html i h = absurd (true≢false (sym i))
-holds_Paragraph Head i h = absurd (true≢false (sym h))
-holds_Paragraph Body i h = refl
-holds_Paragraph Metadata i h = absurd (true≢false (sym h))
-holds_Paragraph Verbatim i h = absurd (true≢false (sym h))
-holds_Paragraph Phrase i h = refl
-holds_Paragraph Anchor i h = refl
-holds_Paragraph Button i h = refl
-holds_Paragraph Paragraph i h = refl
-holds_Paragraph Block i h = refl
-holds_Paragraph Heading i h = refl
-holds_Paragraph Form i h = refl
-holds_Paragraph Pre i h = refl
-holds_Paragraph ItemList i h = refl
-holds_Paragraph Item i h = refl
-holds_Paragraph DescriptionList i h = refl
-holds_Paragraph Description i h = refl
-holds_Paragraph Ruby i h = refl
-holds_Paragraph RubyText i h = refl
-holds_Paragraph Table i h = absurd (true≢false (sym h))
-holds_Paragraph Caption i h = refl
-holds_Paragraph ColumnGroup i h = absurd (true≢false (sym h))
-holds_Paragraph Column i h = absurd (true≢false (sym h))
-holds_Paragraph RowGroup i h = absurd (true≢false (sym h))
-holds_Paragraph TableRow i h = absurd (true≢false (sym h))
-holds_Paragraph Cell i h = refl
-holds_Paragraph Other i h = absurd (true≢false (sym h))
+holds_Paragraph = holds (λ p. is_flow (place_in p)) Paragraph refl refl
 
 pub holds_Block : (p : ElementCategory) → is_inner p ≡ true → may_hold p Block ≡ true → is_flow (place_in p) ≡ true
-holds_Block Document i h = absurd (true≢false (sym i))
-holds_Block Html i h = absurd (true≢false (sym i))
-holds_Block Head i h = absurd (true≢false (sym h))
-holds_Block Body i h = refl
-holds_Block Metadata i h = absurd (true≢false (sym h))
-holds_Block Verbatim i h = absurd (true≢false (sym h))
-holds_Block Phrase i h = refl
-holds_Block Anchor i h = refl
-holds_Block Button i h = refl
-holds_Block Paragraph i h = refl
-holds_Block Block i h = refl
-holds_Block Heading i h = refl
-holds_Block Form i h = refl
-holds_Block Pre i h = refl
-holds_Block ItemList i h = refl
-holds_Block Item i h = refl
-holds_Block DescriptionList i h = refl
-holds_Block Description i h = refl
-holds_Block Ruby i h = refl
-holds_Block RubyText i h = refl
-holds_Block Table i h = absurd (true≢false (sym h))
-holds_Block Caption i h = refl
-holds_Block ColumnGroup i h = absurd (true≢false (sym h))
-holds_Block Column i h = absurd (true≢false (sym h))
-holds_Block RowGroup i h = absurd (true≢false (sym h))
-holds_Block TableRow i h = absurd (true≢false (sym h))
-holds_Block Cell i h = refl
-holds_Block Other i h = absurd (true≢false (sym h))
+holds_Block = holds (λ p. is_flow (place_in p)) Block refl refl
 
 pub holds_Form : (p : ElementCategory) → is_inner p ≡ true → may_hold p Form ≡ true → is_flow (place_in p) ≡ true
-holds_Form Document i h = absurd (true≢false (sym i))
-holds_Form Html i h = absurd (true≢false (sym i))
-holds_Form Head i h = absurd (true≢false (sym h))
-holds_Form Body i h = refl
-holds_Form Metadata i h = absurd (true≢false (sym h))
-holds_Form Verbatim i h = absurd (true≢false (sym h))
-holds_Form Phrase i h = refl
-holds_Form Anchor i h = refl
-holds_Form Button i h = refl
-holds_Form Paragraph i h = refl
-holds_Form Block i h = refl
-holds_Form Heading i h = refl
-holds_Form Form i h = refl
-holds_Form Pre i h = refl
-holds_Form ItemList i h = refl
-holds_Form Item i h = refl
-holds_Form DescriptionList i h = refl
-holds_Form Description i h = refl
-holds_Form Ruby i h = refl
-holds_Form RubyText i h = refl
-holds_Form Table i h = absurd (true≢false (sym h))
-holds_Form Caption i h = refl
-holds_Form ColumnGroup i h = absurd (true≢false (sym h))
-holds_Form Column i h = absurd (true≢false (sym h))
-holds_Form RowGroup i h = absurd (true≢false (sym h))
-holds_Form TableRow i h = absurd (true≢false (sym h))
-holds_Form Cell i h = refl
-holds_Form Other i h = absurd (true≢false (sym h))
+holds_Form = holds (λ p. is_flow (place_in p)) Form refl refl
 
 pub holds_Pre : (p : ElementCategory) → is_inner p ≡ true → may_hold p Pre ≡ true → is_flow (place_in p) ≡ true
-holds_Pre Document i h = absurd (true≢false (sym i))
-holds_Pre Html i h = absurd (true≢false (sym i))
-holds_Pre Head i h = absurd (true≢false (sym h))
-holds_Pre Body i h = refl
-holds_Pre Metadata i h = absurd (true≢false (sym h))
-holds_Pre Verbatim i h = absurd (true≢false (sym h))
-holds_Pre Phrase i h = refl
-holds_Pre Anchor i h = refl
-holds_Pre Button i h = refl
-holds_Pre Paragraph i h = refl
-holds_Pre Block i h = refl
-holds_Pre Heading i h = refl
-holds_Pre Form i h = refl
-holds_Pre Pre i h = refl
-holds_Pre ItemList i h = refl
-holds_Pre Item i h = refl
-holds_Pre DescriptionList i h = refl
-holds_Pre Description i h = refl
-holds_Pre Ruby i h = refl
-holds_Pre RubyText i h = refl
-holds_Pre Table i h = absurd (true≢false (sym h))
-holds_Pre Caption i h = refl
-holds_Pre ColumnGroup i h = absurd (true≢false (sym h))
-holds_Pre Column i h = absurd (true≢false (sym h))
-holds_Pre RowGroup i h = absurd (true≢false (sym h))
-holds_Pre TableRow i h = absurd (true≢false (sym h))
-holds_Pre Cell i h = refl
-holds_Pre Other i h = absurd (true≢false (sym h))
+holds_Pre = holds (λ p. is_flow (place_in p)) Pre refl refl
 
 pub holds_ItemList : (p : ElementCategory) → is_inner p ≡ true → may_hold p ItemList ≡ true → is_flow (place_in p) ≡ true
-holds_ItemList Document i h = absurd (true≢false (sym i))
-holds_ItemList Html i h = absurd (true≢false (sym i))
-holds_ItemList Head i h = absurd (true≢false (sym h))
-holds_ItemList Body i h = refl
-holds_ItemList Metadata i h = absurd (true≢false (sym h))
-holds_ItemList Verbatim i h = absurd (true≢false (sym h))
-holds_ItemList Phrase i h = refl
-holds_ItemList Anchor i h = refl
-holds_ItemList Button i h = refl
-holds_ItemList Paragraph i h = refl
-holds_ItemList Block i h = refl
-holds_ItemList Heading i h = refl
-holds_ItemList Form i h = refl
-holds_ItemList Pre i h = refl
-holds_ItemList ItemList i h = refl
-holds_ItemList Item i h = refl
-holds_ItemList DescriptionList i h = refl
-holds_ItemList Description i h = refl
-holds_ItemList Ruby i h = refl
-holds_ItemList RubyText i h = refl
-holds_ItemList Table i h = absurd (true≢false (sym h))
-holds_ItemList Caption i h = refl
-holds_ItemList ColumnGroup i h = absurd (true≢false (sym h))
-holds_ItemList Column i h = absurd (true≢false (sym h))
-holds_ItemList RowGroup i h = absurd (true≢false (sym h))
-holds_ItemList TableRow i h = absurd (true≢false (sym h))
-holds_ItemList Cell i h = refl
-holds_ItemList Other i h = absurd (true≢false (sym h))
+holds_ItemList = holds (λ p. is_flow (place_in p)) ItemList refl refl
 
 pub holds_DescriptionList : (p : ElementCategory) → is_inner p ≡ true → may_hold p DescriptionList ≡ true → is_flow (place_in p) ≡ true
-holds_DescriptionList Document i h = absurd (true≢false (sym i))
-holds_DescriptionList Html i h = absurd (true≢false (sym i))
-holds_DescriptionList Head i h = absurd (true≢false (sym h))
-holds_DescriptionList Body i h = refl
-holds_DescriptionList Metadata i h = absurd (true≢false (sym h))
-holds_DescriptionList Verbatim i h = absurd (true≢false (sym h))
-holds_DescriptionList Phrase i h = refl
-holds_DescriptionList Anchor i h = refl
-holds_DescriptionList Button i h = refl
-holds_DescriptionList Paragraph i h = refl
-holds_DescriptionList Block i h = refl
-holds_DescriptionList Heading i h = refl
-holds_DescriptionList Form i h = refl
-holds_DescriptionList Pre i h = refl
-holds_DescriptionList ItemList i h = refl
-holds_DescriptionList Item i h = refl
-holds_DescriptionList DescriptionList i h = refl
-holds_DescriptionList Description i h = refl
-holds_DescriptionList Ruby i h = refl
-holds_DescriptionList RubyText i h = refl
-holds_DescriptionList Table i h = absurd (true≢false (sym h))
-holds_DescriptionList Caption i h = refl
-holds_DescriptionList ColumnGroup i h = absurd (true≢false (sym h))
-holds_DescriptionList Column i h = absurd (true≢false (sym h))
-holds_DescriptionList RowGroup i h = absurd (true≢false (sym h))
-holds_DescriptionList TableRow i h = absurd (true≢false (sym h))
-holds_DescriptionList Cell i h = refl
-holds_DescriptionList Other i h = absurd (true≢false (sym h))
+holds_DescriptionList = holds (λ p. is_flow (place_in p)) DescriptionList refl refl
 
 pub holds_Table : (p : ElementCategory) → is_inner p ≡ true → may_hold p Table ≡ true → is_flow (place_in p) ≡ true
-holds_Table Document i h = absurd (true≢false (sym i))
-holds_Table Html i h = absurd (true≢false (sym i))
-holds_Table Head i h = absurd (true≢false (sym h))
-holds_Table Body i h = refl
-holds_Table Metadata i h = absurd (true≢false (sym h))
-holds_Table Verbatim i h = absurd (true≢false (sym h))
-holds_Table Phrase i h = refl
-holds_Table Anchor i h = refl
-holds_Table Button i h = refl
-holds_Table Paragraph i h = refl
-holds_Table Block i h = refl
-holds_Table Heading i h = refl
-holds_Table Form i h = refl
-holds_Table Pre i h = refl
-holds_Table ItemList i h = refl
-holds_Table Item i h = refl
-holds_Table DescriptionList i h = refl
-holds_Table Description i h = refl
-holds_Table Ruby i h = refl
-holds_Table RubyText i h = refl
-holds_Table Table i h = absurd (true≢false (sym h))
-holds_Table Caption i h = refl
-holds_Table ColumnGroup i h = absurd (true≢false (sym h))
-holds_Table Column i h = absurd (true≢false (sym h))
-holds_Table RowGroup i h = absurd (true≢false (sym h))
-holds_Table TableRow i h = absurd (true≢false (sym h))
-holds_Table Cell i h = refl
-holds_Table Other i h = absurd (true≢false (sym h))
+holds_Table = holds (λ p. is_flow (place_in p)) Table refl refl
 
 pub holds_Heading : (p : ElementCategory) → is_inner p ≡ true → may_hold p Heading ≡ true → (is_flow (place_in p) && not (is_heading (place_in p))) ≡ true
-holds_Heading Document i h = absurd (true≢false (sym i))
-holds_Heading Html i h = absurd (true≢false (sym i))
-holds_Heading Head i h = absurd (true≢false (sym h))
-holds_Heading Body i h = refl
-holds_Heading Metadata i h = absurd (true≢false (sym h))
-holds_Heading Verbatim i h = absurd (true≢false (sym h))
-holds_Heading Phrase i h = refl
-holds_Heading Anchor i h = refl
-holds_Heading Button i h = refl
-holds_Heading Paragraph i h = refl
-holds_Heading Block i h = refl
-holds_Heading Heading i h = absurd (true≢false (sym h))
-holds_Heading Form i h = refl
-holds_Heading Pre i h = refl
-holds_Heading ItemList i h = refl
-holds_Heading Item i h = refl
-holds_Heading DescriptionList i h = refl
-holds_Heading Description i h = refl
-holds_Heading Ruby i h = refl
-holds_Heading RubyText i h = refl
-holds_Heading Table i h = absurd (true≢false (sym h))
-holds_Heading Caption i h = refl
-holds_Heading ColumnGroup i h = absurd (true≢false (sym h))
-holds_Heading Column i h = absurd (true≢false (sym h))
-holds_Heading RowGroup i h = absurd (true≢false (sym h))
-holds_Heading TableRow i h = absurd (true≢false (sym h))
-holds_Heading Cell i h = refl
-holds_Heading Other i h = absurd (true≢false (sym h))
+holds_Heading = holds (λ p. is_flow (place_in p) && not (is_heading (place_in p))) Heading refl refl
 
 pub holds_Verbatim : (p : ElementCategory) → is_inner p ≡ true → may_hold p Verbatim ≡ true → (is_flow (place_in p) || is_head (place_in p)) ≡ true
-holds_Verbatim Document i h = absurd (true≢false (sym i))
-holds_Verbatim Html i h = absurd (true≢false (sym i))
-holds_Verbatim Head i h = refl
-holds_Verbatim Body i h = refl
-holds_Verbatim Metadata i h = absurd (true≢false (sym h))
-holds_Verbatim Verbatim i h = absurd (true≢false (sym h))
-holds_Verbatim Phrase i h = refl
-holds_Verbatim Anchor i h = refl
-holds_Verbatim Button i h = refl
-holds_Verbatim Paragraph i h = refl
-holds_Verbatim Block i h = refl
-holds_Verbatim Heading i h = refl
-holds_Verbatim Form i h = refl
-holds_Verbatim Pre i h = refl
-holds_Verbatim ItemList i h = refl
-holds_Verbatim Item i h = refl
-holds_Verbatim DescriptionList i h = refl
-holds_Verbatim Description i h = refl
-holds_Verbatim Ruby i h = refl
-holds_Verbatim RubyText i h = refl
-holds_Verbatim Table i h = absurd (true≢false (sym h))
-holds_Verbatim Caption i h = refl
-holds_Verbatim ColumnGroup i h = absurd (true≢false (sym h))
-holds_Verbatim Column i h = absurd (true≢false (sym h))
-holds_Verbatim RowGroup i h = absurd (true≢false (sym h))
-holds_Verbatim TableRow i h = absurd (true≢false (sym h))
-holds_Verbatim Cell i h = refl
-holds_Verbatim Other i h = absurd (true≢false (sym h))
+holds_Verbatim = holds (λ p. is_flow (place_in p) || is_head (place_in p)) Verbatim refl refl
 
 pub holds_Item : (p : ElementCategory) → is_inner p ≡ true → may_hold p Item ≡ true → is_list (place_in p) ≡ true
-holds_Item Document i h = absurd (true≢false (sym i))
-holds_Item Html i h = absurd (true≢false (sym i))
-holds_Item Head i h = absurd (true≢false (sym h))
-holds_Item Body i h = absurd (true≢false (sym h))
-holds_Item Metadata i h = absurd (true≢false (sym h))
-holds_Item Verbatim i h = absurd (true≢false (sym h))
-holds_Item Phrase i h = absurd (true≢false (sym h))
-holds_Item Anchor i h = absurd (true≢false (sym h))
-holds_Item Button i h = absurd (true≢false (sym h))
-holds_Item Paragraph i h = absurd (true≢false (sym h))
-holds_Item Block i h = absurd (true≢false (sym h))
-holds_Item Heading i h = absurd (true≢false (sym h))
-holds_Item Form i h = absurd (true≢false (sym h))
-holds_Item Pre i h = absurd (true≢false (sym h))
-holds_Item ItemList i h = refl
-holds_Item Item i h = absurd (true≢false (sym h))
-holds_Item DescriptionList i h = absurd (true≢false (sym h))
-holds_Item Description i h = absurd (true≢false (sym h))
-holds_Item Ruby i h = absurd (true≢false (sym h))
-holds_Item RubyText i h = absurd (true≢false (sym h))
-holds_Item Table i h = absurd (true≢false (sym h))
-holds_Item Caption i h = absurd (true≢false (sym h))
-holds_Item ColumnGroup i h = absurd (true≢false (sym h))
-holds_Item Column i h = absurd (true≢false (sym h))
-holds_Item RowGroup i h = absurd (true≢false (sym h))
-holds_Item TableRow i h = absurd (true≢false (sym h))
-holds_Item Cell i h = absurd (true≢false (sym h))
-holds_Item Other i h = absurd (true≢false (sym h))
+holds_Item = holds (λ p. is_list (place_in p)) Item refl refl
 
 pub holds_Description : (p : ElementCategory) → is_inner p ≡ true → may_hold p Description ≡ true → is_description_list (place_in p) ≡ true
-holds_Description Document i h = absurd (true≢false (sym i))
-holds_Description Html i h = absurd (true≢false (sym i))
-holds_Description Head i h = absurd (true≢false (sym h))
-holds_Description Body i h = absurd (true≢false (sym h))
-holds_Description Metadata i h = absurd (true≢false (sym h))
-holds_Description Verbatim i h = absurd (true≢false (sym h))
-holds_Description Phrase i h = absurd (true≢false (sym h))
-holds_Description Anchor i h = absurd (true≢false (sym h))
-holds_Description Button i h = absurd (true≢false (sym h))
-holds_Description Paragraph i h = absurd (true≢false (sym h))
-holds_Description Block i h = absurd (true≢false (sym h))
-holds_Description Heading i h = absurd (true≢false (sym h))
-holds_Description Form i h = absurd (true≢false (sym h))
-holds_Description Pre i h = absurd (true≢false (sym h))
-holds_Description ItemList i h = absurd (true≢false (sym h))
-holds_Description Item i h = absurd (true≢false (sym h))
-holds_Description DescriptionList i h = refl
-holds_Description Description i h = absurd (true≢false (sym h))
-holds_Description Ruby i h = absurd (true≢false (sym h))
-holds_Description RubyText i h = absurd (true≢false (sym h))
-holds_Description Table i h = absurd (true≢false (sym h))
-holds_Description Caption i h = absurd (true≢false (sym h))
-holds_Description ColumnGroup i h = absurd (true≢false (sym h))
-holds_Description Column i h = absurd (true≢false (sym h))
-holds_Description RowGroup i h = absurd (true≢false (sym h))
-holds_Description TableRow i h = absurd (true≢false (sym h))
-holds_Description Cell i h = absurd (true≢false (sym h))
-holds_Description Other i h = absurd (true≢false (sym h))
+holds_Description = holds (λ p. is_description_list (place_in p)) Description refl refl
 
 pub holds_RubyText : (p : ElementCategory) → is_inner p ≡ true → may_hold p RubyText ≡ true → is_ruby (place_in p) ≡ true
-holds_RubyText Document i h = absurd (true≢false (sym i))
-holds_RubyText Html i h = absurd (true≢false (sym i))
-holds_RubyText Head i h = absurd (true≢false (sym h))
-holds_RubyText Body i h = absurd (true≢false (sym h))
-holds_RubyText Metadata i h = absurd (true≢false (sym h))
-holds_RubyText Verbatim i h = absurd (true≢false (sym h))
-holds_RubyText Phrase i h = absurd (true≢false (sym h))
-holds_RubyText Anchor i h = absurd (true≢false (sym h))
-holds_RubyText Button i h = absurd (true≢false (sym h))
-holds_RubyText Paragraph i h = absurd (true≢false (sym h))
-holds_RubyText Block i h = absurd (true≢false (sym h))
-holds_RubyText Heading i h = absurd (true≢false (sym h))
-holds_RubyText Form i h = absurd (true≢false (sym h))
-holds_RubyText Pre i h = absurd (true≢false (sym h))
-holds_RubyText ItemList i h = absurd (true≢false (sym h))
-holds_RubyText Item i h = absurd (true≢false (sym h))
-holds_RubyText DescriptionList i h = absurd (true≢false (sym h))
-holds_RubyText Description i h = absurd (true≢false (sym h))
-holds_RubyText Ruby i h = refl
-holds_RubyText RubyText i h = absurd (true≢false (sym h))
-holds_RubyText Table i h = absurd (true≢false (sym h))
-holds_RubyText Caption i h = absurd (true≢false (sym h))
-holds_RubyText ColumnGroup i h = absurd (true≢false (sym h))
-holds_RubyText Column i h = absurd (true≢false (sym h))
-holds_RubyText RowGroup i h = absurd (true≢false (sym h))
-holds_RubyText TableRow i h = absurd (true≢false (sym h))
-holds_RubyText Cell i h = absurd (true≢false (sym h))
-holds_RubyText Other i h = absurd (true≢false (sym h))
+holds_RubyText = holds (λ p. is_ruby (place_in p)) RubyText refl refl
 
 pub holds_Caption : (p : ElementCategory) → is_inner p ≡ true → may_hold p Caption ≡ true → is_table (place_in p) ≡ true
-holds_Caption Document i h = absurd (true≢false (sym i))
-holds_Caption Html i h = absurd (true≢false (sym i))
-holds_Caption Head i h = absurd (true≢false (sym h))
-holds_Caption Body i h = absurd (true≢false (sym h))
-holds_Caption Metadata i h = absurd (true≢false (sym h))
-holds_Caption Verbatim i h = absurd (true≢false (sym h))
-holds_Caption Phrase i h = absurd (true≢false (sym h))
-holds_Caption Anchor i h = absurd (true≢false (sym h))
-holds_Caption Button i h = absurd (true≢false (sym h))
-holds_Caption Paragraph i h = absurd (true≢false (sym h))
-holds_Caption Block i h = absurd (true≢false (sym h))
-holds_Caption Heading i h = absurd (true≢false (sym h))
-holds_Caption Form i h = absurd (true≢false (sym h))
-holds_Caption Pre i h = absurd (true≢false (sym h))
-holds_Caption ItemList i h = absurd (true≢false (sym h))
-holds_Caption Item i h = absurd (true≢false (sym h))
-holds_Caption DescriptionList i h = absurd (true≢false (sym h))
-holds_Caption Description i h = absurd (true≢false (sym h))
-holds_Caption Ruby i h = absurd (true≢false (sym h))
-holds_Caption RubyText i h = absurd (true≢false (sym h))
-holds_Caption Table i h = refl
-holds_Caption Caption i h = absurd (true≢false (sym h))
-holds_Caption ColumnGroup i h = absurd (true≢false (sym h))
-holds_Caption Column i h = absurd (true≢false (sym h))
-holds_Caption RowGroup i h = absurd (true≢false (sym h))
-holds_Caption TableRow i h = absurd (true≢false (sym h))
-holds_Caption Cell i h = absurd (true≢false (sym h))
-holds_Caption Other i h = absurd (true≢false (sym h))
+holds_Caption = holds (λ p. is_table (place_in p)) Caption refl refl
 
 pub holds_ColumnGroup : (p : ElementCategory) → is_inner p ≡ true → may_hold p ColumnGroup ≡ true → is_table (place_in p) ≡ true
-holds_ColumnGroup Document i h = absurd (true≢false (sym i))
-holds_ColumnGroup Html i h = absurd (true≢false (sym i))
-holds_ColumnGroup Head i h = absurd (true≢false (sym h))
-holds_ColumnGroup Body i h = absurd (true≢false (sym h))
-holds_ColumnGroup Metadata i h = absurd (true≢false (sym h))
-holds_ColumnGroup Verbatim i h = absurd (true≢false (sym h))
-holds_ColumnGroup Phrase i h = absurd (true≢false (sym h))
-holds_ColumnGroup Anchor i h = absurd (true≢false (sym h))
-holds_ColumnGroup Button i h = absurd (true≢false (sym h))
-holds_ColumnGroup Paragraph i h = absurd (true≢false (sym h))
-holds_ColumnGroup Block i h = absurd (true≢false (sym h))
-holds_ColumnGroup Heading i h = absurd (true≢false (sym h))
-holds_ColumnGroup Form i h = absurd (true≢false (sym h))
-holds_ColumnGroup Pre i h = absurd (true≢false (sym h))
-holds_ColumnGroup ItemList i h = absurd (true≢false (sym h))
-holds_ColumnGroup Item i h = absurd (true≢false (sym h))
-holds_ColumnGroup DescriptionList i h = absurd (true≢false (sym h))
-holds_ColumnGroup Description i h = absurd (true≢false (sym h))
-holds_ColumnGroup Ruby i h = absurd (true≢false (sym h))
-holds_ColumnGroup RubyText i h = absurd (true≢false (sym h))
-holds_ColumnGroup Table i h = refl
-holds_ColumnGroup Caption i h = absurd (true≢false (sym h))
-holds_ColumnGroup ColumnGroup i h = absurd (true≢false (sym h))
-holds_ColumnGroup Column i h = absurd (true≢false (sym h))
-holds_ColumnGroup RowGroup i h = absurd (true≢false (sym h))
-holds_ColumnGroup TableRow i h = absurd (true≢false (sym h))
-holds_ColumnGroup Cell i h = absurd (true≢false (sym h))
-holds_ColumnGroup Other i h = absurd (true≢false (sym h))
+holds_ColumnGroup = holds (λ p. is_table (place_in p)) ColumnGroup refl refl
 
 pub holds_RowGroup : (p : ElementCategory) → is_inner p ≡ true → may_hold p RowGroup ≡ true → is_table (place_in p) ≡ true
-holds_RowGroup Document i h = absurd (true≢false (sym i))
-holds_RowGroup Html i h = absurd (true≢false (sym i))
-holds_RowGroup Head i h = absurd (true≢false (sym h))
-holds_RowGroup Body i h = absurd (true≢false (sym h))
-holds_RowGroup Metadata i h = absurd (true≢false (sym h))
-holds_RowGroup Verbatim i h = absurd (true≢false (sym h))
-holds_RowGroup Phrase i h = absurd (true≢false (sym h))
-holds_RowGroup Anchor i h = absurd (true≢false (sym h))
-holds_RowGroup Button i h = absurd (true≢false (sym h))
-holds_RowGroup Paragraph i h = absurd (true≢false (sym h))
-holds_RowGroup Block i h = absurd (true≢false (sym h))
-holds_RowGroup Heading i h = absurd (true≢false (sym h))
-holds_RowGroup Form i h = absurd (true≢false (sym h))
-holds_RowGroup Pre i h = absurd (true≢false (sym h))
-holds_RowGroup ItemList i h = absurd (true≢false (sym h))
-holds_RowGroup Item i h = absurd (true≢false (sym h))
-holds_RowGroup DescriptionList i h = absurd (true≢false (sym h))
-holds_RowGroup Description i h = absurd (true≢false (sym h))
-holds_RowGroup Ruby i h = absurd (true≢false (sym h))
-holds_RowGroup RubyText i h = absurd (true≢false (sym h))
-holds_RowGroup Table i h = refl
-holds_RowGroup Caption i h = absurd (true≢false (sym h))
-holds_RowGroup ColumnGroup i h = absurd (true≢false (sym h))
-holds_RowGroup Column i h = absurd (true≢false (sym h))
-holds_RowGroup RowGroup i h = absurd (true≢false (sym h))
-holds_RowGroup TableRow i h = absurd (true≢false (sym h))
-holds_RowGroup Cell i h = absurd (true≢false (sym h))
-holds_RowGroup Other i h = absurd (true≢false (sym h))
+holds_RowGroup = holds (λ p. is_table (place_in p)) RowGroup refl refl
 
 pub holds_Column : (p : ElementCategory) → is_inner p ≡ true → may_hold p Column ≡ true → is_column_group (place_in p) ≡ true
-holds_Column Document i h = absurd (true≢false (sym i))
-holds_Column Html i h = absurd (true≢false (sym i))
-holds_Column Head i h = absurd (true≢false (sym h))
-holds_Column Body i h = absurd (true≢false (sym h))
-holds_Column Metadata i h = absurd (true≢false (sym h))
-holds_Column Verbatim i h = absurd (true≢false (sym h))
-holds_Column Phrase i h = absurd (true≢false (sym h))
-holds_Column Anchor i h = absurd (true≢false (sym h))
-holds_Column Button i h = absurd (true≢false (sym h))
-holds_Column Paragraph i h = absurd (true≢false (sym h))
-holds_Column Block i h = absurd (true≢false (sym h))
-holds_Column Heading i h = absurd (true≢false (sym h))
-holds_Column Form i h = absurd (true≢false (sym h))
-holds_Column Pre i h = absurd (true≢false (sym h))
-holds_Column ItemList i h = absurd (true≢false (sym h))
-holds_Column Item i h = absurd (true≢false (sym h))
-holds_Column DescriptionList i h = absurd (true≢false (sym h))
-holds_Column Description i h = absurd (true≢false (sym h))
-holds_Column Ruby i h = absurd (true≢false (sym h))
-holds_Column RubyText i h = absurd (true≢false (sym h))
-holds_Column Table i h = absurd (true≢false (sym h))
-holds_Column Caption i h = absurd (true≢false (sym h))
-holds_Column ColumnGroup i h = refl
-holds_Column Column i h = absurd (true≢false (sym h))
-holds_Column RowGroup i h = absurd (true≢false (sym h))
-holds_Column TableRow i h = absurd (true≢false (sym h))
-holds_Column Cell i h = absurd (true≢false (sym h))
-holds_Column Other i h = absurd (true≢false (sym h))
+holds_Column = holds (λ p. is_column_group (place_in p)) Column refl refl
 
 pub holds_TableRow : (p : ElementCategory) → is_inner p ≡ true → may_hold p TableRow ≡ true → is_row_group (place_in p) ≡ true
-holds_TableRow Document i h = absurd (true≢false (sym i))
-holds_TableRow Html i h = absurd (true≢false (sym i))
-holds_TableRow Head i h = absurd (true≢false (sym h))
-holds_TableRow Body i h = absurd (true≢false (sym h))
-holds_TableRow Metadata i h = absurd (true≢false (sym h))
-holds_TableRow Verbatim i h = absurd (true≢false (sym h))
-holds_TableRow Phrase i h = absurd (true≢false (sym h))
-holds_TableRow Anchor i h = absurd (true≢false (sym h))
-holds_TableRow Button i h = absurd (true≢false (sym h))
-holds_TableRow Paragraph i h = absurd (true≢false (sym h))
-holds_TableRow Block i h = absurd (true≢false (sym h))
-holds_TableRow Heading i h = absurd (true≢false (sym h))
-holds_TableRow Form i h = absurd (true≢false (sym h))
-holds_TableRow Pre i h = absurd (true≢false (sym h))
-holds_TableRow ItemList i h = absurd (true≢false (sym h))
-holds_TableRow Item i h = absurd (true≢false (sym h))
-holds_TableRow DescriptionList i h = absurd (true≢false (sym h))
-holds_TableRow Description i h = absurd (true≢false (sym h))
-holds_TableRow Ruby i h = absurd (true≢false (sym h))
-holds_TableRow RubyText i h = absurd (true≢false (sym h))
-holds_TableRow Table i h = absurd (true≢false (sym h))
-holds_TableRow Caption i h = absurd (true≢false (sym h))
-holds_TableRow ColumnGroup i h = absurd (true≢false (sym h))
-holds_TableRow Column i h = absurd (true≢false (sym h))
-holds_TableRow RowGroup i h = refl
-holds_TableRow TableRow i h = absurd (true≢false (sym h))
-holds_TableRow Cell i h = absurd (true≢false (sym h))
-holds_TableRow Other i h = absurd (true≢false (sym h))
+holds_TableRow = holds (λ p. is_row_group (place_in p)) TableRow refl refl
 
 pub holds_Cell : (p : ElementCategory) → is_inner p ≡ true → may_hold p Cell ≡ true → is_row (place_in p) ≡ true
-holds_Cell Document i h = absurd (true≢false (sym i))
-holds_Cell Html i h = absurd (true≢false (sym i))
-holds_Cell Head i h = absurd (true≢false (sym h))
-holds_Cell Body i h = absurd (true≢false (sym h))
-holds_Cell Metadata i h = absurd (true≢false (sym h))
-holds_Cell Verbatim i h = absurd (true≢false (sym h))
-holds_Cell Phrase i h = absurd (true≢false (sym h))
-holds_Cell Anchor i h = absurd (true≢false (sym h))
-holds_Cell Button i h = absurd (true≢false (sym h))
-holds_Cell Paragraph i h = absurd (true≢false (sym h))
-holds_Cell Block i h = absurd (true≢false (sym h))
-holds_Cell Heading i h = absurd (true≢false (sym h))
-holds_Cell Form i h = absurd (true≢false (sym h))
-holds_Cell Pre i h = absurd (true≢false (sym h))
-holds_Cell ItemList i h = absurd (true≢false (sym h))
-holds_Cell Item i h = absurd (true≢false (sym h))
-holds_Cell DescriptionList i h = absurd (true≢false (sym h))
-holds_Cell Description i h = absurd (true≢false (sym h))
-holds_Cell Ruby i h = absurd (true≢false (sym h))
-holds_Cell RubyText i h = absurd (true≢false (sym h))
-holds_Cell Table i h = absurd (true≢false (sym h))
-holds_Cell Caption i h = absurd (true≢false (sym h))
-holds_Cell ColumnGroup i h = absurd (true≢false (sym h))
-holds_Cell Column i h = absurd (true≢false (sym h))
-holds_Cell RowGroup i h = absurd (true≢false (sym h))
-holds_Cell TableRow i h = refl
-holds_Cell Cell i h = absurd (true≢false (sym h))
-holds_Cell Other i h = absurd (true≢false (sym h))
+holds_Cell = holds (λ p. is_row (place_in p)) Cell refl refl
 
 pub holds_Metadata : (p : ElementCategory) → is_inner p ≡ true → may_hold p Metadata ≡ true → is_head (place_in p) ≡ true
-holds_Metadata Document i h = absurd (true≢false (sym i))
-holds_Metadata Html i h = absurd (true≢false (sym i))
-holds_Metadata Head i h = refl
-holds_Metadata Body i h = absurd (true≢false (sym h))
-holds_Metadata Metadata i h = absurd (true≢false (sym h))
-holds_Metadata Verbatim i h = absurd (true≢false (sym h))
-holds_Metadata Phrase i h = absurd (true≢false (sym h))
-holds_Metadata Anchor i h = absurd (true≢false (sym h))
-holds_Metadata Button i h = absurd (true≢false (sym h))
-holds_Metadata Paragraph i h = absurd (true≢false (sym h))
-holds_Metadata Block i h = absurd (true≢false (sym h))
-holds_Metadata Heading i h = absurd (true≢false (sym h))
-holds_Metadata Form i h = absurd (true≢false (sym h))
-holds_Metadata Pre i h = absurd (true≢false (sym h))
-holds_Metadata ItemList i h = absurd (true≢false (sym h))
-holds_Metadata Item i h = absurd (true≢false (sym h))
-holds_Metadata DescriptionList i h = absurd (true≢false (sym h))
-holds_Metadata Description i h = absurd (true≢false (sym h))
-holds_Metadata Ruby i h = absurd (true≢false (sym h))
-holds_Metadata RubyText i h = absurd (true≢false (sym h))
-holds_Metadata Table i h = absurd (true≢false (sym h))
-holds_Metadata Caption i h = absurd (true≢false (sym h))
-holds_Metadata ColumnGroup i h = absurd (true≢false (sym h))
-holds_Metadata Column i h = absurd (true≢false (sym h))
-holds_Metadata RowGroup i h = absurd (true≢false (sym h))
-holds_Metadata TableRow i h = absurd (true≢false (sym h))
-holds_Metadata Cell i h = absurd (true≢false (sym h))
-holds_Metadata Other i h = absurd (true≢false (sym h))
+holds_Metadata = holds (λ p. is_head (place_in p)) Metadata refl refl
 
 pub holds_no_Html : (p : ElementCategory) → is_inner p ≡ true → may_hold p Html ≡ true → false ≡ true
-holds_no_Html Document i h = absurd (true≢false (sym i))
-holds_no_Html Html i h = absurd (true≢false (sym i))
-holds_no_Html Head i h = absurd (true≢false (sym h))
-holds_no_Html Body i h = absurd (true≢false (sym h))
-holds_no_Html Metadata i h = absurd (true≢false (sym h))
-holds_no_Html Verbatim i h = absurd (true≢false (sym h))
-holds_no_Html Phrase i h = absurd (true≢false (sym h))
-holds_no_Html Anchor i h = absurd (true≢false (sym h))
-holds_no_Html Button i h = absurd (true≢false (sym h))
-holds_no_Html Paragraph i h = absurd (true≢false (sym h))
-holds_no_Html Block i h = absurd (true≢false (sym h))
-holds_no_Html Heading i h = absurd (true≢false (sym h))
-holds_no_Html Form i h = absurd (true≢false (sym h))
-holds_no_Html Pre i h = absurd (true≢false (sym h))
-holds_no_Html ItemList i h = absurd (true≢false (sym h))
-holds_no_Html Item i h = absurd (true≢false (sym h))
-holds_no_Html DescriptionList i h = absurd (true≢false (sym h))
-holds_no_Html Description i h = absurd (true≢false (sym h))
-holds_no_Html Ruby i h = absurd (true≢false (sym h))
-holds_no_Html RubyText i h = absurd (true≢false (sym h))
-holds_no_Html Table i h = absurd (true≢false (sym h))
-holds_no_Html Caption i h = absurd (true≢false (sym h))
-holds_no_Html ColumnGroup i h = absurd (true≢false (sym h))
-holds_no_Html Column i h = absurd (true≢false (sym h))
-holds_no_Html RowGroup i h = absurd (true≢false (sym h))
-holds_no_Html TableRow i h = absurd (true≢false (sym h))
-holds_no_Html Cell i h = absurd (true≢false (sym h))
-holds_no_Html Other i h = absurd (true≢false (sym h))
+holds_no_Html = holds (λ p. false) Html refl refl
 
 pub holds_no_Head : (p : ElementCategory) → is_inner p ≡ true → may_hold p Head ≡ true → false ≡ true
-holds_no_Head Document i h = absurd (true≢false (sym i))
-holds_no_Head Html i h = absurd (true≢false (sym i))
-holds_no_Head Head i h = absurd (true≢false (sym h))
-holds_no_Head Body i h = absurd (true≢false (sym h))
-holds_no_Head Metadata i h = absurd (true≢false (sym h))
-holds_no_Head Verbatim i h = absurd (true≢false (sym h))
-holds_no_Head Phrase i h = absurd (true≢false (sym h))
-holds_no_Head Anchor i h = absurd (true≢false (sym h))
-holds_no_Head Button i h = absurd (true≢false (sym h))
-holds_no_Head Paragraph i h = absurd (true≢false (sym h))
-holds_no_Head Block i h = absurd (true≢false (sym h))
-holds_no_Head Heading i h = absurd (true≢false (sym h))
-holds_no_Head Form i h = absurd (true≢false (sym h))
-holds_no_Head Pre i h = absurd (true≢false (sym h))
-holds_no_Head ItemList i h = absurd (true≢false (sym h))
-holds_no_Head Item i h = absurd (true≢false (sym h))
-holds_no_Head DescriptionList i h = absurd (true≢false (sym h))
-holds_no_Head Description i h = absurd (true≢false (sym h))
-holds_no_Head Ruby i h = absurd (true≢false (sym h))
-holds_no_Head RubyText i h = absurd (true≢false (sym h))
-holds_no_Head Table i h = absurd (true≢false (sym h))
-holds_no_Head Caption i h = absurd (true≢false (sym h))
-holds_no_Head ColumnGroup i h = absurd (true≢false (sym h))
-holds_no_Head Column i h = absurd (true≢false (sym h))
-holds_no_Head RowGroup i h = absurd (true≢false (sym h))
-holds_no_Head TableRow i h = absurd (true≢false (sym h))
-holds_no_Head Cell i h = absurd (true≢false (sym h))
-holds_no_Head Other i h = absurd (true≢false (sym h))
+holds_no_Head = holds (λ p. false) Head refl refl
 
 pub holds_no_Body : (p : ElementCategory) → is_inner p ≡ true → may_hold p Body ≡ true → false ≡ true
-holds_no_Body Document i h = absurd (true≢false (sym i))
-holds_no_Body Html i h = absurd (true≢false (sym i))
-holds_no_Body Head i h = absurd (true≢false (sym h))
-holds_no_Body Body i h = absurd (true≢false (sym h))
-holds_no_Body Metadata i h = absurd (true≢false (sym h))
-holds_no_Body Verbatim i h = absurd (true≢false (sym h))
-holds_no_Body Phrase i h = absurd (true≢false (sym h))
-holds_no_Body Anchor i h = absurd (true≢false (sym h))
-holds_no_Body Button i h = absurd (true≢false (sym h))
-holds_no_Body Paragraph i h = absurd (true≢false (sym h))
-holds_no_Body Block i h = absurd (true≢false (sym h))
-holds_no_Body Heading i h = absurd (true≢false (sym h))
-holds_no_Body Form i h = absurd (true≢false (sym h))
-holds_no_Body Pre i h = absurd (true≢false (sym h))
-holds_no_Body ItemList i h = absurd (true≢false (sym h))
-holds_no_Body Item i h = absurd (true≢false (sym h))
-holds_no_Body DescriptionList i h = absurd (true≢false (sym h))
-holds_no_Body Description i h = absurd (true≢false (sym h))
-holds_no_Body Ruby i h = absurd (true≢false (sym h))
-holds_no_Body RubyText i h = absurd (true≢false (sym h))
-holds_no_Body Table i h = absurd (true≢false (sym h))
-holds_no_Body Caption i h = absurd (true≢false (sym h))
-holds_no_Body ColumnGroup i h = absurd (true≢false (sym h))
-holds_no_Body Column i h = absurd (true≢false (sym h))
-holds_no_Body RowGroup i h = absurd (true≢false (sym h))
-holds_no_Body TableRow i h = absurd (true≢false (sym h))
-holds_no_Body Cell i h = absurd (true≢false (sym h))
-holds_no_Body Other i h = absurd (true≢false (sym h))
+holds_no_Body = holds (λ p. false) Body refl refl
 
 pub holds_no_Other : (p : ElementCategory) → is_inner p ≡ true → may_hold p Other ≡ true → false ≡ true
-holds_no_Other Document i h = absurd (true≢false (sym i))
-holds_no_Other Html i h = absurd (true≢false (sym i))
-holds_no_Other Head i h = absurd (true≢false (sym h))
-holds_no_Other Body i h = absurd (true≢false (sym h))
-holds_no_Other Metadata i h = absurd (true≢false (sym h))
-holds_no_Other Verbatim i h = absurd (true≢false (sym h))
-holds_no_Other Phrase i h = absurd (true≢false (sym h))
-holds_no_Other Anchor i h = absurd (true≢false (sym h))
-holds_no_Other Button i h = absurd (true≢false (sym h))
-holds_no_Other Paragraph i h = absurd (true≢false (sym h))
-holds_no_Other Block i h = absurd (true≢false (sym h))
-holds_no_Other Heading i h = absurd (true≢false (sym h))
-holds_no_Other Form i h = absurd (true≢false (sym h))
-holds_no_Other Pre i h = absurd (true≢false (sym h))
-holds_no_Other ItemList i h = absurd (true≢false (sym h))
-holds_no_Other Item i h = absurd (true≢false (sym h))
-holds_no_Other DescriptionList i h = absurd (true≢false (sym h))
-holds_no_Other Description i h = absurd (true≢false (sym h))
-holds_no_Other Ruby i h = absurd (true≢false (sym h))
-holds_no_Other RubyText i h = absurd (true≢false (sym h))
-holds_no_Other Table i h = absurd (true≢false (sym h))
-holds_no_Other Caption i h = absurd (true≢false (sym h))
-holds_no_Other ColumnGroup i h = absurd (true≢false (sym h))
-holds_no_Other Column i h = absurd (true≢false (sym h))
-holds_no_Other RowGroup i h = absurd (true≢false (sym h))
-holds_no_Other TableRow i h = absurd (true≢false (sym h))
-holds_no_Other Cell i h = absurd (true≢false (sym h))
-holds_no_Other Other i h = absurd (true≢false (sym h))
+holds_no_Other = holds (λ p. false) Other refl refl
 
 pub holds_no_Document : (p : ElementCategory) → is_inner p ≡ true → may_hold p Document ≡ true → false ≡ true
-holds_no_Document Document i h = absurd (true≢false (sym i))
-holds_no_Document Html i h = absurd (true≢false (sym i))
-holds_no_Document Head i h = absurd (true≢false (sym h))
-holds_no_Document Body i h = absurd (true≢false (sym h))
-holds_no_Document Metadata i h = absurd (true≢false (sym h))
-holds_no_Document Verbatim i h = absurd (true≢false (sym h))
-holds_no_Document Phrase i h = absurd (true≢false (sym h))
-holds_no_Document Anchor i h = absurd (true≢false (sym h))
-holds_no_Document Button i h = absurd (true≢false (sym h))
-holds_no_Document Paragraph i h = absurd (true≢false (sym h))
-holds_no_Document Block i h = absurd (true≢false (sym h))
-holds_no_Document Heading i h = absurd (true≢false (sym h))
-holds_no_Document Form i h = absurd (true≢false (sym h))
-holds_no_Document Pre i h = absurd (true≢false (sym h))
-holds_no_Document ItemList i h = absurd (true≢false (sym h))
-holds_no_Document Item i h = absurd (true≢false (sym h))
-holds_no_Document DescriptionList i h = absurd (true≢false (sym h))
-holds_no_Document Description i h = absurd (true≢false (sym h))
-holds_no_Document Ruby i h = absurd (true≢false (sym h))
-holds_no_Document RubyText i h = absurd (true≢false (sym h))
-holds_no_Document Table i h = absurd (true≢false (sym h))
-holds_no_Document Caption i h = absurd (true≢false (sym h))
-holds_no_Document ColumnGroup i h = absurd (true≢false (sym h))
-holds_no_Document Column i h = absurd (true≢false (sym h))
-holds_no_Document RowGroup i h = absurd (true≢false (sym h))
-holds_no_Document TableRow i h = absurd (true≢false (sym h))
-holds_no_Document Cell i h = absurd (true≢false (sym h))
-holds_no_Document Other i h = absurd (true≢false (sym h))
+holds_no_Document = holds (λ p. false) Document refl refl
 
 -- the text of a calm tree may be in its place
 pub text_in : (p : ElementCategory) (bs : List ℕ) → IsUtf8 bs → bs ≢ [] → list_all (λ c. not (c == 0)) (chars bs) ≡ true → may_hold_text p bs ≡ true → may_be_text (place_in p) (chars bs) ≡ true

@@ -1,5 +1,5 @@
 -- Ways to write the characters of a value.
-use Rattle.std.specs.Prelude.{◌≡◌, ℕ, ◌==◌, true, List, [], ◌∷◌, if◌then◌else◌}
+use Rattle.std.specs.Prelude.{◌≡◌, ℕ, ◌==◌, true, [], ◌∷◌, if◌then◌else◌}
 use Rattle.std.specs.Str.{all_scalars, encode_utf8_all}
 use Rattle.standard_tokens.specs.PlainMarkup.{Piece, Itself, Amp, Quot, Nbsp, character, is_plain_piece, is_raw_char, is_value_char}
 use Rattle.standard_tokens.specs.PlainMarkup.{written_piece}

@@ -1,4 +1,4 @@
-use Rattle.std.proofs.Common.{◌≡◌, ◌∙◌, inl, ℕ, List, false, subst}
+use Rattle.std.proofs.Common.{◌≡◌, ◌∙◌, inl, false, subst}
 use Rattle.dom_links.specs.Forest.{children_of}
 use Rattle.dom_markup.specs.Html.{html_of}
 use Rattle.dom_markup.specs.Markup.{Spells}
