@@ -1,6 +1,7 @@
 """What the package says where something is refused, where its limits are, and which library it takes."""
 
 import copy
+import gc
 import io
 import os
 import pathlib
@@ -15,6 +16,8 @@ import dom_query
 from dom_query import DomError, EditError, MarkupError, NodeError, PageReader, Policy, PolicyError, SelectorError
 from dom_query import _library as library
 from dom_query import document as reading
+
+from .test_misuse import used
 
 
 class Said(unittest.TestCase):
@@ -193,6 +196,30 @@ class Limits(unittest.TestCase):
         self.assertEqual(repr(node), f"<Node {node.number} <p{(written[:-1] + 'zz')[:79]}…>>")
 
 
+class Memory(unittest.TestCase):
+    def test_long_answers_are_given_back(self):
+        """What is too long to be kept for the next call is freed."""
+        page = dom_query.parse_strict("<p>" + "x" * 200_000 + "</p>" + "<b>y</b>" * 70_000)
+        handle, lib = page._handle, library.lib
+        uses = {
+            "a text": lambda: library.text_of(lib.dq_text, handle, 0),
+            "bytes": page.html_bytes,
+            "nodes": lambda: library.numbers_of(lib.dq_select, handle, 0, b"b", 1),
+            "texts": lambda: library.texts_of(lib.dq_select_texts, handle, 0, b"b", 1),
+            "a long text in a list": lambda: page.select_texts("p"),
+        }
+        for name, use in uses.items():
+            with self.subTest(use=name):
+                for _ in range(3):
+                    use()
+                gc.collect()
+                before = used()
+                for _ in range(8):
+                    use()
+                gc.collect()
+                self.assertLess(used() - before, 200_000)
+
+
 class Codes(unittest.TestCase):
     """Each fault has the class of its family."""
 
@@ -278,6 +305,14 @@ class Edits(unittest.TestCase):
         text = self.document.new_text("</script>")
         for name in ("script", "p"):
             self.refused(-15, setattr, text, "name", name)
+
+    def test_what_plaintext_holds(self):
+        self.node.name = "plaintext"
+        for text in ("</plaintext>", "a</PLAINTEXT >"):
+            self.refused(-14, self.node.set_text, text)
+            self.refused(-14, self.node.append, text)
+        self.node.text = "</p>"
+        self.assertEqual(self.node.html, "<plaintext></p></plaintext>")
 
     def test_a_refused_value_leaves_no_node(self):
         made = self.document.new_text("").number

@@ -26,7 +26,12 @@ PACKAGE = pathlib.Path(__file__).resolve().parents[2] / "python"
 # Seconds of processor time below which a time says nothing. (No process is started for a pattern.)
 LITTLE = 0.01
 # The patterns of the package that grow too fast for the check; docs/PERFORMANCE.md says why.
-KNOWN = {"edits: texts appended to a script", "attributes: each of one element, by its name", "attributes: set on one element"}
+KNOWN = {
+    "edits: texts appended to a script",
+    "attributes: all of one element, as a dict",
+    "attributes: each of one element, by its name",
+    "attributes: set on one element",
+}
 
 
 def gone_through(document, *_):
@@ -179,7 +184,8 @@ OWN = {
     "selectors: texts that aren't ASCII": of_page(items, lambda document: document.select_texts("li")),
     "selectors: attributes that aren't there": of_page(items, lambda document: document.select_attrs("li", "id")),
     "selectors: a limit": of_page(items, lambda document: document.select("li", limit=10)),
-    "attributes: all of one element": of_page(attributes, lambda document: dict(document.select_one("p").attrs)),
+    "attributes: all of one element": of_page(attributes, lambda document: list(document.select_one("p").attrs.items())),
+    "attributes: all of one element, as a dict": of_page(attributes, lambda document: dict(document.select_one("p").attrs)),
     "attributes: each of one element, by its name": of_page(
         attributes, lambda document: [document.select_one("p")[f"a{i}"] for i in range(len(document.select_one("p").attrs))]
     ),
@@ -203,14 +209,15 @@ def seconds(call):
     return took
 
 
-def is_steep(name):
-    """Whether a pattern grows too fast, each time that it is measured."""
-    for _ in range(TRIES):
+def ratio(name):
+    """How many times as long four times the input takes, where that says something; the least of some tries, if the first is too much."""
+    found = []
+    while len(found) < TRIES:
         small, large = (seconds(ALL[name](SMALL * times)) for times in (1, 4))
-        if large <= LITTLE or large <= MOST * max(small, LITTLE / 4):
-            return False
-    print(f"growth through Python: {name}: four times the input costs {large / max(small, 1e-9):.1f} times as much")
-    return True
+        found.append(large / max(small, LITTLE / 4) if large > LITTLE else 0)
+        if found[-1] <= MOST:
+            break
+    return min(found)
 
 
 def tried():
@@ -219,9 +226,12 @@ def tried():
 
 
 def count():
-    """Measures the patterns, and prints how many passed and failed."""
-    steep = [name for name in tried() if is_steep(name)]
-    print(f"growth through Python: {len(tried()) - len(steep)} patterns passed, {len(steep)} failed")
+    """Measures the patterns, and prints which grow too fast, which grows fastest, and how many passed and failed."""
+    ratios = {name: ratio(name) for name in tried()}
+    steep = [name for name, found in ratios.items() if found > MOST]
+    for name in [*steep, max(ratios, key=ratios.__getitem__)]:
+        print(f"growth through Python: {name}: four times the input costs {ratios[name]:.1f} times as much")
+    print(f"growth through Python: {len(ratios) - len(steep)} patterns passed, {len(steep)} failed")
     return 1 if steep else 0
 
 
