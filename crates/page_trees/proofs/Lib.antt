@@ -18,6 +18,7 @@ mod IndexLemmas
 mod AlikeLemmas
 mod RefreshLemmas
 mod StackSearches
+mod ThisElement
 pub mod NamesAgree
 pub mod ScopeEnds
 pub mod StandingNames
@@ -36,6 +37,9 @@ pub mod LateNodes
 mod AbsentAttrs
 pub mod KeptElements
 pub mod BuiltNodes
+pub mod CopiedElements
+pub mod ReopenedElements
+pub mod ClosedEntries
 pub mod TagKinds
 pub mod BuiltRoots
 pub mod BuiltCalls

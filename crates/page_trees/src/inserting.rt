@@ -3,7 +3,8 @@
 ghost use Rattle.std.specs.Prelude.{◌≡◌, ◌<◌, [], ◌∷◌, List, encode_utf8_all, length, true, ℕ};
 ghost use Rattle.standard_tokens.specs.Tokens.{AComment};
 ghost use Rattle.standard_trees.specs.RuleWords.{InsertComment, InsertCommentInDocument};
-ghost use Rattle.standard_trees.specs.RuleWords.{InsertElement, InsertRootElement, Pop, SwitchTo};
+ghost use Rattle.standard_trees.specs.RuleWords.{InsertElement, InsertRootElement, ListMarker};
+ghost use Rattle.standard_trees.specs.RuleWords.{Pop, ReconstructFormatting, SwitchTo};
 ghost use Rattle.standard_trees.specs.TreeStore.{EndOf};
 ghost use Rattle.page_trees.specs.Constructs.{Performs, PerformsFor};
 ghost use Rattle.page_trees.specs.Constructs.{RemembersLimits, implying, is_entered_plainly};
@@ -123,9 +124,25 @@ impl TreeBuilder {
     }
 
     /// Reconstructs the active formatting elements, and then inserts an element.
-    pub fn insert_inline(&mut self, name: Name, tag: &Tag) -> Next {
+    pub fn insert_inline(&mut self, name: Name, tag: &Tag) -> Next
+        ensures next { result ≡ IsDone }
+        ensures limits { RemembersLimits self.old self.new }
+        ensures rule { let insert = ReconstructFormatting ∷ InsertElement ∷ [] in
+            PerformsFor name tag.now insert self.old self.new }
+    {
         self.reconstruct();
         self.insert_done(name, tag)
+    }
+
+    /// Inserts an element, and appends a marker to the list of active formatting elements.
+    pub fn insert_marked(&mut self, name: Name, tag: &Tag) -> Next
+        ensures next { result ≡ IsDone }
+        ensures limits { RemembersLimits self.old self.new }
+        ensures rule { PerformsFor name tag.now (InsertElement ∷ ListMarker ∷ []) self.old self.new }
+    {
+        self.insert(name, tag);
+        self.push_marker();
+        Next::Done
     }
 
     /// Inserts characters.
@@ -172,13 +189,19 @@ impl TreeBuilder {
     }
 
     /// Appends a marker to the list of active formatting elements.
-    pub fn push_marker(&mut self) {
+    pub fn push_marker(&mut self)
+        ensures limits { RemembersLimits self.old self.new }
+        ensures rule { Performs (ListMarker ∷ []) self.old self.new }
+    {
         let pushed = self.tree.push_marker();
         self.keep(pushed);
     }
 
     /// Reconstructs the active formatting elements: inserts copies of those that are not open.
-    pub fn reconstruct(&mut self) {
+    pub fn reconstruct(&mut self)
+        ensures limits { RemembersLimits self.old self.new }
+        ensures rule { Performs (ReconstructFormatting ∷ []) self.old self.new }
+    {
         let opened = self.tree.reconstruct(self.placing);
         self.keep(opened);
         self.note_depth();
