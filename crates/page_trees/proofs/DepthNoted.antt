@@ -11,7 +11,8 @@ neither false c h = (refl, h)
 
 pub noted : (kept new : TreeBuilder) → new ≡ record kept { too_deep = kept.too_deep || nat_lt kept.placing.max_depth (length kept.tree.stack) } → Noted kept new
 noted kept new e =
-    let deep : new.too_deep ≡ (kept.too_deep || nat_lt kept.placing.max_depth (length kept.tree.stack)) = ap (λ (s : TreeBuilder). s.too_deep) e in
-    (e ∙ ap (λ b. record kept { too_deep = b }) (sym deep),
-     λ h. (neither kept.too_deep (nat_lt kept.placing.max_depth (length kept.tree.stack)) (sym deep ∙ h)).0,
-     λ h. ltb-false kept.placing.max_depth (length kept.tree.stack) (neither kept.too_deep (nat_lt kept.placing.max_depth (length kept.tree.stack)) (sym deep ∙ h)).1)
+    let deep : new.too_deep ≡ (kept.too_deep || nat_lt kept.placing.max_depth (length kept.tree.stack)) = ap (λ (s : TreeBuilder). s.too_deep) e in (
+      e ∙ ap (λ b. record kept { too_deep = b }) (sym deep),
+      λ h. (neither kept.too_deep (nat_lt kept.placing.max_depth (length kept.tree.stack)) (sym deep ∙ h)).0,
+      λ h. ltb-false kept.placing.max_depth (length kept.tree.stack) (neither kept.too_deep (nat_lt kept.placing.max_depth (length kept.tree.stack)) (sym deep ∙ h)).1,
+    )

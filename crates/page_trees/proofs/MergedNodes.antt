@@ -169,9 +169,10 @@ form_merged new nodes n named (FormAt m) is =
 
 head_merged : (new : List NodeAttr) (nodes : List Node) (n : ℕ) → is_of_kind late_names (node_at nodes n).kind ≡ true → (head : Option ℕ) → IsHeadNamed nodes head → IsHeadNamed (merge_at new n nodes) head
 head_merged new nodes n named None is = tt
-head_merged new nodes n named (Some m) is =
-    (still_named (codes "head" ∷ []) new (node_at nodes m).kind (node_at (merge_at new n nodes) m).kind (each_merged new nodes n named m) ∙ is.0,
-     still_holds new (node_at nodes m).kind (node_at (merge_at new n nodes) m).kind (each_merged new nodes n named m) ∙ is.1)
+head_merged new nodes n named (Some m) is = (
+  still_named (codes "head" ∷ []) new (node_at nodes m).kind (node_at (merge_at new n nodes) m).kind (each_merged new nodes n named m) ∙ is.0,
+  still_holds new (node_at nodes m).kind (node_at (merge_at new n nodes) m).kind (each_merged new nodes n named m) ∙ is.1,
+)
 
 -- ---- the data of the nodes
 
@@ -188,13 +189,15 @@ kind_dressed : (old later own : List Attr) (new : List NodeAttr) (kind : Kind) (
 kind_dressed old later own new (ElementNode space name attrs contents) (Element e) has grown is =
     let was : e.attrs ++ old ≡ map attr_for attrs = ap own_attrs is.1 in
     let now : map attr_for (merged attrs new) ≡ e.attrs ++ later =
-    grown attrs (sym was ∙ ap (λ (xs : List Attr). xs ++ old) has) ∙ ap (λ (xs : List Attr). xs ++ later) (sym has) in
-    (is.0, ap (with_others (e.attrs ++ later)) is.1 ∙ ap (λ (xs : List Attr). Element (record {
-      name = name_for space name;
-      attrs = xs;
-      template_contents = contents;
-      mathml_annotation_xml_integration_point = is.0;
-    })) (sym now))
+    grown attrs (sym was ∙ ap (λ (xs : List Attr). xs ++ old) has) ∙ ap (λ (xs : List Attr). xs ++ later) (sym has) in (
+      is.0,
+      ap (with_others (e.attrs ++ later)) is.1 ∙ ap (λ (xs : List Attr). Element (record {
+        name = name_for space name;
+        attrs = xs;
+        template_contents = contents;
+        mathml_annotation_xml_integration_point = is.0;
+      })) (sym now),
+    )
 kind_dressed old later own new (ElementNode space name attrs contents) Document has grown is = (let clash = is.1 in absurd (cc))
 kind_dressed old later own new (ElementNode space name attrs contents) Fragment has grown is = (let clash = is.1 in absurd (cc))
 kind_dressed old later own new (ElementNode space name attrs contents) (Doctype a b c) has grown is = (let clash = is.1 in absurd (cc))
@@ -227,13 +230,15 @@ kinds_dressed late later new own n others grown i k at [] [] has are = tt
 kinds_dressed late later new own n others grown i k at [] (c ∷ cs) has are = absurd are
 kinds_dressed late later new own n others grown i k at (kind ∷ ks) [] has are = absurd are
 kinds_dressed late later new own n others grown i zero at (kind ∷ ks) (c ∷ cs) has are =
-    let here : i ≡ n = omega (arith, at) in
-    (kind_dressed (added_to late i) (added_to later i) own new kind c has
-     (λ attrs e. grown attrs (e ∙ ap (λ (j : ℕ). own ++ added_to late j) here) ∙ sym (ap (λ (j : ℕ). own ++ added_to later j) here)) are.0,
-     subst (AreKinds ks) (sym (past_same late later (i + 1) (λ m h. others m (λ e. absurd (omega (arith, at, h, e)))) cs)) are.1)
-kinds_dressed late later new own n others grown i (suc k) at (kind ∷ ks) (c ∷ cs) has are =
-    (subst (λ (attrs : List Attr). IsKind kind (with_attrs attrs c)) (sym (others i (λ e. absurd (omega (arith, at, e))))) are.0,
-     kinds_dressed late later new own n others grown (i + 1) k (omega (arith, at)) ks cs has are.1)
+    let here : i ≡ n = omega (arith, at) in (
+      kind_dressed (added_to late i) (added_to later i) own new kind c has
+          (λ attrs e. grown attrs (e ∙ ap (λ (j : ℕ). own ++ added_to late j) here) ∙ sym (ap (λ (j : ℕ). own ++ added_to later j) here)) are.0,
+      subst (AreKinds ks) (sym (past_same late later (i + 1) (λ m h. others m (λ e. absurd (omega (arith, at, h, e)))) cs)) are.1,
+    )
+kinds_dressed late later new own n others grown i (suc k) at (kind ∷ ks) (c ∷ cs) has are = (
+  subst (λ (attrs : List Attr). IsKind kind (with_attrs attrs c)) (sym (others i (λ e. absurd (omega (arith, at, e))))) are.0,
+  kinds_dressed late later new own n others grown (i + 1) k (omega (arith, at)) ks cs has are.1,
+)
 
 kind_attrs : (kind : Kind) (content : NodeData) (added : List Attr) → is_of_kind late_names kind ≡ true → IsKind kind (with_attrs added content) →
     map attr_for (attrs_in kind) ≡ own_attrs content ++ added
