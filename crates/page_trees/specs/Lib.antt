@@ -24,3 +24,4 @@ pub mod TagInsertions
 pub mod TokenSteps
 pub mod TagSteps
 pub mod Reopening
+pub mod LateMerges
