@@ -52,3 +52,11 @@ pub mod ModeOutcomes
 pub mod Dispatching
 pub mod BuilderSteps
 pub mod ElementSteps
+pub mod DepthNoted
+pub mod MergedAttrs
+pub mod MergedNodes
+pub mod OpenNames
+pub mod HtmlTags
+pub mod MergedSteps
+pub mod CommentPlaces
+pub mod FirstRules

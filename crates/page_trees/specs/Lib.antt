@@ -21,3 +21,4 @@ pub mod SameNodes
 pub mod Insertions
 pub mod Constructs
 pub mod TagInsertions
+pub mod LateMerges

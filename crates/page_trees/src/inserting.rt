@@ -5,6 +5,7 @@ ghost use Rattle.standard_trees.specs.RuleWords.{InsertElement, InsertRootElemen
 ghost use Rattle.standard_trees.specs.TreeStore.{EndOf};
 ghost use Rattle.page_trees.specs.Constructs.{Performs, PerformsFor};
 ghost use Rattle.page_trees.specs.Constructs.{RemembersLimits, implying, is_entered_plainly};
+ghost use Rattle.page_trees.specs.LateMerges.{MergesTagInto, id_at};
 ghost use Rattle.page_trees.specs.Modes.{mode_of};
 ghost use Rattle.page_trees.specs.Names.{text_of};
 ghost use Rattle.page_trees.specs.TagInsertions.{InsertsTag, InsertsTagAt};
@@ -133,7 +134,11 @@ impl TreeBuilder {
 
     /// Adds to the element at an index of the stack those of a tag's attributes whose names it
     /// doesn't have yet.
-    pub fn add_attrs(&mut self, place: usize, tag: &Tag) {
+    pub fn add_attrs(&mut self, place: usize, tag: &Tag)
+        ensures limits { RemembersLimits self.old self.new }
+        ensures rule { let element = id_at self.old.tree.stack place in
+            MergesTagInto element tag.now self.old self.new }
+    {
         let added = self.tree.add_attrs(place, tag);
         self.keep(added);
     }
