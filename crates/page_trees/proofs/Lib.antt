@@ -59,3 +59,12 @@ pub mod TokenRules
 pub mod PageEnds
 pub mod ForeignTags
 pub mod TextTags
+pub mod DepthNoted
+pub mod MergedAttrs
+pub mod MergedNodes
+pub mod OpenNames
+pub mod HtmlTags
+pub mod MergedSteps
+pub mod CommentPlaces
+pub mod FirstRules
+pub mod AfterBodyTags

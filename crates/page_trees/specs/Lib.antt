@@ -23,3 +23,4 @@ pub mod Constructs
 pub mod TagInsertions
 pub mod TokenSteps
 pub mod TagSteps
+pub mod LateMerges

@@ -2,14 +2,15 @@
 //! elements, the list of active formatting elements, and the head and form element pointers. A call
 //! that returns a `Result` fails only when memory or node ids run out.
 
-ghost use Rattle.std.specs.Prelude.{◌≡◌, ◌<◌, [], ◌∷◌, IfOk, List, OnOk, codes, length, not};
-ghost use Rattle.std.specs.Prelude.{encode_utf8_all, false, slice_get, true, ℕ};
+ghost use Rattle.std.specs.Prelude.{◌≡◌, ◌<◌, ◌||◌, [], ◌∷◌, IfOk, List, OnOk, codes, length};
+ghost use Rattle.std.specs.Prelude.{encode_utf8_all, false, not, slice_get, true, ℕ};
 ghost use Rattle.std.specs.Option.{is_some, option_map, option_map_or};
 ghost use Rattle.dom_links.specs.Growth.{lone};
 ghost use Rattle.dom_links.specs.Sound.{IsOpenGap};
 ghost use Rattle.dom_nodes.specs.declared.node_data.NodeData.TheVariants.{Document as TheDocument};
 ghost use Rattle.dom_nodes.specs.declared.node_data.NodeData.TheVariants.{Fragment as TheFragment};
 ghost use Rattle.page_trees.specs.Elements.{IsRooted};
+ghost use Rattle.page_trees.specs.LateMerges.{CommentsInHtml, MergesInto, id_at, is_open};
 ghost use Rattle.page_trees.specs.Modes.{points_nowhere};
 ghost use Rattle.page_trees.specs.Names.{text_of};
 ghost use Rattle.page_trees.specs.Placing.{is_at_top};
@@ -185,8 +186,13 @@ impl GrowingTree {
     }
 
     /// Returns whether a `form` in a table is ignored, because a form or a template is open.
-    pub fn ignores_form(&self) -> bool {
-        self.has_form() || self.stack.has(Name::Template)
+    pub fn ignores_form(&self) -> bool
+        ensures { Tells (λ t. is_set t.form || is_open (codes "template") t) self.now result }
+    {
+        if self.has_form() {
+            return true;
+        }
+        self.stack.has(Name::Template)
     }
 
     pub fn context(&self) -> Option<Open>
@@ -418,11 +424,17 @@ impl GrowingTree {
     }
 
     /// Inserts a comment as the last child of the outermost element.
-    pub fn put_comment_in_html(&mut self, text: &str) -> Result<(), PageFault> {
+    pub fn put_comment_in_html(&mut self, text: &str) -> Result<(), PageFault>
+        ensures rule { (cs : List ℕ) → text.now ≡ encode_utf8_all cs → OnOk result
+            (CommentsInHtml cs self.old self.new) }
+        ensures quirks { self.new.quirks ≡ self.old.quirks }
+    {
         let Some(html) = self.stack.get(0) else {
             return Ok(());
         };
-        put_comment(&mut self.tree, InsertionPoint::EndOf(html.id), text)
+        is_forest(&self.tree);
+        put_comment(&mut self.tree, InsertionPoint::EndOf(html.id), text)?;
+        Ok(())
     }
 
     /// Inserts a doctype as the last child of the root: name, public identifier and system
@@ -440,11 +452,15 @@ impl GrowingTree {
 
     /// Adds to the element at an index of the stack those of a tag's attributes whose names it
     /// doesn't have yet. They are in the tree once all is read.
-    pub fn add_attrs(&mut self, place: usize, tag: &Tag) -> Result<(), PageFault> {
-        match self.stack.get(place) {
-            Some(open) => self.late.add(&self.tree, open.id, tag),
-            None => Ok(()),
+    pub fn add_attrs(&mut self, place: usize, tag: &Tag) -> Result<(), PageFault>
+        ensures rule { OnOk result
+            (MergesInto (id_at self.old.stack place) tag.now self.old self.new) }
+        ensures quirks { self.new.quirks ≡ self.old.quirks }
+    {
+        if let Some(open) = self.stack.get(place) {
+            self.late.add(&self.tree, open.id, tag)?;
         }
+        Ok(())
     }
 
     /// Detaches the element at an index of the stack.

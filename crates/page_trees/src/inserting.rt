@@ -7,10 +7,11 @@ ghost use Rattle.standard_trees.specs.RuleWords.{InsertElement, InsertRootElemen
 ghost use Rattle.standard_trees.specs.TreeStore.{EndOf};
 ghost use Rattle.page_trees.specs.Constructs.{Performs, PerformsFor};
 ghost use Rattle.page_trees.specs.Constructs.{RemembersLimits, implying, is_entered_plainly};
+ghost use Rattle.page_trees.specs.LateMerges.{MergesTagInto, id_at};
 ghost use Rattle.page_trees.specs.Modes.{mode_of};
 ghost use Rattle.page_trees.specs.Names.{text_of};
 ghost use Rattle.page_trees.specs.TagInsertions.{InsertsTag, InsertsTagAt};
-ghost use Rattle.page_trees.specs.TokenSteps.{CommentsInHtml, PerformsOn};
+ghost use Rattle.page_trees.specs.TokenSteps.{PerformsOn, PutsInHtml};
 ghost use Rattle.page_trees.specs.declared.builder.Next.TheVariants.{Again, Done as IsDone};
 ghost use Rattle.page_trees.specs.declared.name.Name.TheVariants.{Html as HtmlName};
 ghost use Rattle.page_trees.specs.declared.stack.ElementNamespace.TheVariants.{Html as HtmlSpace};
@@ -158,7 +159,7 @@ impl TreeBuilder {
     pub fn put_comment_in_html(&mut self, text: &str)
         ensures limits { RemembersLimits self.old self.new }
         ensures rule { (cs : List ℕ) → text.now ≡ encode_utf8_all cs →
-            CommentsInHtml cs self.old self.new }
+            PutsInHtml cs self.old self.new }
     {
         let put = self.tree.put_comment_in_html(text);
         self.keep(put);
@@ -166,7 +167,11 @@ impl TreeBuilder {
 
     /// Adds to the element at an index of the stack those of a tag's attributes whose names it
     /// doesn't have yet.
-    pub fn add_attrs(&mut self, place: usize, tag: &Tag) {
+    pub fn add_attrs(&mut self, place: usize, tag: &Tag)
+        ensures limits { RemembersLimits self.old self.new }
+        ensures rule { let element = id_at self.old.tree.stack place in
+            MergesTagInto element tag.now self.old self.new }
+    {
         let added = self.tree.add_attrs(place, tag);
         self.keep(added);
     }

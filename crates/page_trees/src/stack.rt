@@ -17,6 +17,7 @@ ghost use Rattle.page_trees.specs.SearchIndex.{IsIndex, IsIndexed, is_sought};
 ghost use Rattle.page_trees.specs.Sets.{context_names, ends_context, ends_scope};
 ghost use Rattle.page_trees.specs.Sets.{has_html_content};
 ghost use Rattle.page_trees.specs.Sets.{is_in_html, is_special_element};
+ghost use Rattle.page_trees.specs.LateMerges.{is_open};
 ghost use Rattle.page_trees.specs.Stands.{IsStackOf, scope_kind, text_list};
 ghost use Rattle.page_trees.specs.declared.name.Name.TheVariants.{Other};
 ghost use Rattle.page_trees.specs.declared.stack.Open.{Open as AnOpen};
@@ -464,8 +465,11 @@ impl OpenElements {
 
     /// Returns whether an HTML element with that name is open.
     pub fn has(&self, name: Name) -> bool
-        ensures { IsIndexed self.now → IsTrue result ↔
+        ensures searched { IsIndexed self.now → IsTrue result ↔
             (0 < last_place (is_named name) self.now.elements.items) }
+        ensures rule { let elements = self.now.elements.items in (tree : StandardTree) →
+            is_name name Other ≡ false → IsStackOf tree elements → IsIndexed self.now →
+            result ≡ is_open (text_of name) tree }
     {
         self.top(name) > 0
     }
