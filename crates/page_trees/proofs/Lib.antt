@@ -72,3 +72,4 @@ pub mod HtmlTags
 pub mod MergedSteps
 pub mod CommentPlaces
 pub mod FirstRules
+pub mod AfterBodyTags

@@ -12,7 +12,7 @@ ghost use Rattle.page_trees.specs.LateMerges.{MergesTagInto, id_at};
 ghost use Rattle.page_trees.specs.Modes.{mode_of};
 ghost use Rattle.page_trees.specs.Names.{text_of};
 ghost use Rattle.page_trees.specs.TagInsertions.{InsertsTag, InsertsTagAt};
-ghost use Rattle.page_trees.specs.TokenSteps.{CommentsInHtml, PerformsOn};
+ghost use Rattle.page_trees.specs.TokenSteps.{PerformsOn, PutsInHtml};
 ghost use Rattle.page_trees.specs.declared.builder.Next.TheVariants.{Again, Done as IsDone};
 ghost use Rattle.page_trees.specs.declared.name.Name.TheVariants.{Html as HtmlName};
 ghost use Rattle.page_trees.specs.declared.stack.ElementNamespace.TheVariants.{Html as HtmlSpace};
@@ -176,7 +176,7 @@ impl TreeBuilder {
     pub fn put_comment_in_html(&mut self, text: &str)
         ensures limits { RemembersLimits self.old self.new }
         ensures rule { (cs : List ℕ) → text.now ≡ encode_utf8_all cs →
-            CommentsInHtml cs self.old self.new }
+            PutsInHtml cs self.old self.new }
     {
         let put = self.tree.put_comment_in_html(text);
         self.keep(put);
