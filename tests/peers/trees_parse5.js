@@ -1,6 +1,7 @@
 // Trees of pages by parse5, in the form of html5lib's tests of tree construction, as `hq --tree` prints them. Standard input is a JSON
-// list of [text, context or null, scripting]; a context is the name of an HTML element, or one behind `svg` or `math`. Prints a JSON list
-// of [tree, quirks mode, HTML].
+// list of [text, context or null, scripting]; a context is the name of an HTML element, or one behind `svg` or `math`. A fourth part may say
+// what is around a fragment: `attrs` of the context, `quirks`, the mode of its document, and `in_form`. Prints a JSON list of
+// [tree, quirks mode, HTML].
 const fs = require('fs');
 const parse5 = require('parse5');
 
@@ -12,6 +13,7 @@ const SPACES = {
     'http://www.w3.org/XML/1998/namespace': 'xml ',
     'http://www.w3.org/2000/xmlns/': 'xmlns ',
 };
+const HTML = 'http://www.w3.org/1999/xhtml';
 const URIS = { svg: 'http://www.w3.org/2000/svg', math: 'http://www.w3.org/1998/Math/MathML' };
 
 const doctype = (node) => {
@@ -43,15 +45,20 @@ const lines_of = (node, depth, lines) => {
     }
 };
 
-const read = ([text, context, scripting]) => {
+const read = ([text, context, scripting, around]) => {
     const options = { scriptingEnabled: scripting };
     const lines = [];
     let top;
     if (context === null) top = parse5.parse(text, options);
     else {
         const [space, name] = context.includes(' ') ? context.split(' ') : ['', context];
-        const uri = URIS[space] || 'http://www.w3.org/1999/xhtml';
-        top = parse5.parseFragment(parse5.defaultTreeAdapter.createElement(name, uri, []), text, options);
+        const uri = URIS[space] || HTML;
+        const { attrs, quirks, in_form } = around || { attrs: [] };
+        const made = parse5.defaultTreeAdapter;
+        const element = made.createElement(name, uri, attrs.map(([name, value]) => ({ name, value })));
+        if (in_form) made.appendChild(made.createElement('form', HTML, []), element);
+        if (quirks) options.treeAdapter = { ...made, getDocumentMode: () => quirks };
+        top = parse5.parseFragment(element, text, options);
     }
     for (const child of top.childNodes) lines_of(child, 0, lines);
     return [lines.map((line) => line + '\n').join(''), top.mode || '', parse5.serialize(top)];

@@ -55,6 +55,7 @@ import documents  # noqa: E402
 import edits  # noqa: E402
 import encodings_of_pages  # noqa: E402
 import growth  # noqa: E402
+import growth_python  # noqa: E402
 import hostile  # noqa: E402
 import in_place  # noqa: E402
 import line_lengths  # noqa: E402
@@ -372,6 +373,7 @@ def main():
     alone = [("streams that fail", streams.streams), ("files that are read", reading_files.reading_files)]
     alone += [("files written in place", in_place.in_place), ("small address spaces", refusals.limited)]
     alone += [("deep and wide trees", depth.depth), ("the growth of the work", growth.growth)]
+    alone += [("the growth of the work through Python", growth_python.growth)]
     counts += [clock.timed(part, each) for part, each in alone]
     return summed(clock, counts, sources)
 

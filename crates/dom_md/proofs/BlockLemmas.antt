@@ -9,9 +9,9 @@ use Rattle.std.proofs.lemmas.List.{at_drop_more}
 use Rattle.std.proofs.lemmas.Simd.{Each1-get_or, below_from_Fits, get_or-replicate, length-replicate}
 use Rattle.dom_nodes.specs.Ascii.{caret, delete, exclamation_mark, space}
 use Rattle.dom_md.specs.Chunks.{is_mark, is_marked}
-use Rattle.dom_md.specs.Lanes.{Marks}
+use Rattle.byte_lanes.specs.Lanes.{Marks}
 use Rattle.dom_md.specs.Written.{begins_word, is_changed, is_special}
-use Rattle.dom_md.proofs.LaneLemmas.{HasLanes-zip2}
+use Rattle.byte_lanes.proofs.LaneLemmas.{HasLanes-zip2}
 use Rattle.dom_md.proofs.WrittenLemmas.{IsAsWrittenTo, same_more, unmarked}
 
 -- ---- the bytes that may be marks

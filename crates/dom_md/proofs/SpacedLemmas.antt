@@ -12,7 +12,7 @@ use Rattle.std.proofs.lemmas.Str.{IsCharBoundary-after_ascii, IsCharBoundary-at_
 use Rattle.std.proofs.lemmas.Str.Ascii.{encode_ascii}
 use Rattle.dom_nodes.specs.Ascii.{space}
 use Rattle.dom_md.specs.Formatted.{joined_words, spaced_on, spaced_words}
-use Rattle.dom_md.specs.Lanes.{Marks}
+use Rattle.byte_lanes.specs.Lanes.{Marks}
 use Rattle.dom_md.specs.Visible.{begins_visible, is_visible, stays}
 
 -- ---- bytes that stay

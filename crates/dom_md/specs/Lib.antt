@@ -6,7 +6,6 @@ pub mod Context
 pub mod EdgeEvents
 pub mod Fences
 pub mod Formatted
-pub mod Lanes
 pub mod Marks
 pub mod Names
 pub mod Options

@@ -1,5 +1,5 @@
 -- What is read at once at the front of a text, one part after another.
-use Rattle.std.specs.Prelude.{◌≡◌, ℕ, ◌<◌, true, false, not, ◌==◌, List, [], ◌∷◌, ◌++◌, length, Option, None, Result, Ok, Err, IfOk, encode_utf8, refl}
+use Rattle.std.specs.Prelude.{◌≡◌, ℕ, ◌<◌, true, false, not, ◌==◌, List, [], ◌∷◌, ◌++◌, length, Option, None, Some, Result, Ok, Err, IfOk, encode_utf8, refl}
 use Rattle.std.proofs.Common.{arith, inl, inr}
 use Rattle.std.specs.Borrow.{Bor}
 use Rattle.std.specs.List.{list_all}
@@ -8,8 +8,9 @@ use Rattle.std.proofs.lemmas.List.{append-nil, append_assoc}
 use Rattle.std.proofs.lemmas.List.Folds.{list_all-append}
 use Rattle.std.proofs.lemmas.Str.{encode_ascii, encodes-append}
 use mathlib.Core.Path.{◌∙◌, sym, ap, subst}
-use Rattle.page_tokens.specs.FastPaths.{FollowsRun, IsOutside, ReadsAny, ReadsFront, ReadsPlain}
-use Rattle.page_tokens.specs.Standard.{FollowsStandard}
+use Rattle.page_tokens.specs.FastPaths.{EndsLast, FollowsRun, IsOutside, ReadsAny, ReadsFront, ReadsPlain, ToldLast}
+use Rattle.page_tokens.specs.Reading.{text_of}
+use Rattle.page_tokens.specs.Standard.{FollowsStandard, Goes, stays}
 use Rattle.page_tokens.specs.declared.token.TokenKind.{TokenKind}
 use Rattle.page_tokens.specs.declared.tokenizer.Tokenizer.{Tokenizer}
 use Rattle.page_tokens.proofs.FollowsOn.{follows_on}
@@ -17,6 +18,39 @@ use Rattle.page_tokens.proofs.FollowsOn.{follows_on}
 longer : (xs ys : List ℕ) → 0 < length xs → 0 < length (xs ++ ys)
 longer [] ys h = absurd (omega (arith, h))
 longer (x ∷ xs) ys h = omega arith
+
+pub nothing_follows : (old : Tokenizer) → old.refused ≡ false → FollowsStandard old old [] None
+nothing_follows old memory = record {
+  memory = memory;
+  leaves = record { in_foreign = refl; after_return = refl };
+  reads = λ m ahead rest stands. record {
+    machine = m;
+    ahead' = ahead;
+    characters = [];
+    tokens = [];
+    goes = subst (λ t. Goes old.in_foreign m (t ++ rest) [] m (ahead ++ rest)) (sym (append-nil ahead)) stays;
+    holds = inl stands;
+    text = sym (append-nil (text_of old));
+    ends = refl;
+  };
+}
+
+-- one character at the end, behind those that were read before
+last_on : (a b c : Tokenizer) (front back : List ℕ) (told : Option TokenKind) → b.reference ≡ a.reference → FollowsStandard a b front None → ToldLast told b c back → ToldLast told a c (front ++ back)
+last_on a b c front back None outside first last = tt
+last_on a b c front back (Some kind) outside first last = record {
+  mid = last.mid;
+  front = front ++ last.front;
+  last = last.last;
+  is = ap (λ e. front ++ e) last.is ∙ sym (append_assoc front last.front (last.last ∷ []));
+  outside = last.outside;
+  begins = follows_on a b last.mid front last.front None outside first last.begins;
+  ends = last.ends;
+}
+
+last_alone : (old new : Tokenizer) (c : ℕ) (told : Option TokenKind) → IsOutside old → FollowsStandard old new (c ∷ []) told → ToldLast told old new (c ∷ [])
+last_alone old new c None outside follows = tt
+last_alone old new c (Some kind) outside follows = record { mid = old; front = []; last = c; is = refl; outside = outside.reference; begins = nothing_follows old follows.memory; ends = follows }
 
 -- nothing is read
 pub none_read : (old : Tokenizer) (text : List ℕ) → ReadsAny old old text text None
@@ -37,6 +71,9 @@ front_on a b c text mid rest told front (inr back) = record {
   follows = λ free.
       let second : FollowsStandard b c back.read told = back.follows free in
       follows_on a b c front.read back.read told (back.outside ∙ sym front.outside) (front.follows second.memory) second;
+  last = λ free.
+      let second : FollowsStandard b c back.read told = back.follows free in
+      last_on a b c front.read back.read told (back.outside ∙ sym front.outside) (front.follows second.memory) (back.last free);
 }
 
 pub any_on : (a b c : Tokenizer) (text mid rest : List ℕ) (told : Option TokenKind) → ReadsAny a b text mid None → ReadsAny b c mid rest told → ReadsAny a c text rest told
@@ -54,6 +91,7 @@ one_read old new c text rest told outside low no_return cut follows = inr (recor
   cut = cut ∙ ap (λ e. e ++ rest) (sym (encode_ascii c low)) ∙ ap (λ e. e ++ rest) (sym (append-nil (encode_utf8 c)));
   no_return = rw no_return refl;
   follows = follows;
+  last = λ free. last_alone old new c told outside (follows free);
 })
 
 -- nothing is read, and nothing told

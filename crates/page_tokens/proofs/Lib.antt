@@ -16,9 +16,10 @@ mod DoctypeFollows
 mod DoctypeSteps
 mod EndTagSteps
 mod FollowsOn
+mod ForeignFlag
 mod Fronts
 mod IdRuns
-mod LaneLemmas
+mod LastSteps
 mod LongestNames
 mod Lowered
 mod MarkEnds
@@ -35,11 +36,13 @@ mod PageTexts
 mod PlaceLetters
 mod Placed
 mod PlainAttrs
+mod PlainNames
 mod PlainReferences
 mod PlainSpaces
 mod PlainTags
 mod RawEndTags
 mod RawTexts
+mod ReadAhead
 mod ReferenceEnds
 mod ReferenceStops
 mod RepeatedAttributes
@@ -62,4 +65,5 @@ mod TagNames
 mod TagOpens
 mod TagSteps
 mod TextFollows
+mod WholePages
 mod WordSteps

@@ -1,21 +1,25 @@
 -- One call after another, in a page.
-use Rattle.std.specs.Prelude.{◌≡◌, ℕ, ◌+◌, ◌<◌, ◌≤◌, Bool, true, false, List, [], ◌∷◌, ◌++◌, length, Option, None, Some, Result, Ok, Err, IfOk, encode_utf8, refl}
+use Rattle.std.specs.Prelude.{◌≡◌, ℕ, ◌+◌, ◌<◌, ◌≤◌, ◌==◌, ◌&&◌, Bool, true, false, not, List, [], ◌∷◌, ◌++◌, length, Option, None, Some, Result, Ok, Err, IfOk, encode_utf8, refl}
 use Rattle.std.proofs.Common.{arith, inl, inr}
 use Rattle.std.specs.Borrow.{Bor}
+use Rattle.std.specs.List.{list_all}
 use Rattle.std.specs.Option.{is_some}
 use Rattle.std.specs.Str.{encode_utf8_all}
-use Rattle.std.proofs.lemmas.Bool.{true≢false}
+use Rattle.std.proofs.lemmas.Bool.{and_parts, true≢false}
 use Rattle.std.proofs.lemmas.List.{append_assoc, length-append}
+use Rattle.std.proofs.lemmas.List.Folds.{list_all-append}
 use Rattle.std.proofs.lemmas.Option.{none-some}
 use Rattle.std.proofs.lemmas.Str.{encodes-append}
 use mathlib.Core.Path.{◌∙◌, sym, ap, subst}
-use Rattle.page_tokens.specs.FastPaths.{ReadsAny}
+use Rattle.page_tokens.specs.FastPaths.{ReadsAny, ToldLast}
+use Rattle.page_tokens.specs.Standard.{FollowsStandard}
 use Rattle.page_tokens.specs.StandardPages.{ReadsAsStandard, ReadsText, ReadsUpTo, told_or}
 use Rattle.page_tokens.specs.declared.token.TokenKind.{TokenKind}
 use Rattle.page_tokens.specs.declared.tokenizer.Tokenizer.{Tokenizer}
+use Rattle.page_tokens.specs.declared.tokenizer.references.Reference.TheVariants as reference
 use Rattle.page_tokens.proofs.AnyState.{outside}
 use Rattle.page_tokens.proofs.AttrFollows.{longer, some_bytes}
-use Rattle.page_tokens.proofs.PageTexts.{MovesOn, moved_on, no_text, then_text, without_returns}
+use Rattle.page_tokens.proofs.PageTexts.{MovesOn, alone_read, moved_on, no_text, then_text, without_returns}
 
 -- ---- the kind of the token
 
@@ -70,6 +74,26 @@ nothing_up_to old text free = record { read = []; told = None; cut = refl; reads
 
 -- ---- what is read at once
 
+front_text : (old new : Tokenizer) (read : List ℕ) (told : Option TokenKind) → old.reference ≡ reference.None → old.after_return ≡ false → list_all (λ c. not (c == 13)) read ≡ true → FollowsStandard old new read told → ToldLast told old new read →
+    ReadsText old new read told
+front_text old new read None none plain all follows last = without_returns old new read plain all (outside old new read None none follows)
+front_text old new read (Some kind) none plain all follows last =
+    let each : (list_all (λ c. not (c == 13)) last.front && list_all (λ c. not (c == 13)) (last.last ∷ [])) ≡ true =
+    sym (list_all-append (λ c. not (c == 13)) last.front (last.last ∷ [])) ∙ ap (list_all (λ c. not (c == 13))) (sym last.is) ∙ all in
+    let parts : (list_all (λ c. not (c == 13)) last.front ≡ true) × (list_all (λ c. not (c == 13)) (last.last ∷ []) ≡ true) =
+    and_parts (list_all (λ c. not (c == 13)) last.front) (list_all (λ c. not (c == 13)) (last.last ∷ [])) each in
+    let begins : ReadsText old last.mid last.front None = without_returns old last.mid last.front plain parts.0 (outside old last.mid last.front None none last.begins) in
+    let ends : ReadsText last.mid new (last.last ∷ []) (Some kind) =
+    alone_read last.mid new last.last (Some kind) (last.begins.leaves.after_return ∙ plain) (no_return last.last parts.1) (outside last.mid new (last.last ∷ []) (Some kind) last.outside last.ends) in
+    subst (λ r. ReadsText old new r (Some kind)) (sym last.is) (then_text old last.mid new last.front (last.last ∷ []) (Some kind) begins ends)
+  where
+    no_true : (x : Bool) → (not x && true) ≡ true → x ≡ false
+    no_true true e = absurd (true≢false (sym e))
+    no_true false e = refl
+
+    no_return : (c : ℕ) → list_all (λ c. not (c == 13)) (c ∷ []) ≡ true → (c == 13) ≡ false
+    no_return c h = no_true (c == 13) h
+
 pub any_up_to : (old mid new : Tokenizer) (text rest : List ℕ) (told before after : Option TokenKind) → MovesOn mid new → before ≡ None → after ≡ told → ReadsAny old mid text rest told → new.refused ≡ false → ReadsUpTo old new text rest before after
 any_up_to old mid new text rest told before after moves none after_is (inl same) free =
     let memory : old.refused ≡ false = sym (ap (λ t. t.refused) moves ∙ ap (λ t. t.refused) same.1) ∙ free in
@@ -84,7 +108,7 @@ any_up_to old mid new text rest told before after moves none after_is (inr front
   read = front.read;
   told = told;
   cut = front.cut;
-  reads = moved_on old mid new front.read told moves (without_returns old mid front.read told front.fresh front.no_return (outside old mid front.read told front.outside (front.follows (sym (ap (λ t. t.refused) moves) ∙ free))));
+  reads = moved_on old mid new front.read told moves (let memory : mid.refused ≡ false = sym (ap (λ t. t.refused) moves) ∙ free in front_text old mid front.read told front.outside front.fresh front.no_return (front.follows memory) (front.last memory));
   kind = after_is ∙ told_alone told ∙ ap (told_or told) (sym none);
 }
 

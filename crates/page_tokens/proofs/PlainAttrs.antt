@@ -80,6 +80,7 @@ run_front old new kind text front rest cs outside is some follows = record {
   cut = is.cut;
   no_return = is.no_return;
   follows = follows;
+  last = λ free. tt;
 }
 
 -- ---- a name

@@ -190,6 +190,7 @@ front_follows old new text meant rest begins allows outside fresh same puts =
       cut = begins.cut ∙ ap (λ e. e ++ rest) (sym is.spelled);
       no_return = is.no_return;
       follows = λ free. reference_follows old new begins.name begins.c begins.is allows outside (sym same ∙ free) (subst (PutsMeant (is_value (state_of old.state)) old new) begins.means puts);
+      last = λ free. tt;
     })
 
 same_memory : (value : Bool) (old new : Tokenizer) (more : List ℕ) → PutsMeant value old new more → new.refused ≡ old.refused

@@ -4,15 +4,14 @@ use Rattle.std.proofs.Common.{arith, inl, inr}
 use Rattle.std.specs.List.{list_all, prefix_len}
 use Rattle.std.specs.Str.{IsCharBoundary, IsUtf8, encode_utf8_all}
 use Rattle.std.proofs.lemmas.Bool.{and_parts, cases_Bool, ne_eqb, true≢false}
-use Rattle.std.proofs.lemmas.List.{append-nil, take-append-drop}
+use Rattle.std.proofs.lemmas.List.{take-append-drop}
 use Rattle.std.proofs.lemmas.Option.{none-some, same_Some}
 use Rattle.std.proofs.lemmas.List.Sums.{prefix_len_is}
 use Rattle.std.proofs.lemmas.Str.{IsCharBoundary-after_ascii, IsCharBoundary-start, encode_ascii}
 use mathlib.Core.Path.{◌∙◌, sym, ap, subst}
 use Rattle.page_tokens.specs.FastPaths.{IsOutside, ReadsAny, is_unquoted_in, spaced_of}
-use Rattle.page_tokens.specs.Reading.{text_of}
 use Rattle.page_tokens.specs.Runs.{is_space_of}
-use Rattle.page_tokens.specs.Standard.{EmitsTag, FollowsStandard, Goes, Keeps, stays}
+use Rattle.page_tokens.specs.Standard.{EmitsTag, FollowsStandard, Keeps}
 use Rattle.page_tokens.specs.TagStates.{ends_name_of}
 use Rattle.page_tokens.specs.declared.token.TokenKind.{TokenKind}
 use Rattle.page_tokens.specs.declared.tokenizer.Tokenizer.{Tokenizer}
@@ -137,22 +136,6 @@ closed_read old new text mid rest to told outside spaced other cut last keeps em
 
 -- ---- spaces
 
-nothing_follows : (old : Tokenizer) → old.refused ≡ false → FollowsStandard old old [] None
-nothing_follows old memory = record {
-  memory = memory;
-  leaves = record { in_foreign = refl; after_return = refl };
-  reads = λ m ahead rest stands. record {
-    machine = m;
-    ahead' = ahead;
-    characters = [];
-    tokens = [];
-    goes = subst (λ t. Goes old.in_foreign m (t ++ rest) [] m (ahead ++ rest)) (sym (append-nil ahead)) stays;
-    holds = inl stands;
-    text = sym (append-nil (text_of old));
-    ends = refl;
-  };
-}
-
 space_in : (from to : State) → spaced_of from ≡ Some to → (c : ℕ) → is_space_of c ≡ true → (old : Tokenizer) → old.state ≡ from → old.refused ≡ false → FollowsStandard old (record old { state = to }) (c ∷ []) None
 space_in (state.Tag tag.Name) to e c space old is none =
     let s : State = state.Attribute attr.BeforeName in
@@ -265,4 +248,5 @@ spaces_read old text rest n to outside len some spaced rest_is = go (take (prefi
       cut = sym (take-append-drop n text) ∙ ap (λ k. take k text ++ drop n text) len ∙ ap (λ e. e ++ drop n text) (is ∙ sym (spelled (c ∷ cs) all)) ∙ ap (λ e. encode_utf8_all (c ∷ cs) ++ e) (sym rest_is);
       no_return = no_return (c ∷ cs) all;
       follows = λ free. spaces_in old.state to spaced c cs all old refl free;
+      last = λ free. tt;
     })

@@ -190,6 +190,7 @@ tag_front old mid which text front rest n is outside letter utf8 front_is rest_i
           ∙ ap (λ e. e ++ rest) (sym (opening_spelled which cs ∙ ap (λ e. opening which ++ e) spelled));
       no_return = no_return_in which cs (no_return ends_tag_name cs refl all);
       follows = λ free. tag_begins old begun which cs is (sym (ap (λ t. t.refused) only) ∙ free) begun_is tagged name;
+      last = λ free. tt;
     }
 
 -- the `>` behind the name

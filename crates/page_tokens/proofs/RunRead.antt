@@ -145,4 +145,5 @@ front_read old mid new kind text front rest n outside fresh copied utf8 front_is
           placed old mid new cs None new_is
           (run_follows old.state kind copied old mid cs refl (subst (CopiesRun kind old mid) (sym spelled) copies) (some_characters cs front spelled some)
           (sym (same_memory kind old mid front copies) ∙ sym (ap (λ t. t.refused) new_is) ∙ free) all);
+      last = λ free. tt;
     })

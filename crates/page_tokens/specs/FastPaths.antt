@@ -1,6 +1,6 @@
 -- The paths on which many characters are read at once: what each reads is what the standard's tokenizer reads one by one.
-use Rattle.std.specs.Prelude.{◌≡◌, ℕ, ◌<◌, Bool, true, false, not, ◌==◌, List, ◌∷◌, ◌++◌, ◌⊎◌, codes, length, slice_index_or, encode_utf8}
-use Rattle.std.specs.Prelude.{Option, None, Some, Result, IfOk, String, string_bytes}
+use Rattle.std.specs.Prelude.{◌≡◌, ℕ, ◌<◌, Bool, true, false, not, ◌==◌, List, [], ◌∷◌, ◌++◌, ◌⊎◌, codes, length, slice_index_or}
+use Rattle.std.specs.Prelude.{encode_utf8, Option, None, Some, Result, IfOk, String, string_bytes}
 use Rattle.std.specs.Borrow.{Bor}
 use Rattle.std.specs.Char.{is_ascii_alphabetic}
 use Rattle.std.specs.List.{list_all}
@@ -73,6 +73,21 @@ CopiesRun run.Cdata old new more = AddsToText old new more
 
 -- ---- what is read at once
 
+-- the token ends with the last of the characters; the others are read before
+pub record EndsLast (old new : Tokenizer) (read : List ℕ) (kind : TokenKind) : Type 0 where
+  pub mid : Tokenizer
+  pub front : List ℕ
+  pub last : ℕ
+  pub is : read ≡ front ++ last ∷ []
+  pub outside : mid.reference ≡ reference.None
+  pub begins : FollowsStandard old mid front None
+  pub ends : FollowsStandard mid new (last ∷ []) (Some kind)
+
+-- the same if one ends
+abbrev pub ToldLast : Option TokenKind → Tokenizer → Tokenizer → List ℕ → Type 0
+ToldLast None old new read = Unit {0}
+ToldLast (Some kind) old new read = EndsLast old new read kind
+
 -- Some characters are read up to `rest`, as the standard reads them one by one. That is done outside of references, not right after a
 -- carriage return, and none of the characters is one.
 pub record ReadsFront (old new : Tokenizer) (text rest : List ℕ) (told : Option TokenKind) : Type 0 where
@@ -83,6 +98,7 @@ pub record ReadsFront (old new : Tokenizer) (text rest : List ℕ) (told : Optio
   pub cut : text ≡ encode_utf8_all read ++ rest
   pub no_return : list_all (λ c. not (c == 13)) read ≡ true
   pub follows : new.refused ≡ false → FollowsStandard old new read told
+  pub last : new.refused ≡ false → ToldLast told old new read
 
 -- nothing is read, or some characters are
 abbrev pub ReadsAny : Tokenizer → Tokenizer → List ℕ → List ℕ → Option TokenKind → Type 0

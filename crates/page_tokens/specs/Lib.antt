@@ -11,6 +11,7 @@ pub mod NamedReferences
 pub mod Numbers
 pub mod PageEnds
 pub mod PageLaws
+pub mod PlainNames
 pub mod RawEndTags
 pub mod Reading
 pub mod References

@@ -1,10 +1,12 @@
 -- How the calls of the tokenizer read a page, in pieces cut anywhere.
-use Rattle.std.specs.Prelude.{◌≡◌, ℕ, ◌==◌, Bool, true, false, cond, List, [], ◌∷◌, ◌++◌, map, Option, None, Some, Result, IfOk}
+use Rattle.std.specs.Prelude.{◌≡◌, ℕ, ◌==◌, ◌&&◌, eqb, Bool, true, false, not, cond, List, [], ◌∷◌, ◌++◌, map, codes, Option, None}
+use Rattle.std.specs.Prelude.{Some, Result, IfOk}
 use Rattle.std.specs.Borrow.{Bor}
+use Rattle.std.specs.List.{starts_with}
 use Rattle.std.specs.Str.{encode_utf8_all}
-use Rattle.standard_tokens.specs.Machine.{Machine, at_state, normalized, normalized_behind, start, start_in}
+use Rattle.standard_tokens.specs.Machine.{Machine, at_state, normalized, normalized_behind, start, start_in, step}
 use Rattle.standard_tokens.specs.Reading.{Feedback, Reads, reader}
-use Rattle.standard_tokens.specs.States.{State as StandardState}
+use Rattle.standard_tokens.specs.States.{State as StandardState, Data as DataState}
 use Rattle.standard_tokens.specs.Tokens.{Token as StandardToken, AChar}
 use Rattle.page_tokens.specs.declared.token.TokenKind.{TokenKind}
 use Rattle.page_tokens.specs.declared.tokenizer.Tokenizer.{Tokenizer}
@@ -32,6 +34,23 @@ line_end_of c = cond (c == 13) 10 c
 
 -- ---- a text
 
+-- the token is emitted by the last step, which leads to the data state
+pub record EmitsLast (foreign : Bool) (m : Machine) (text characters : List ℕ) (token : StandardToken) (n : Machine) (rest : List ℕ) :
+    Type 0 where
+  pub before : Machine
+  pub left : List ℕ
+  pub goes : Goes foreign m text (map AChar characters) before left
+  pub runs : (step foreign before left).stopped ≡ false
+  pub tokens : (step foreign before left).tokens ≡ token ∷ []
+  pub machine : (step foreign before left).machine ≡ n
+  pub rest_is : (step foreign before left).rest ≡ rest
+  pub leads : n.state ≡ DataState
+
+-- behind the characters a token is emitted by the last step, or there is none
+abbrev pub Finishes : Bool → Machine → List ℕ → List ℕ → List StandardToken → Machine → List ℕ → Type 0
+Finishes foreign m text characters [] n rest = Unit {0}
+Finishes foreign m text characters (token ∷ tokens) n rest = EmitsLast foreign m text characters token n rest
+
 -- Behind a call that reads characters as they stand in the page: a carriage return, with or without a line feed, is one line feed.
 pub record BehindText (old new : Tokenizer) (read : List ℕ) (told : Option TokenKind) (m : Machine) (ahead rest : List ℕ) : Type 0 where
   pub machine : Machine
@@ -39,6 +58,8 @@ pub record BehindText (old new : Tokenizer) (read : List ℕ) (told : Option Tok
   pub characters : List ℕ
   pub tokens : List StandardToken
   pub goes : Goes old.in_foreign m (ahead ++ normalized_behind old.after_return (read ++ rest)) (map AChar characters ++ tokens) machine
+      (ahead' ++ normalized_behind new.after_return rest)
+  pub last : Finishes old.in_foreign m (ahead ++ normalized_behind old.after_return (read ++ rest)) characters tokens machine
       (ahead' ++ normalized_behind new.after_return rest)
   pub holds : Holds new ahead' machine
   pub text : text_of new ≡ text_of old ++ encode_utf8_all characters
@@ -113,9 +134,21 @@ pub record IsAt (f : Feedback) (first : StandardState) (read : List ℕ) (told :
   pub holds : Holds t ahead machine
   pub text : text_of t ≡ encode_utf8_all kept
 
-abbrev pub HasRead : Feedback → StandardState → List ℕ → List StandardToken → Tokenizer → Type 0
-HasRead f first read told t = (rest : List ℕ) → IsAt f first read told t rest
+-- `[CDATA[` occurs nowhere
+abbrev pub lacks_cdata : List ℕ → Bool
+lacks_cdata [] = true
+lacks_cdata (c ∷ text) = not (starts_with eqb (c ∷ text) (codes "[CDATA[")) && lacks_cdata text
 
--- tree construction's flag for foreign content stays as it is behind characters
-abbrev pub IsForeignNow : Feedback → List StandardToken → Bool → Type 0
-IsForeignNow f told foreign = (cs : List ℕ) → f.in_foreign (told ++ map AChar cs) ≡ foreign
+-- any text, or else one without it
+abbrev pub IsOfPage : Bool → List ℕ → Type 0
+IsOfPage true text = Unit {0}
+IsOfPage false text = lacks_cdata text ≡ true
+
+-- The flag says whether the page may contain `[CDATA[`.
+abbrev pub HasRead : Bool → Feedback → StandardState → List ℕ → List StandardToken → Tokenizer → Type 0
+HasRead cdata f first read told t = (rest : List ℕ) → IsOfPage cdata (normalized (read ++ rest)) → IsAt f first read told t rest
+
+-- Only in front of `[CDATA[` tree construction's flag for foreign content matters. It stays as it is behind characters.
+abbrev pub IsForeignNow : Bool → Feedback → List StandardToken → Bool → Type 0
+IsForeignNow true f told foreign = (cs : List ℕ) → f.in_foreign (told ++ map AChar cs) ≡ foreign
+IsForeignNow false f told foreign = Unit {0}

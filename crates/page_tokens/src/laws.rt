@@ -1,6 +1,9 @@
 //! Laws of the tokenizer. The functions do nothing at run time; their contracts are the theorems.
 
-ghost use Rattle.page_tokens.specs.PageLaws.{PiecesAreOneText};
+ghost use Rattle.page_tokens.specs.PageLaws.{CallsReadTexts, CallsReadTokens, CharactersAreTold};
+ghost use Rattle.page_tokens.specs.PageLaws.{PagesBegin, PagesEnd};
+ghost use Rattle.page_tokens.specs.PageLaws.{PiecesAreOneText, TextsAreRead, TokensAreRead};
+ghost use Rattle.page_tokens.specs.PlainNames.{NamesArePlain};
 ghost use Rattle.page_tokens.specs.SameNames.{TablesAreTheSame};
 
 /// The tokenizer knows the same named character references as the definition of the HTML Standard's
@@ -13,4 +16,29 @@ pub fn same_named_references()
 /// after it, are read as if they were one text.
 pub fn pieces()
     ensures { PiecesAreOneText }
+{}
+
+/// Whole pages: the tokens that are read from the beginning of a page to its end, with the answers
+/// of tree construction between them, are those of the definition of the HTML Standard's tokenizer,
+/// if `[CDATA[` occurs nowhere in the page, or tree construction's flag for foreign content stays as
+/// it is behind characters. `HasRead` says how far a page is read and which tokens were told.
+pub fn pages()
+    ensures begin { PagesBegin }
+    ensures texts { TextsAreRead }
+    ensures characters { CharactersAreTold }
+    ensures tokens { TokensAreRead }
+    ensures end { PagesEnd }
+{}
+
+/// What `read_kind` says of a call, in a page: the call reads on, or up to the end of a token, after
+/// what was read before.
+pub fn calls()
+    ensures texts { CallsReadTexts }
+    ensures tokens { CallsReadTokens }
+{}
+
+/// The names of tags and of their attributes contain no white space, no `/`, no `>` and no ASCII
+/// upper-case letter, whatever page is read, and whatever tree construction answers.
+pub fn names()
+    ensures { NamesArePlain }
 {}

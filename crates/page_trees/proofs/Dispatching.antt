@@ -26,7 +26,7 @@ comes_by_mode : (b c : Building) → taken b (rules Dispatcher) ≡ goes UseCurr
 unfolding run
 comes_by_mode b c e h = (suc h.0, ap (λ acts. performed (run h.0) acts b) e ∙ ap (option_and_then (λ x. Some x)) h.1)
 
-by_mode : (b : Building) (next : Next) (after : Building) → taken b (rules Dispatcher) ≡ goes UseCurrentMode ∷ [] → Runs b.mode b next after → Runs Dispatcher b next after
+pub by_mode : (b : Building) (next : Next) (after : Building) → taken b (rules Dispatcher) ≡ goes UseCurrentMode ∷ [] → Runs b.mode b next after → Runs Dispatcher b next after
 by_mode b Next.Done after e h = comes_by_mode b after e h
 by_mode b Next.Again after e h = (h.0, λ c k. comes_by_mode b c e (h.1 c k))
 

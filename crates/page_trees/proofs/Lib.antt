@@ -1,5 +1,6 @@
 mod EditCauses
 pub mod Enclosing
+mod GroupRules
 mod HeldNumbers
 mod KindLemmas
 mod MadeNodes
@@ -52,3 +53,10 @@ pub mod ModeOutcomes
 pub mod Dispatching
 pub mod BuilderSteps
 pub mod ElementSteps
+pub mod CurrentForeign
+pub mod DoctypeTexts
+pub mod TokenStates
+pub mod TokenRules
+pub mod PageEnds
+pub mod ForeignTags
+pub mod TextTags

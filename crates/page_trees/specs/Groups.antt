@@ -1,6 +1,12 @@
 -- The groups of elements that the rules for "in body" treat alike (13.2.6.4.7).
-use Rattle.std.specs.Prelude.{Bool, true, false, Option, None, Some, if◌then◌else◌}
+use Rattle.std.specs.Prelude.{◌≡◌, Bool, true, false, List, [], ◌∷◌, Option, None, Some, if◌then◌else◌}
+use Rattle.std.specs.List.{list_any}
 use Rattle.std.specs.Option.{unwrap_or}
+use Rattle.standard_tokens.specs.Tokens.{Token, AStart}
+use Rattle.standard_trees.specs.Building.{fits}
+use Rattle.standard_trees.specs.RuleWords.{Act, InBody, Rule, Test, rule}
+use Rattle.standard_trees.specs.TreeRules.{rules}
+use Rattle.page_trees.specs.Names.{text_of}
 use Rattle.page_trees.specs.declared.modes.groups.Group.{Group}
 use Rattle.page_trees.specs.declared.name.Name.{Name}
 
@@ -126,6 +132,61 @@ common_group _ = None
 -- the group of each name
 abbrev pub group_named : Name → Group
 group_named name = if is_block_name name then Group.Block else unwrap_or (common_group name) (rare_group name)
+
+-- an element of each group
+abbrev pub example_of : Group → Name
+example_of Group.Html = Name.Html
+example_of Group.Metadata = Name.Meta
+example_of Group.Template = Name.Template
+example_of Group.Body = Name.Body
+example_of Group.Frameset = Name.Frameset
+example_of Group.Block = Name.Div
+example_of Group.P = Name.P
+example_of Group.Heading = Name.H1
+example_of Group.Pre = Name.Pre
+example_of Group.Form = Name.Form
+example_of Group.Li = Name.Li
+example_of Group.Description = Name.Dd
+example_of Group.Plaintext = Name.Plaintext
+example_of Group.Button = Name.Button
+example_of Group.A = Name.A
+example_of Group.Formatting = Name.B
+example_of Group.Nobr = Name.Nobr
+example_of Group.Object = Name.Object
+example_of Group.Table = Name.Table
+example_of Group.Void = Name.Br
+example_of Group.Image = Name.Image
+example_of Group.Input = Name.Input
+example_of Group.Param = Name.Param
+example_of Group.Hr = Name.Hr
+example_of Group.Textarea = Name.Textarea
+example_of Group.Xmp = Name.Xmp
+example_of Group.Iframe = Name.Iframe
+example_of Group.Noembed = Name.Noembed
+example_of Group.Noscript = Name.Noscript
+example_of Group.Select = Name.Select
+example_of Group.Optgroup = Name.Optgroup
+example_of Group.Option = Name.Option
+example_of Group.RubyBase = Name.Rb
+example_of Group.RubyText = Name.Rt
+example_of Group.Math = Name.Math
+example_of Group.Svg = Name.Svg
+example_of Group.Stray = Name.Td
+example_of Group.Ordinary = Name.Span
+
+-- what the rules say that are for a token, each with its tests
+abbrev pub rules_for : Token → List Rule → List (List Test × List Act)
+rules_for token [] = []
+rules_for token (rule patterns tests acts ∷ more) =
+    if list_any (λ pattern. fits pattern token) patterns then (tests, acts) ∷ rules_for token more else rules_for token more
+
+-- the rules for "in body" that are for a start tag of that name
+abbrev pub body_rules_for : Name → List (List Test × List Act)
+body_rules_for name = rules_for (AStart (text_of name) [] false) (rules InBody)
+
+-- the rules for "in body" say the same of the name and of the group's example
+abbrev pub IsGroupOf : Name → Group → Type 0
+IsGroupOf name group = body_rules_for name ≡ body_rules_for (example_of group)
 
 -- "If the stack of open elements has a p element in button scope, then close a p element": for each tag of these groups
 abbrev pub closes_p : Group → Bool

@@ -21,3 +21,5 @@ pub mod SameNodes
 pub mod Insertions
 pub mod Constructs
 pub mod TagInsertions
+pub mod TokenSteps
+pub mod TagSteps

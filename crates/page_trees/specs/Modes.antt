@@ -7,7 +7,6 @@ use Rattle.standard_trees.specs.RuleWords.{InBody, InCaption, InCell, InColumnGr
 use Rattle.standard_trees.specs.RuleWords.{InTableBody, InTableText, InTemplate, Initial, Mode as StandardMode, Text}
 use Rattle.standard_trees.specs.TreeRules.{resets}
 use Rattle.page_tokens.specs.declared.token.TagKind.{TagKind}
-use Rattle.page_tokens.specs.declared.tokenizer.state.State.{State}
 use Rattle.page_trees.specs.Placing.{fosters, is_a_template}
 use Rattle.page_trees.specs.Sets.{rule_name}
 use Rattle.page_trees.specs.declared.builder.Mode.{Mode}
@@ -99,22 +98,3 @@ or_in_body last mode = if last then Some (unwrap_or mode InBody) else mode
 -- the mode that an element determines
 abbrev pub reset_for : Setting → Open → Option StandardMode
 reset_for s o = or_in_body s.is_last (reset_named s (rule_name o))
-
--- ---- fragments
-
--- "set the state of the HTML parser's tokenization stage", by the name of the context element, an HTML element
-abbrev pub state_in_noscript : Bool → State
-state_in_noscript scripting = if scripting then State.Rawtext else State.Data
-
-abbrev pub state_in : Name → Bool → State
-state_in Name.Title scripting = State.Rcdata
-state_in Name.Textarea scripting = State.Rcdata
-state_in Name.Style scripting = State.Rawtext
-state_in Name.Xmp scripting = State.Rawtext
-state_in Name.Iframe scripting = State.Rawtext
-state_in Name.Noembed scripting = State.Rawtext
-state_in Name.Noframes scripting = State.Rawtext
-state_in Name.Script scripting = State.Script
-state_in Name.Noscript scripting = state_in_noscript scripting
-state_in Name.Plaintext scripting = State.Plaintext
-state_in _ scripting = State.Data

@@ -192,6 +192,10 @@ abbrev pub DoesIn : Placing → (GrowingTree → GrowingTree) → TreeState → 
 DoesIn placing step old new =
     length new.stack ≤ placing.max_depth → (t : GrowingTree) → t.fostering ≡ placing.foster → Builds old t → Builds new (step t)
 
+-- The same however many elements are open.
+abbrev pub DoesAtAnyDepth : Placing → (GrowingTree → GrowingTree) → TreeState → TreeState → Type 0
+DoesAtAnyDepth placing step old new = (t : GrowingTree) → t.fostering ≡ placing.foster → Builds old t → Builds new (step t)
+
 -- The same of characters, which are in no Document.
 abbrev pub DoesInside : Placing → (GrowingTree → GrowingTree) → TreeState → TreeState → Type 0
 DoesInside placing step old new =

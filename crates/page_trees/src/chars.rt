@@ -1,8 +1,9 @@
 //! Character tokens, which come as runs.
 
-ghost use Rattle.std.specs.Prelude.{◌≡◌};
+ghost use Rattle.std.specs.Prelude.{◌≡◌, false};
 ghost use Rattle.page_trees.specs.Constructs.{Leaves};
 ghost use Rattle.page_trees.specs.Modes.{drops_letters, holds_table_text, joins_spaces};
+ghost use Rattle.page_trees.specs.TokenSteps.{keeps_characters};
 
 use crate::builder::{Mode, Next, TreeBuilder};
 use crate::fault::PageFault;
@@ -73,6 +74,13 @@ fn drops_letters(mode: Mode) -> bool
         mode,
         Mode::InColumnGroup | Mode::InFrameset | Mode::AfterFrameset | Mode::AfterAfterFrameset
     )
+}
+
+/// Returns whether characters are pending in this mode.
+fn keeps_characters(mode: Mode) -> bool
+    ensures { result ≡ keeps_characters mode }
+{
+    matches!(mode, Mode::InTableText)
 }
 
 /// Returns whether characters in that element are pending table character tokens.
@@ -272,8 +280,10 @@ impl TreeBuilder {
     }
 
     /// Processes the pending table character tokens, because another token comes.
-    pub fn flush_table_text(&mut self) {
-        if self.mode != Mode::InTableText {
+    pub fn flush_table_text(&mut self)
+        ensures same { keeps_characters self.old.mode ≡ false → self.new ≡ self.old }
+    {
+        if !keeps_characters(self.mode) {
             return;
         }
         self.mode = self.original;

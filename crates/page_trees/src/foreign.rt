@@ -1,9 +1,13 @@
 //! Foreign content: SVG and MathML (13.2.6.5).
 
-ghost use Rattle.std.specs.Prelude.{◌≡◌, ◌&&◌};
+ghost use Rattle.std.specs.Prelude.{◌≡◌, ◌&&◌, not};
+ghost use Rattle.standard_trees.specs.GrowingTree.{in_foreign};
 ghost use Rattle.page_trees.specs.Foreign.{ends_foreign, is_foreign_to, is_glyph_name};
 ghost use Rattle.page_trees.specs.Foreign.{names_annotation, names_svg, takes_start};
 ghost use Rattle.page_trees.specs.Sets.{has_foreign_content, is_a_text_point, is_an_html_point};
+ghost use Rattle.page_trees.specs.Sets.{is_in_html};
+ghost use Rattle.page_trees.specs.Stands.{Tells};
+ghost use Rattle.page_trees.specs.TagSteps.{DispatchesTag};
 
 use crate::attributes::value_of;
 use crate::builder::{Next, TreeBuilder};
@@ -41,6 +45,13 @@ impl Open {
 }
 
 impl Open {
+    /// Returns whether the element is one of SVG or MathML.
+    pub fn is_foreign(&self) -> bool
+        ensures { result ≡ not (is_in_html self.now.ns) }
+    {
+        self.ns != ElementNamespace::Html
+    }
+
     /// Returns whether the content of the element is parsed by the rules for foreign content, apart
     /// from some tags.
     pub fn holds_foreign(&self) -> bool
@@ -118,7 +129,9 @@ fn ends_foreign(name: Name, tag: &Tag) -> bool
 
 impl TreeBuilder {
     /// Returns whether a tag is processed by the rules for foreign content.
-    pub fn is_tag_foreign(&self, kind: TagKind, name: Name) -> bool {
+    pub fn is_tag_foreign(&self, kind: TagKind, name: Name) -> bool
+        ensures { DispatchesTag kind name self.now.tree result }
+    {
         match self.tree.adjusted_current() {
             Some(open) => is_foreign_to(&open, kind, name),
             None => false,
@@ -127,9 +140,11 @@ impl TreeBuilder {
 
     /// Returns whether the adjusted current node is an SVG or MathML element. A comment is then
     /// inserted there, and a CDATA section may start.
-    pub fn is_current_foreign(&self) -> bool {
+    pub fn is_current_foreign(&self) -> bool
+        ensures { Tells in_foreign self.now.tree result }
+    {
         match self.tree.adjusted_current() {
-            Some(open) => open.ns != ElementNamespace::Html,
+            Some(open) => open.is_foreign(),
             None => false,
         }
     }

@@ -17,7 +17,8 @@ ghost use Rattle.page_trees.specs.Scopes.{is_name};
 ghost use Rattle.page_trees.specs.SearchIndex.{IsIndexed};
 ghost use Rattle.page_trees.specs.SameNodes.{IsPointOf};
 ghost use Rattle.page_trees.specs.Sets.{local_for, space_of};
-ghost use Rattle.page_trees.specs.Stands.{AreParts, Builds, Does, DoesIn, DoesInside};
+ghost use Rattle.page_trees.specs.Stands.{AreParts, Builds, Does, DoesAtAnyDepth};
+ghost use Rattle.page_trees.specs.Stands.{DoesIn, DoesInside};
 ghost use Rattle.page_trees.specs.Stands.{IsCurrent, IsTagOf, Tells, cut};
 ghost use Rattle.page_trees.specs.Stands.{inserted_in, is_fragment, place_for, with_form};
 ghost use Rattle.page_trees.specs.Stands.{with_form_of_context, with_head};
@@ -393,7 +394,8 @@ impl GrowingTree {
 
     /// Inserts a comment at the appropriate place.
     pub fn put_comment(&mut self, placing: Placing, text: &str) -> Result<(), PageFault>
-        ensures rule { (cs : List ℕ) → text.now ≡ encode_utf8_all cs → OnOk result (DoesIn placing
+        ensures rule { (cs : List ℕ) → text.now ≡ encode_utf8_all cs →
+            OnOk result (DoesAtAnyDepth placing
             (λ t. with_comment cs (place_for placing t) t) self.old self.new) }
         ensures quirks { self.new.quirks ≡ self.old.quirks }
     {

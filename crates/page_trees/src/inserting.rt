@@ -1,6 +1,8 @@
 //! Inserting nodes at the appropriate place. A failed edit is stored as the builder's fault.
 
-ghost use Rattle.std.specs.Prelude.{◌≡◌, ◌<◌, [], ◌∷◌, length, true};
+ghost use Rattle.std.specs.Prelude.{◌≡◌, ◌<◌, [], ◌∷◌, List, encode_utf8_all, length, true, ℕ};
+ghost use Rattle.standard_tokens.specs.Tokens.{AComment};
+ghost use Rattle.standard_trees.specs.RuleWords.{InsertComment, InsertCommentInDocument};
 ghost use Rattle.standard_trees.specs.RuleWords.{InsertElement, InsertRootElement, Pop, SwitchTo};
 ghost use Rattle.standard_trees.specs.TreeStore.{EndOf};
 ghost use Rattle.page_trees.specs.Constructs.{Performs, PerformsFor};
@@ -8,6 +10,7 @@ ghost use Rattle.page_trees.specs.Constructs.{RemembersLimits, implying, is_ente
 ghost use Rattle.page_trees.specs.Modes.{mode_of};
 ghost use Rattle.page_trees.specs.Names.{text_of};
 ghost use Rattle.page_trees.specs.TagInsertions.{InsertsTag, InsertsTagAt};
+ghost use Rattle.page_trees.specs.TokenSteps.{CommentsInHtml, PerformsOn};
 ghost use Rattle.page_trees.specs.declared.builder.Next.TheVariants.{Again, Done as IsDone};
 ghost use Rattle.page_trees.specs.declared.name.Name.TheVariants.{Html as HtmlName};
 ghost use Rattle.page_trees.specs.declared.stack.ElementNamespace.TheVariants.{Html as HtmlSpace};
@@ -128,6 +131,36 @@ impl TreeBuilder {
     /// Inserts characters.
     pub fn put_text(&mut self, text: &str) {
         let put = self.tree.put_text(self.placing, text);
+        self.keep(put);
+    }
+
+    /// Inserts a comment at the appropriate place.
+    pub fn put_comment(&mut self, text: &str)
+        ensures limits { RemembersLimits self.old self.new }
+        ensures rule { (cs : List ℕ) → text.now ≡ encode_utf8_all cs →
+            PerformsOn (AComment cs) (InsertComment ∷ []) self.old self.new }
+    {
+        let put = self.tree.put_comment(self.placing, text);
+        self.keep(put);
+    }
+
+    /// Inserts a comment as the last child of the document.
+    pub fn put_comment_at_top(&mut self, text: &str)
+        ensures limits { RemembersLimits self.old self.new }
+        ensures rule { (cs : List ℕ) → text.now ≡ encode_utf8_all cs →
+            PerformsOn (AComment cs) (InsertCommentInDocument ∷ []) self.old self.new }
+    {
+        let put = self.tree.put_comment_at_top(text);
+        self.keep(put);
+    }
+
+    /// Inserts a comment as the last child of the outermost element.
+    pub fn put_comment_in_html(&mut self, text: &str)
+        ensures limits { RemembersLimits self.old self.new }
+        ensures rule { (cs : List ℕ) → text.now ≡ encode_utf8_all cs →
+            CommentsInHtml cs self.old self.new }
+    {
+        let put = self.tree.put_comment_in_html(text);
         self.keep(put);
     }
 

@@ -1,14 +1,20 @@
 //! The insertion modes: which rules process a token (13.2.6.4).
 
-ghost use Rattle.std.specs.Prelude.{◌≡◌, [], string_bytes};
-ghost use Rattle.std.specs.Option.{option_map_or};
-ghost use Rattle.page_trees.specs.Modes.{is_start_kind, next_of};
+ghost use Rattle.std.specs.Prelude.{◌≡◌, true};
+ghost use Rattle.standard_trees.specs.RuleWords.{Text};
+ghost use Rattle.page_trees.specs.Constructs.{ProcessesTag, RemembersLimits};
+ghost use Rattle.page_trees.specs.Modes.{is_start_kind, mode_of, next_of};
+ghost use Rattle.page_trees.specs.TagSteps.{DispatchesInMode, covers, covers_outer};
+ghost use Rattle.page_trees.specs.TokenSteps.{ReturnsPlainly};
+ghost use Rattle.page_trees.specs.declared.builder.Mode.TheVariants.{Text as IsText};
+ghost use Rattle.page_trees.specs.declared.name.Name.{Name as TheName};
 
 mod after;
 mod body;
 mod body_ends;
 pub mod groups;
 mod head;
+mod other_tokens;
 mod resetting;
 mod select_tags;
 mod tables;
@@ -19,7 +25,7 @@ use crate::chars::Run;
 use crate::fault::PageFault;
 use crate::name::Name;
 use dom_nodes::name::LocalName;
-use page_tokens::token::{Doctype, Tag, TagKind};
+use page_tokens::token::{Tag, TagKind};
 use page_tokens::tokenizer::State;
 
 /// A token as the insertion modes process it.
@@ -72,7 +78,10 @@ impl TreeBuilder {
         }
     }
 
-    fn tag_step(&mut self, name: Name, tag: &Tag) -> Next {
+    fn tag_step(&mut self, name: Name, tag: &Tag) -> Next
+        ensures rule { covers self.old.mode ≡ true → ReturnsPlainly self.old →
+            DispatchesInMode name tag.now self.old self.new result }
+    {
         if self.is_tag_foreign(tag.kind, name) {
             self.foreign_tag(name, tag)
         } else {
@@ -80,10 +89,14 @@ impl TreeBuilder {
         }
     }
 
-    pub fn html_tag(&mut self, name: Name, tag: &Tag) -> Next {
+    /// Processes a tag by the rules for the current insertion mode.
+    pub fn html_tag(&mut self, name: Name, tag: &Tag) -> Next
+        ensures rule { covers self.old.mode ≡ true → ReturnsPlainly self.old →
+            ProcessesTag (mode_of self.old.mode) name tag.now self.old self.new result }
+    {
         match self.mode {
             Mode::InBody => self.body_tag(name, tag),
-            Mode::Text => self.end_in_mode(self.original),
+            Mode::Text => self.text_tag(tag),
             Mode::InTable | Mode::InTableText => self.table_tag(name, tag),
             Mode::InCaption => self.caption_tag(name, tag),
             Mode::InColumnGroup => self.column_group_tag(name, tag),
@@ -96,7 +109,10 @@ impl TreeBuilder {
     }
 
     /// Processes a tag in a mode before or after the body.
-    fn outer_tag(&mut self, name: Name, tag: &Tag) -> Next {
+    fn outer_tag(&mut self, name: Name, tag: &Tag) -> Next
+        ensures rule { covers_outer self.old.mode ≡ true →
+            ProcessesTag (mode_of self.old.mode) name tag.now self.old self.new result }
+    {
         match self.mode {
             Mode::BeforeHtml => self.before_html_tag(name, tag),
             Mode::BeforeHead => self.before_head_tag(name, tag),
@@ -112,77 +128,24 @@ impl TreeBuilder {
         }
     }
 
+    /// Processes a tag where the text of an element is read; its end tag closes it.
+    fn text_tag(&mut self, tag: &Tag) -> Next
+        ensures limits { RemembersLimits self.old self.new }
+        ensures rule { (name : TheName) → self.old.mode ≡ IsText → ReturnsPlainly self.old →
+            ProcessesTag Text name tag.now self.old self.new result }
+    {
+        if is_start(tag) {
+            return Next::Done;
+        }
+        self.end_in_mode(self.original)
+    }
+
     /// Inserts an element whose content is text up to its end tag (13.2.6.2).
     pub fn insert_text_element(&mut self, name: Name, tag: &Tag, state: State) -> Next {
         self.insert(name, tag);
         self.switch = Some(state);
         self.original = self.mode;
         self.done_in(Mode::Text)
-    }
-
-    pub fn comment(&mut self, text: &str) {
-        self.skip_line_feed = false;
-        self.flush_table_text();
-        let put = match self.mode {
-            _ if self.is_current_foreign() => self.tree.put_comment(self.placing, text),
-            Mode::Initial | Mode::BeforeHtml | Mode::AfterAfterBody | Mode::AfterAfterFrameset => {
-                self.tree.put_comment_at_top(text)
-            }
-            Mode::AfterBody => self.tree.put_comment_in_html(text),
-            _ => self.tree.put_comment(self.placing, text),
-        };
-        self.keep(put);
-    }
-
-    pub fn doctype(&mut self, doctype: &Doctype) {
-        self.skip_line_feed = false;
-        self.flush_table_text();
-        if self.mode != Mode::Initial {
-            return;
-        }
-        self.quirks = crate::quirks::mode_of(doctype);
-        let name = text_of(&doctype.name);
-        let public_id = text_of(&doctype.public_id);
-        let system_id = text_of(&doctype.system_id);
-        self.mode = Mode::BeforeHtml;
-        let put = self.tree.put_doctype([name, public_id, system_id]);
-        self.keep(put);
-    }
-
-    /// Processes the end of the page.
-    pub fn end(&mut self) {
-        self.flush_table_text();
-        self.process(Token::End);
-    }
-
-    fn end_step(&mut self) -> Next {
-        match self.mode {
-            Mode::Initial
-            | Mode::BeforeHtml
-            | Mode::BeforeHead
-            | Mode::InHead
-            | Mode::InHeadNoscript
-            | Mode::AfterHead => self.leave_mode(),
-            Mode::Text => self.leave_for(self.original),
-            Mode::AfterBody
-            | Mode::AfterAfterBody
-            | Mode::AfterAfterFrameset
-            | Mode::InFrameset
-            | Mode::AfterFrameset => Next::Done,
-            _ if !self.template_modes.is_empty() => next_if(self.close_template()),
-            Mode::InColumnGroup => self.leave_column_group(),
-            _ => Next::Done,
-        }
-    }
-}
-
-/// Returns the text, which is empty if there is none.
-fn text_of(text: &Option<String>) -> &str
-    ensures { result.now ≡ option_map_or string_bytes text.now [] }
-{
-    match text {
-        Some(text) => text.as_str(),
-        None => "",
     }
 }
 

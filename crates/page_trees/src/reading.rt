@@ -1,8 +1,12 @@
 //! Parsing a page or a fragment, whole or in pieces: tokens go to tree construction. Start at
 //! `PageReader`.
 
-ghost use Rattle.std.specs.Prelude.{◌≡◌};
-ghost use Rattle.page_trees.specs.Modes.{state_in, state_in_noscript};
+ghost use Rattle.std.specs.Prelude.{◌≡◌, if◌then◌else◌};
+ghost use Rattle.standard_trees.specs.Parsing.{state_among};
+ghost use Rattle.standard_trees.specs.TreeRules.{first_states};
+ghost use Rattle.page_tokens.specs.StandardStates.{state_of};
+ghost use Rattle.page_tokens.specs.declared.tokenizer.state.State.TheVariants.{Data, Rawtext};
+ghost use Rattle.page_trees.specs.Names.{text_of as local_name};
 
 use crate::builder::{Mode, TreeBuilder};
 use crate::fault::PageFault;
@@ -216,7 +220,7 @@ impl PageReader {
 
 /// Returns the tokenizer's state for the content of an HTML element with that name (13.4).
 fn state_in(name: Name, scripting: bool) -> State
-    ensures { result ≡ state_in name scripting }
+    ensures { state_of result ≡ state_among (first_states scripting) (local_name name) }
 {
     match name {
         Name::Title | Name::Textarea => State::Rcdata,
@@ -231,7 +235,7 @@ fn state_in(name: Name, scripting: bool) -> State
 /// Returns the tokenizer's state for the content of a `noscript`, which is text if scripting is
 /// enabled.
 fn state_in_noscript(scripting: bool) -> State
-    ensures { result ≡ state_in_noscript scripting }
+    ensures { result ≡ (if scripting then Rawtext else Data) }
 {
     if scripting {
         State::Rawtext

@@ -4,13 +4,15 @@
     whole_trees.py browsers COUNT SEED      random soups, without scripting, by Chromium and Firefox; left out are those of `is_asked`
     whole_trees.py parse5 COUNT SEED        random soups by parse5 (NODE_PATH: a copy that mend_trees.py made); left out are those with `select` and
                                             what stands in it, whose rules are newer than parse5 7.1.2, and with `search`, which it does not know
+    whole_trees.py around COUNT SEED        the same as fragments in forms, in documents in quirks mode, and of contexts with attributes
     whole_trees.py files COUNT SEED SIZE FOLDER..   COUNT files `*.html` below the folders, by chance, of at most SIZE bytes, by parse5; left out are
-                                            the same
+                                            the same, and files that have the text of one before
     whole_trees.py seeds COUNT SEED..       the digests of soups for tests/standard/trees/soups.jsonl, where parse5 has the same trees
     whole_trees.py selects COUNT SEED..     the same of soups with `select`, where Chromium and Firefox have the same trees
 
 Texts that differ are printed, made shorter. tests/peers/browsers/ask.py says how browsers are asked."""
 import collections
+import itertools
 import json
 import pathlib
 import random
@@ -56,55 +58,76 @@ def shrunk(differ, text):
         text = shorter[found.index(True)]
 
 
-def test_soups(rng, count, fits):
+def trees_of(test):
+    """The tree and the mode by the rules. A test may have a fourth part: what is around the fragment."""
+    text, context, scripting, *around = test
+    return by_rules(text, context, scripting, **dict(*around))
+
+
+def test_soups(rng, count, fits, made=soups.test):
     while count > 0:
         batch = []
         while len(batch) < min(BATCH, count):
-            test = soups.test(rng)
+            test = made(rng)
             if fits(test):
                 batch.append(test)
         count -= len(batch)
         yield batch
 
 
-def parse5(count, seed):
+def differs(found, by_peer):
+    """Whether they are two trees, or two modes where the peer tells one."""
+    tree, quirks = by_peer
+    return found != (tree, quirks or found[1])
+
+
+def parse5(count, seed, made=soups.test):
     seen = collections.Counter()
-    for batch in test_soups(random.Random(seed), count, soups.is_older):
-        for (text, context, scripting), (tree, quirks) in zip(batch, by_parse5(batch)):
-            found = by_rules(text, context, scripting)
-            seen["fragments" if context else "pages"] += 1
-            if found != (tree, quirks or found[1]):
+    for batch in test_soups(random.Random(seed), count, soups.is_older, made):
+        for test, by_peer in zip(batch, by_parse5(batch)):
+            seen["fragments" if test[1] else "pages"] += 1
+            if differs(trees_of(test), by_peer):
                 seen["differ"] += 1
 
                 def differ(texts):
-                    peer = by_parse5([[t, context, scripting] for t in texts])
-                    own = [by_rules(t, context, scripting) for t in texts]
-                    return [f != (p, q or f[1]) for f, (p, q) in zip(own, peer)]
+                    tests = [[text, *test[1:]] for text in texts]
+                    return [differs(trees_of(one), peer) for one, peer in zip(tests, by_parse5(tests))]
 
-                short = shrunk(differ, text)
-                peer = by_parse5([[short, context, scripting]])[0]
-                print("DIFFERS", repr(short), context, scripting, *by_rules(short, context, scripting), "parse5", *peer, sep="\n", flush=True)
+                short = [shrunk(differ, test[0]), *test[1:]]
+                print("DIFFERS", *map(repr, short), *trees_of(short), "parse5", *by_parse5([short])[0], sep="\n", flush=True)
         print(dict(seen), flush=True)
+
+
+def around(count, seed):
+    parse5(count, seed, soups.surrounded)
+
+
+def texts_of_files(names):
+    """The pages that are read: each text once, and none with what parse5 doesn't know."""
+    seen = set()
+    for name in names:
+        text = pathlib.Path(name).read_bytes().decode("utf-8", "replace").removeprefix("\ufeff")
+        if hash(text) not in seen and soups.is_older((text, None)):
+            yield name, text
+        seen.add(hash(text))
 
 
 def files(count, seed, size, folders):
     names = sorted(str(path) for folder in folders for path in pathlib.Path(folder).rglob("*.html") if path.is_file() and not path.is_symlink())
     names = [name for name in names if pathlib.Path(name).stat().st_size <= size]
-    names = sorted(random.Random(seed).sample(names, min(count, len(names))))
-    seen = collections.Counter()
-    for begin in range(0, len(names), 100):
-        texts = [pathlib.Path(name).read_bytes().decode("utf-8", "replace").removeprefix("\ufeff") for name in names[begin : begin + 100]]
-        tests = [(text, None, False) for text in texts if soups.is_older((text, None))]
-        chosen = [name for name, text in zip(names[begin : begin + 100], texts) if soups.is_older((text, None))]
-        for name, test, (tree, quirks) in zip(chosen, tests, by_parse5(tests)):
-            found = by_rules(*test)
+    random.Random(seed).shuffle(names)
+    print(len(names), "files", flush=True)
+    pages, seen = texts_of_files(names), collections.Counter()
+    while batch := list(itertools.islice(pages, min(100, count - seen["pages"]))):
+        for (name, text), by_peer in zip(batch, by_parse5([(text, None, False) for _, text in batch])):
+            found = by_rules(text, None, False)
             seen["pages"] += 1
-            seen["characters"] += len(test[0])
-            if found != (tree, quirks):
+            seen["characters"] += len(text)
+            if found != by_peer:
                 seen["differ"] += 1
-                ours, theirs = found[0].split("\n"), tree.split("\n")
+                ours, theirs = found[0].split("\n"), by_peer[0].split("\n")
                 at = next((i for i, (a, b) in enumerate(zip(ours, theirs)) if a != b), 0)
-                print("DIFFERS", name, found[1], ours[at : at + 1], "parse5", quirks, theirs[at : at + 1], flush=True)
+                print("DIFFERS", name, found[1], ours[at : at + 1], "parse5", by_peer[1], theirs[at : at + 1], flush=True)
         print(dict(seen), flush=True)
 
 
@@ -177,4 +200,4 @@ if __name__ == "__main__":
     elif what in ("seeds", "selects"):
         {"seeds": seeds, "selects": selects}[what](int(numbers[0]), map(int, numbers[1:]))
     else:
-        {"parse5": parse5, "browsers": browsers}[what](*map(int, numbers))
+        {"parse5": parse5, "around": around, "browsers": browsers}[what](*map(int, numbers))

@@ -6,6 +6,7 @@ node more, its contents. What the rules name as an algorithm stands below as a m
 from construction_rules import FIRST, MODES, NAMES, RESET, TEXTS
 
 SPACE = "\t\n\f\r "
+LOWER = {upper: upper + 32 for upper in range(ord("A"), ord("Z") + 1)}
 HTML, SVG, MATH = "", "svg", "math"
 TAKEN = set()  # the rules that were taken, as (mode, index), until a caller clears it
 DONE = set()  # the actions with a condition of their own, as (mode, index, action, whether it was met)
@@ -24,7 +25,7 @@ def key(node):
 
 
 def lower(text):
-    return "".join(chr(ord(c) + 32) if "A" <= c <= "Z" else c for c in text)
+    return text.translate(LOWER)
 
 
 def adjusted(names, name):

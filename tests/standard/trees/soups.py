@@ -1,4 +1,5 @@
-"""Random soups of tags, texts, comments and doctypes: `test(rng)` is a text, a context or None for a page, and whether scripting is enabled.
+"""Random soups of tags, texts, comments and doctypes: `test(rng)` is a text, a context or None for a page, and whether scripting is enabled;
+`surrounded(rng)` a fragment in a form, in a document in quirks mode and the like.
 soups.jsonl has the digests of the trees of some, which parse5 had, too; for soups with `select` Chromium and Firefox."""
 import hashlib
 import random
@@ -78,6 +79,17 @@ def soup(rng):
 def test(rng):
     text, context = soup(rng), rng.choice(CONTEXTS) if rng.random() < 0.35 else None
     return text if context else rng.choice(DOCTYPES) + text, context, rng.random() < 0.3
+
+
+ENCODINGS = ["text/html", "application/XHTML+xml", "x"]
+
+
+def surrounded(rng):
+    """A fragment, with attributes of its context, the mode of its document, and whether a form is above it."""
+    text, context, scripting = soup(rng), rng.choice(CONTEXTS), rng.random() < 0.3
+    attrs = [["encoding", rng.choice(ENCODINGS)]] if rng.random() < 0.5 else []
+    quirks, in_form = rng.choice(["quirks", "limited-quirks", "no-quirks"]), rng.random() < 0.5
+    return text, context, scripting, {"attrs": attrs, "quirks": quirks, "in_form": in_form}
 
 
 def is_older(one):

@@ -11,12 +11,13 @@ ghost use Rattle.dom_md.specs.Formatted.{block_names, cell_names, drop_spaces, e
 ghost use Rattle.dom_md.specs.Formatted.{ends_with_whitespace, is_fresh, is_parted, AddsWords};
 ghost use Rattle.dom_md.specs.Formatted.{joined_words, line_names, spaced_words, with_close};
 ghost use Rattle.dom_md.specs.Formatted.{with_gap, with_open, with_text};
-ghost use Rattle.dom_md.specs.Lanes.{Marks};
+ghost use Rattle.byte_lanes.specs.Lanes.{Marks};
 ghost use Rattle.dom_md.specs.Visible.{begins_visible, is_visible, stays};
 ghost use Rattle.dom_md.specs.Adding.{Adds, EachFrom, KeepsFront};
 
 use crate::formatting::names::{is_block, is_cell, is_line};
-use crate::lanes::{at_most, load, past_spaces, unmarked_len};
+use crate::lanes::past_spaces;
+use byte_lanes::{at_most, load, unmarked_len};
 use dom_nodes::name::LocalRef;
 use std::alloc::AllocError;
 use std::simd::prelude::*;

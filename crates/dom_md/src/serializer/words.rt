@@ -5,7 +5,7 @@ ghost use Rattle.std.specs.Prelude.{drop, false, length, slice_index_or, string_
 ghost use Rattle.std.specs.Str.{bytes_eq};
 ghost use Rattle.dom_nodes.specs.Words.{words_of};
 ghost use Rattle.dom_md.specs.Adding.{Adds, EachFrom, KeepsFront};
-ghost use Rattle.dom_md.specs.Lanes.{Marks};
+ghost use Rattle.byte_lanes.specs.Lanes.{Marks};
 ghost use Rattle.dom_md.specs.Resolved.{ReadsIn};
 ghost use Rattle.dom_md.specs.Words.{spaced};
 ghost use Rattle.dom_md.specs.Written.{IsFirstChange, begins_word, change_of, CutsFirstChange};
@@ -13,8 +13,9 @@ ghost use Rattle.dom_md.specs.Written.{is_changed, is_special, written};
 
 use crate::chunks::{is_marked, push_escaped_chunk};
 use crate::context::FormatOpts;
-use crate::lanes::{at_most, either, equal_to, load, past_spaces, unmarked_len};
+use crate::lanes::past_spaces;
 use crate::serializer::texts::{begins_line, ends_in_marker_digits};
+use byte_lanes::{at_most, either, equal_to, load, unmarked_len};
 use dom_nodes::fault::OutOfMemory;
 use std::alloc::AllocError;
 use std::simd::prelude::*;

@@ -1,7 +1,7 @@
 //! Groups of elements that the rules for "in body" treat alike.
 
 ghost use Rattle.std.specs.Prelude.{◌≡◌};
-ghost use Rattle.page_trees.specs.Groups.{closes_p, common_group, group_named, rare_group};
+ghost use Rattle.page_trees.specs.Groups.{IsGroupOf, closes_p, common_group, group_named, rare_group};
 ghost use Rattle.page_trees.specs.Groups.{is_block_name, reconstructs, spoils_frameset};
 ghost use Rattle.page_trees.specs.Groups.{is_metadata_name};
 
@@ -106,7 +106,8 @@ impl Group {
 
 /// Returns the group of a name.
 pub fn group_of(name: Name) -> Group
-    ensures { result ≡ group_named name }
+    ensures named { result ≡ group_named name }
+    ensures follows { IsGroupOf name result }
 {
     if is_block(name) {
         return Group::Block;

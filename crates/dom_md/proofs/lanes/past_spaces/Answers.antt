@@ -1,8 +1,8 @@
 use Rattle.std.proofs.Common.{cond, eqb, get_or, replicate, subst, sym, w8}
 use Rattle.std.specs.Simd.Lanes.{sel_l}
 use Rattle.std.proofs.lemmas.Simd.{tops_compared}
-use Rattle.dom_md.specs.Lanes.{HasLanes}
-use Rattle.dom_md.proofs.LaneLemmas.{HasLanes-select}
+use Rattle.byte_lanes.specs.Lanes.{HasLanes}
+use Rattle.byte_lanes.proofs.LaneLemmas.{HasLanes-select}
 use Rattle.dom_md.proofs.lanes.past_spaces.Goals as goal
 
 pub returns : goal.returns

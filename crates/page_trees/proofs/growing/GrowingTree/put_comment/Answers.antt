@@ -15,7 +15,7 @@ invariant_of-self-2 c =
     (grown _ _ _ _ _ _ _ c.self.invariant.0 c.put_comment.ensures.grows, c.self.invariant.1)
 
 pub returns-clause-rule : goal.returns-clause-rule
-returns-clause-rule c cs spelt within t fosters b =
+returns-clause-rule c cs spelt t fosters b =
     comment_built _ t _ _ _ _ cs (subst (λ (s : TreeState). Builds s t) (sym c.self.view_is) b) c.is_forest.ensures
     (subst (λ (s : TreeState). IsOpenGap c.gap_at_any_depth-gap.result s.forest) (sym c.self.view_is) c.gap_at_any_depth-gap.ensures.open)
     (c.gap_at_any_depth-gap.ensures.rule t fosters b) spelt c.in_ok-put_comment.ensures.made

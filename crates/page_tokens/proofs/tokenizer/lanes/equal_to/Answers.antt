@@ -1,6 +1,0 @@
-use Rattle.std.proofs.Common.{eqb}
-use Rattle.page_tokens.proofs.LaneLemmas.{marks_compared}
-use Rattle.page_tokens.proofs.tokenizer.lanes.equal_to.Goals as goal
-
-pub returns : goal.returns
-returns c = marks_compared eqb c.args.v c.args.byte c.fits-v.0
