@@ -1,8 +1,7 @@
 -- A copy of a formatting element is the element that the definition inserts for the same token.
 use Rattle.std.proofs.Common.{◌≡◌, ℕ, suc, zero, ◌<◌, ◌≤◌, ◌+◌, ◌&&◌, ◌||◌, Bool, true, false, not, List, [], ◌∷◌, ◌++◌, map, reverse, refl, sym, ap, ◌∙◌, length, Option, Some, None, arith, inl, inr, subst, codes, true≢false, if◌then◌else◌}
-use Rattle.std.specs.Prelude.{cond, slice_get}
+use Rattle.std.specs.Prelude.{IfSome, cond, slice_get}
 use Rattle.std.specs.Option.{option_map, option_map_or}
-use Rattle.std.proofs.lemmas.Bool.Decides.{eqb_tells}
 use Rattle.dom_nodes.specs.Kinds.{contents_named, is_element}
 use Rattle.dom_nodes.specs.declared.name.Attr.{Attr}
 use Rattle.dom_nodes.specs.declared.node_data.NodeData.{NodeData}
@@ -26,15 +25,15 @@ use Rattle.page_trees.specs.Names.{html_rows, rare_rows, text_of}
 use Rattle.page_trees.specs.Reopening.{copy_open}
 use Rattle.page_trees.specs.SameNodes.{AreNodes, IsPointOf, copy_of, with_copy, with_copy_at, with_kind_at}
 use Rattle.page_trees.specs.Sets.{is_an_html_point, is_in_mathml, is_one, is_one_in, key_for, local_for, space_of}
-use Rattle.page_trees.specs.Stands.{Builds, EntryStands, IsOfKind, StandsFor, TakeAttrs, formatting_names, late_names}
-use Rattle.page_trees.specs.TreeState.{Late, TreeState, added_to, completed, with_attrs}
+use Rattle.page_trees.specs.Stands.{Builds, EntryStands, IsOfKind, StandsFor, TakeAttrs, TakesAttrs, formatting_names, late_names}
+use Rattle.page_trees.specs.TreeState.{Late, TreeState, added_to, completed, late_at, with_attrs}
 use Rattle.page_trees.specs.declared.formatting.Entry.{Entry}
 use Rattle.page_trees.specs.declared.name.Name.{Name}
 use Rattle.page_trees.specs.declared.stack.ElementNamespace.{ElementNamespace}
 use Rattle.page_trees.specs.declared.stack.Open.{Open}
 use Rattle.page_trees.proofs.ActionsOnNodes.{created_kind}
 use Rattle.page_trees.proofs.BuiltNodes.{built_pushed, inserted_is, made_kind, no_later}
-use Rattle.page_trees.proofs.KeptElements.{Keeps, built_grown, keeps_kind_at}
+use Rattle.page_trees.proofs.KeptElements.{Keeps, added_is, built_grown, keeps_kind_at}
 use Rattle.page_trees.proofs.LateNodes.{late_elements, late_forest, late_long, late_moved, late_node, late_open, no_attrs}
 use Rattle.page_trees.proofs.NamesAgree.{for_all}
 use Rattle.page_trees.proofs.StandingEdits.{alone_good, copy_more, copy_stands, put_stands}
@@ -90,12 +89,11 @@ unfolding html_rows rare_rows
 late_known = refl
 
 pub none_later : (nodes : List Node) (late : List Late) (o : Open) → TakeAttrs nodes late → StandsFor nodes o → is_one formatting_names o ≡ true → added_to late o.id ≡ []
-none_later nodes [] o takes stands is = refl
-none_later nodes (late ∷ others) o takes stands is = elim (eqb_tells late.id o.id) [
-  | inl same ↦ absurd (true≢false (sym takes.0 ∙ ap (λ (n : ℕ). is_of_kind late_names (node_at nodes n).kind) same.1
-      ∙ sym (kind_agrees late_names late_known o (node_at nodes o.id).kind stands) ∙ not_late o is))
-  | inr other ↦ ap (λ (b : Bool). (let attrs : List Attr = if b then late.added else added_to others o.id in attrs)) other.0 ∙ none_later nodes others o takes.1 stands is
-]
+none_later nodes late o takes stands is = added_is late o.id ∙ by (late_at late o.id) (takes o.id)
+  where
+    by : (one : Option Late) → IfSome one (TakesAttrs (node_at nodes o.id).kind) → option_map_or (λ (one : Late). one.added) one [] ≡ []
+    by None k = refl
+    by (Some one) k = absurd (true≢false (sym k.named ∙ sym (kind_agrees late_names late_known o (node_at nodes o.id).kind stands) ∙ not_late o is))
 
 -- ---- the kind of the copy
 
