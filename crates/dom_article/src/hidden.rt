@@ -45,7 +45,8 @@ fn is_never(name: &str) -> bool
     is_one_of(name, &NEVER)
 }
 
-fn is_frame(name: &str) -> bool
+/// Returns whether the name is `html` or `body`.
+pub(crate) fn is_frame(name: &str) -> bool
     ensures { result ≡ is_among name.now frame_names }
 {
     is_one_of(name, &FRAMES)
