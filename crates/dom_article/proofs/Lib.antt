@@ -1,4 +1,5 @@
 pub mod BestLemmas
+pub mod ChosenLemmas
 pub mod HiddenLemmas
 pub mod MarkLemmas
 pub mod OrderLemmas
