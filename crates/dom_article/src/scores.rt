@@ -1,6 +1,6 @@
 //! The score of a block.
 
-ghost use Rattle.std.specs.Prelude.{◌≡◌, ◌≤◌, ◌<◌, ◌*◌, ◌^◌, min, neg_ℤ, pos};
+ghost use Rattle.std.specs.Prelude.{◌≡◌, ◌≤◌, ◌<◌, ◌-◌, ◌*◌, ◌^◌, min, neg_ℤ, pos};
 ghost use Rattle.std.specs.Int.RustNames.{unsigned_abs};
 ghost use Rattle.dom_article.specs.Scores.{has_none, holds_articles, may_be_leaf, of_whole};
 ghost use Rattle.dom_article.specs.Scores.{points, raised_points, score, text_part};
