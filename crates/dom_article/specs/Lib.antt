@@ -1,3 +1,4 @@
+pub mod Badness
 pub mod Best
 pub mod Chosen
 pub mod Hidden
