@@ -49,10 +49,9 @@ pub(crate) fn linked_data_of(document: &Document) -> Result<LinkedData, OutOfMem
             continue;
         }
         let text = node.text()?;
-        let Ok(value) = Value::from_slice(alloc, text.as_bytes()) else {
-            continue;
-        };
-        if let Some(object) = article_in(&value) {
+        if let Some(value) = value_of(alloc, text.as_str())?
+            && let Some(object) = article_in(&value)
+        {
             return data_of(alloc, object);
         }
     }
@@ -64,6 +63,19 @@ pub(crate) fn linked_data_of(document: &Document) -> Result<LinkedData, OutOfMem
         description: None,
         image: None,
     })
+}
+
+/// Returns the value that a text is in JSON, or `None` if it is none.
+fn value_of(alloc: Global, text: &str) -> Result<Option<Value>, OutOfMemory> {
+    match Value::from_slice(alloc, text.as_bytes()) {
+        Ok(value) => Ok(Some(value)),
+        Err(fault) => {
+            if fault.is_syntax() || fault.is_eof() {
+                return Ok(None);
+            }
+            Err(OutOfMemory)
+        }
+    }
 }
 
 fn is_linked_data(node: &NodeRef<'_>) -> bool {
