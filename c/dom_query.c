@@ -58,6 +58,7 @@ int64_t dq_proved_move(HANDLE, uint32_t, uint32_t, uint32_t);
 int64_t dq_proved_remove(HANDLE, uint32_t);
 int64_t dq_proved_unwrap(HANDLE, uint32_t);
 int64_t dq_proved_normalize(HANDLE, uint32_t);
+int64_t dq_proved_article(HANDLE, HANDLE);
 int64_t dq_proved_sanitize(HANDLE, bytes_at, size_t, bytes_at, size_t, bytes_at, size_t);
 size_t dq_proved_fault_byte(const dq_document *);
 size_t dq_proved_fault_text(int64_t, uint8_t *, size_t);
@@ -446,6 +447,34 @@ int64_t dq_select_attrs(dq_document *document, uint32_t root, const char *select
     WANT_TEXT(selectors);
     WANT_TEXT(name);
     GIVE_STRINGS(document, values, dq_proved_select_attrs(document, root, TEXT(selectors), TEXT(name)));
+}
+
+/* ---- Articles. */
+
+enum { FIELDS = DQ_IMAGE + 1 };
+
+/* The article goes into a handle of this call first: so no thread holds the locks of two documents, and both may be one. */
+int64_t dq_article(dq_document *page, dq_document *article, dq_strings *fields) {
+    WANT(page && article && fields);
+    fields->count = fields->lengths.count = 0;
+    no_text(&fields->joined, 0);
+    dq_document made = DQ_DOCUMENT_INIT;
+    lock(&page->lock);
+    int64_t sure = dq_proved_article(page, &made);
+    int64_t answer = sure < 0 ? sure : take_strings(page, FIELDS, fields);
+    dq_proved_forget(page);
+    unlock(&page->lock);
+    if (answer < 0) {
+        dq_proved_free(&made);
+        return answer;
+    }
+    lock(&article->lock);
+    dq_proved_free(article);
+    article->at = made.at;
+    article->byte = made.byte;
+    article->full = made.full;
+    unlock(&article->lock);
+    return sure;
 }
 
 /* ---- Editing. */

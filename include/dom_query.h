@@ -211,6 +211,17 @@ typedef enum dq_source {
     DQ_BY_GUESS = 3      /* nothing: it is UTF-8 where all bytes are UTF-8, and windows-1252 where not */
 } dq_source;
 
+/* What a page says of its article: the items of the fields of dq_article. */
+typedef enum dq_article_field {
+    DQ_TITLE = 0,
+    DQ_BYLINE = 1,      /* the author */
+    DQ_PUBLISHED = 2,   /* the date, as it is written */
+    DQ_LANGUAGE = 3,    /* as it is written, such as en-GB */
+    DQ_SITE = 4,        /* the name of the site */
+    DQ_DESCRIPTION = 5,
+    DQ_IMAGE = 6        /* the address of an image, as it is written */
+} dq_article_field;
+
 /* Rules of a policy that have a text: dq_policy_rule. From 7 on they take back what others have said. */
 typedef enum dq_rule {
     DQ_ALLOW_ELEMENT = 0,   /* elements of that name stay; any other is replaced by its children */
@@ -369,6 +380,16 @@ DQ_API int64_t dq_select_html(dq_document *document, uint32_t root, const char *
 
 /* The value of an attribute of each element that dq_select would find; for an element without it, no text. Faults as there. */
 DQ_API int64_t dq_select_attrs(dq_document *document, uint32_t root, const char *selectors, size_t selectors_length, const char *name, size_t name_length, dq_strings *values);
+
+/* ---- Articles. */
+
+/* The article of a page: what a reader came for, without navigation, advertisements and comments. A document of its
+ * nodes goes into the handle `article`, in the place of what that held: dq_html, dq_markdown and dq_formatted_text of its node 0
+ * are the article as HTML, Markdown and text. The seven items of `fields` are what the page says of it (dq_article_field), null
+ * for what it does not say. Returns 1 if the page surely has an article, and 0 if it may be none, as a home page; DQ_NOTHING
+ * where no text of the page is shown. The page stays as it is; `article` may be the same handle. After a fault it holds what it
+ * held. Faults: DQ_MEMORY, DQ_TOO_MANY_NODES. */
+DQ_API int64_t dq_article(dq_document *page, dq_document *article, dq_strings *fields);
 
 /* ---- Editing. Each function returns 0, and dq_new_element and dq_new_text the number of the new node.
  * Faults of each: DQ_NO_NODE, DQ_NOT_UTF8, DQ_MEMORY, and those that are named. DQ_BAD_KIND is for nodes that aren't

@@ -10,6 +10,7 @@
 The work is done by a library whose functions are proved: each does what its contract says, for every document.
 """
 
+from .article import Article
 from .document import Document, PageReader, parse, parse_bytes, parse_fragment, parse_strict
 from .errors import (
     CharsetError,
@@ -27,6 +28,7 @@ from .policy import Policy, clean, clean_page
 from .selector import Selector
 
 __all__ = [
+    "Article",
     "Attributes",
     "CharsetError",
     "ClosedError",

@@ -129,6 +129,7 @@ PARAMETERS: dict[str, tuple[Any, ...]] = {
     "dq_select_texts": (HANDLE, NODE, TEXT, SIZE, STRINGS),
     "dq_select_html": (HANDLE, NODE, TEXT, SIZE, STRINGS),
     "dq_select_attrs": (HANDLE, NODE, TEXT, SIZE, TEXT, SIZE, STRINGS),
+    "dq_article": (HANDLE, HANDLE, STRINGS),
     "dq_set_attr": (HANDLE, NODE, TEXT, SIZE, TEXT, SIZE),
     "dq_remove_attr": (HANDLE, NODE, TEXT, SIZE),
     "dq_set_name": (HANDLE, NODE, TEXT, SIZE),
@@ -262,7 +263,25 @@ def texts_of(call: Any, handle: Any, *arguments: Any) -> Any:
     if count <= 0:
         _pieces.append(strings)
         return count if count < 0 else []
-    lengths = strings.lengths.numbers[0:count]
+    return _taken(strings)
+
+
+def article_of(call: Any, page: Any, article: Any) -> Any:
+    """Whether the article is sure, and what the page says of it; or the number of a fault."""
+    try:
+        strings = _pieces.pop()
+    except IndexError:
+        strings = Strings()
+    sure = call(page, article, strings)
+    if sure < 0:
+        _pieces.append(strings)
+        return sure
+    return bool(sure), _taken(strings)
+
+
+def _taken(strings: Strings) -> list[str | None]:
+    """The texts of an answer, which is put back."""
+    lengths = strings.lengths.numbers[0 : strings.count]
     joined = ctypes.string_at(strings.joined.bytes, strings.joined.length)
     if strings.room <= KEPT and strings.joined.room <= KEPT:
         _pieces.append(strings)

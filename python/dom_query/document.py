@@ -14,6 +14,7 @@ from ._library import (
     UNKNOWN_LABEL,
     Handle,
     ReaderHandle,
+    article_of,
     charset_error,
     fault,
     lib,
@@ -22,6 +23,7 @@ from ._library import (
     unlocked,
     utf8,
 )
+from .article import Article
 from .names import foreign_name
 from .node import Node, check_attribute
 from .selector import Selectors
@@ -219,6 +221,18 @@ class Document:
     def formatted_text(self) -> str:
         """The document as text, with blocks on lines of their own."""
         return Node(self, 0).formatted_text
+
+    def article(self) -> Article | None:
+        """The article of the page: what a reader came for, without navigation, advertisements and comments. None where no text of
+        the page is shown. The document stays as it is."""
+        document = Document()
+        found = article_of(self._slow.dq_article, self._handle, document._handle)
+        if isinstance(found, int):
+            if found == NOTHING:
+                return None
+            raise fault(found, self._handle)
+        document._slow = self._slow
+        return Article(document, *found)
 
     # ---- edits
 

@@ -306,6 +306,21 @@ class Edits(unittest.TestCase):
         for name in ("script", "p"):
             self.refused(-15, setattr, text, "name", name)
 
+    def test_texts_around_the_contents_of_a_template(self):
+        page = self.document = dom_query.parse_fragment("<template><b>1</b></template>")
+        contents = page.select_one("template").template_contents
+        for use in (contents.before, contents.after, contents.replace_with):
+            self.assertEqual(self.refused(-11, use, "x"), 0)
+        contents.append("2")
+        contents.prepend("0")
+        self.assertEqual(page.select_one("template").html, "<template>0<b>1</b>2</template>")
+
+    def test_an_empty_text(self):
+        text = self.document.new_text("")
+        self.assertEqual((text.text, text.html, text.html_bytes(), text.markdown, text.classes, text.children), ("", "", b"", "", [], []))
+        self.assertEqual(dom_query.parse_fragment("").html_bytes(), dom_query.parse_fragment("").html.encode())
+        self.assertEqual(dom_query.parse_strict("").html_bytes(), b"")
+
     def test_what_plaintext_holds(self):
         self.node.name = "plaintext"
         for text in ("</plaintext>", "a</PLAINTEXT >"):

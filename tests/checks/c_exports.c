@@ -97,6 +97,7 @@ static void closed(dq_document *d) {
     IS(dq_encoding(d, &text), DQ_CLOSED);
     IS(dq_encoding_source(d), DQ_CLOSED);
     IS(dq_replaced_count(d), DQ_CLOSED);
+    IS(dq_article(d, d, &several), DQ_CLOSED);
     dq_document_free(d);
 }
 
@@ -421,6 +422,9 @@ static void nulls(dq_document *d, dq_policy *p, dq_reader *r) {
     IS(dq_html(d, 0, NULL), DQ_NULL);
     IS(dq_inner_html(d, 0, NULL), DQ_NULL);
     IS(dq_markdown(d, 0, NULL), DQ_NULL);
+    IS(dq_article(NULL, d, &several), DQ_NULL);
+    IS(dq_article(d, NULL, &several), DQ_NULL);
+    IS(dq_article(d, d, NULL), DQ_NULL);
     IS(dq_md(d, 0, NULL), DQ_NULL);
     IS(dq_formatted_text(d, 0, NULL), DQ_NULL);
     IS(dq_name(d, 0, NULL), DQ_NULL);
@@ -503,6 +507,38 @@ static void pieces(dq_reader *r, dq_document *d) {
     if (IS(dq_reader_begin(r, NULL, 0, 512), 0) && IS(dq_reader_feed(r, T("<p>a")), 0)) dq_reader_free(r);
 }
 
+#define HOW "is picked by hand, leaf by leaf, in the cool of the morning, before the sun is over the hills, and then dried in the shade of the trees."
+
+/* The article of a page, in a handle of its own or in the page's. */
+static void articles(dq_document *d) {
+    static const char page[] = "<html lang=de><title>Tea</title><meta name=author content=Asha><nav>Home</nav>"
+        "<script type=application/ld+json>{\"@type\":\"NewsArticle\",\"headline\":\"Green tea\",\"image\":\"/a.png\"}</script>"
+        "<main><p>Tea, <b>green</b> or black, " HOW "</main>";
+    dq_document article = DQ_DOCUMENT_INIT;
+    if (!IS(dq_parse_page(d, T(page), 512), 0)) return;
+    if (IS(dq_article(d, &article, &several), 1)) {
+        LISTS((int64_t)several.count, "Green tea|Asha|-|de|-|-|/a.png");
+        IS(dq_kind(&article, 0), DQ_DOCUMENT);
+        SAYS(dq_html(&article, 0, &text), "<main><p>Tea, <b>green</b> or black, " HOW "</p></main>");
+        SAYS(dq_markdown(&article, 0, &text), "Tea, **green** or black, " HOW);
+        SAYS(dq_name(d, 1, &text), "html");
+    }
+    /* after a fault both handles hold what they held */
+    if (IS(dq_parse_page(d, T("<p hidden>Tea"), 512), 0) && article.full) {
+        IS(dq_article(d, &article, &several), DQ_NOTHING);
+        IS((int64_t)several.count, 0);
+        SAYS(dq_formatted_text(&article, 0, &text), "Tea, green or black, " HOW);
+        SAYS(dq_name(d, 1, &text), "html");
+    }
+    /* the article in the place of its page, and one that isn't sure */
+    if (IS(dq_parse_page(d, T("<p>Tea"), 512), 0) && IS(dq_article(d, d, &several), 0)) {
+        LISTS((int64_t)several.count, "-|-|-|-|-|-|-");
+        SAYS(dq_html(d, 0, &text), "<p>Tea</p>");
+    }
+    dq_document_free(&article);
+    IS(dq_article(&article, d, &several), DQ_CLOSED);
+}
+
 /* Contents of templates, answers that are larger than the room, and answers that are used again. */
 static void contents(dq_document *d) {
     static char large[5000];
@@ -553,6 +589,7 @@ int main(int count, char **words) {
     nulls(&d, &p, &r);
     pieces(&r, &d);
     contents(&d);
+    articles(&d);
     dq_document_free(&d);
     if (dq_policy_common(&p) == 0 && dq_policy_finish(&p, NULL) == 0) IS(dq_clean_document(&p, &d, &text), DQ_CLOSED);
     dq_policy_free(&p);

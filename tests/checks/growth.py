@@ -8,7 +8,8 @@ A pattern of n, 2n and 4n repetitions has an exponent: 1 where the cost is in pr
     growth.py HQ            prints the exponents of all patterns, and then those over STEEP
     growth.py HQ WORD..     the same of the patterns whose names have one of these words
 
-Each page is also cleaned, and asked for its article, by a pattern of its own with ", cleaned" or ", its article" behind its name.
+Each page is also cleaned, and asked for its article, by a pattern of its own with ", cleaned" or ", its article" behind its name, and
+cleaned as a fragment by the call `clean` of the library, in the program `test_calls`, by one with ", by the call clean".
 
 GROWTH_N=n sets n, and GROWTH_BY=seconds measures by processor time in any case.
 
@@ -17,6 +18,7 @@ size must be less than MOST times that at the small size, in one of TRIES measur
 import functools
 import math
 import os
+import pathlib
 import re
 import resource
 import subprocess
@@ -35,6 +37,9 @@ KNOWN = {"formatting: a over many span and div, closed", "formatting: three of e
 TEXT, HTML, MD, JSON, COUNT = ["--text"], ["--html"], ["--md"], ["--json"], ["--count"]
 CLEAN = ["--sanitize", "--html"]
 ARTICLE = ["--article", "--any"]
+# The words of `test_calls`, which calls `clean`.
+CALL = ["clean", "common"]
+CALLS = pathlib.Path(__file__).resolve().parents[1] / "programs" / "out" / "test_calls"
 PARAGRAPH = "<p>Tea, as it is grown here, is picked by hand, leaf by leaf, in the cool of the morning."
 ALL, NONE = ["*"], ["nothing"]
 
@@ -270,6 +275,7 @@ PATTERNS |= {
 }
 PATTERNS |= {f"{name}, cleaned": (made, CLEAN + ["body"]) for name, made in PAGES.items()}
 PATTERNS |= {f"{name}, its article": (made, ARTICLE) for name, made in PAGES.items()}
+PATTERNS |= {f"{name}, by the call clean": (made, CALL) for name, made in PAGES.items()}
 # How often the part is repeated in the check, at first.
 SMALL = 4000
 # How often a pattern is measured before it counts as one that grows too fast.
@@ -308,7 +314,9 @@ def seconds(program, words, given):
 
 
 def cost(measure, program, words, markup):
-    """What a page costs."""
+    """What a page costs, to the program that the words are for."""
+    if words[:1] == CALL[:1]:
+        program = CALLS
     with tempfile.TemporaryFile() as given:
         given.write(markup)
         given.seek(0)

@@ -3,6 +3,7 @@
 //! the caller's room as far as they fit.
 #![tactic(auto)]
 
+mod articles;
 mod bytes;
 mod decoding;
 mod editing;
@@ -19,6 +20,7 @@ mod reading;
 mod rules;
 mod state;
 
+pub use articles::TakenArticle;
 pub use decoding::Decoded;
 pub use fault::{Fault, Refusal, fault_text};
 pub use pages::Reader;

@@ -1,8 +1,9 @@
 //! Several texts in one answer.
 
-ghost use Rattle.std.specs.Prelude.{◌≡◌, ◌++◌, ◌∷◌, [], OnOk, Some, string_bytes};
+ghost use Rattle.std.specs.Prelude.{◌≡◌, ◌++◌, ◌∷◌, [], IfErr, OnOk, Some, string_bytes};
 ghost use Rattle.std.specs.Option.{option_copied};
 ghost use Rattle.c_state.specs.Pieces.{piece_length, piece_text};
+ghost use Rattle.c_state.specs.declared.fault.Fault.TheVariants.{Memory};
 
 use crate::fault::Fault;
 use std::alloc::Global;
@@ -34,6 +35,7 @@ impl Pieces {
             ≡ string_bytes self.old.text ++ piece.now) }
         ensures lengths { OnOk result (self.new.lengths.items
             ≡ self.old.lengths.items ++ piece_length (Some piece.now) ∷ []) }
+        ensures err { IfErr result (λ fault. fault ≡ Memory) }
     {
         if piece.len() >= NO_PIECE as usize {
             return Err(Fault::Memory);
@@ -49,6 +51,7 @@ impl Pieces {
             ≡ string_bytes self.old.text ++ piece_text (option_copied piece.entry)) }
         ensures lengths { OnOk result (self.new.lengths.items
             ≡ self.old.lengths.items ++ piece_length (option_copied piece.entry) ∷ []) }
+        ensures err { IfErr result (λ fault. fault ≡ Memory) }
     {
         match piece {
             Some(piece) => self.push(piece),

@@ -24,10 +24,10 @@ both_so : (a b : Bool) → (a && b) ≡ true → (a ≡ true) × (b ≡ true)
 both_so true b e = (refl, e)
 both_so false b e = absurd (true≢false (sym e))
 
-in_either : (xs ys : List ℕ) (m : ℕ) → is_member m (xs ++ ys) ≡ true → (is_member m xs ≡ true) ⊎ (is_member m ys ≡ true)
+pub in_either : (xs ys : List ℕ) (m : ℕ) → is_member m (xs ++ ys) ≡ true → (is_member m xs ≡ true) ⊎ (is_member m ys ≡ true)
 in_either xs ys m s = elim (cases_Bool (is_member m xs)) [ inl t ↦ inl t | inr f ↦ inr (let both = sym (is_member-append xs ys m) ∙ s in rw f at both) ]
 
-first_or_later : (n m : ℕ) (ns : List ℕ) → is_member m (n ∷ ns) ≡ true → (n ≡ m) ⊎ (is_member m ns ≡ true)
+pub first_or_later : (n m : ℕ) (ns : List ℕ) → is_member m (n ∷ ns) ≡ true → (n ≡ m) ⊎ (is_member m ns ≡ true)
 first_or_later n m ns s = elim (cases_Bool (n == m)) [ inl t ↦ inl (eqb-true n m t) | inr f ↦ inr (rw f at s) ]
 
 only : (n m : ℕ) → is_member m (n ∷ []) ≡ true → n ≡ m

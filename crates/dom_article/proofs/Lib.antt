@@ -1,5 +1,7 @@
 pub mod BestLemmas
+pub mod ChosenLemmas
 pub mod HiddenLemmas
+pub mod LengthLemmas
 pub mod MarkLemmas
 pub mod OrderLemmas
 pub mod ShownLemmas

@@ -1,6 +1,7 @@
 -- Nodes that are never shown.
-use Rattle.std.specs.Prelude.{ℕ, ◌≡◌, ◌==◌, ◌||◌, ◌&&◌, not, Bool, true, false, List, [], ◌∷◌, Some, codes, is_some, slice_get, if◌then◌else◌}
+use Rattle.std.specs.Prelude.{ℕ, ◌≡◌, ◌==◌, ◌||◌, ◌&&◌, not, Bool, true, false, List, [], ◌∷◌, Some, codes, is_some, length, slice_get, if◌then◌else◌}
 use Rattle.std.specs.Char.{is_ascii_whitespace, to_ascii_lowercase}
+use Rattle.std.specs.List.{filter}
 use Rattle.std.specs.Option.{option_map_or}
 use Rattle.std.specs.Str.{bytes_eq}
 use Rattle.dom_nodes.specs.declared.name.Attr.{Attr}
@@ -12,17 +13,21 @@ use Rattle.dom_nodes.specs.declared.node_data.NodeData.TheVariants.{Document, Fr
 use Rattle.dom_links.specs.Forest.{Forest, parent}
 
 -- The names of elements that are never part of an article: scripts, styles, what isn't shown,
--- navigation, controls of forms, and what is embedded.
+-- navigation, controls of forms, and what is embedded. They are in the order of their lengths.
 unfoldable pub never_names : List (List ℕ)
 never_names =
-    codes "script" ∷ codes "style" ∷ codes "noscript" ∷ codes "template" ∷ codes "head" ∷
-    codes "title" ∷ codes "link" ∷ codes "meta" ∷ codes "base" ∷ codes "iframe" ∷ codes "frame" ∷
-    codes "frameset" ∷ codes "object" ∷ codes "embed" ∷ codes "applet" ∷ codes "canvas" ∷
-    codes "svg" ∷ codes "audio" ∷ codes "video" ∷ codes "source" ∷ codes "track" ∷ codes "button" ∷
-    codes "input" ∷ codes "select" ∷ codes "textarea" ∷ codes "option" ∷ codes "optgroup" ∷
-    codes "datalist" ∷ codes "dialog" ∷ codes "nav" ∷ codes "menu" ∷ codes "progress" ∷
-    codes "meter" ∷ codes "param" ∷ codes "area" ∷ codes "map" ∷ codes "noembed" ∷
-    codes "noframes" ∷ codes "basefont" ∷ codes "bgsound" ∷ codes "keygen" ∷ []
+    codes "svg" ∷ codes "nav" ∷ codes "map" ∷ codes "head" ∷ codes "link" ∷ codes "meta" ∷
+    codes "base" ∷ codes "menu" ∷ codes "area" ∷ codes "style" ∷ codes "title" ∷ codes "frame" ∷
+    codes "embed" ∷ codes "audio" ∷ codes "video" ∷ codes "track" ∷ codes "input" ∷ codes "meter" ∷
+    codes "param" ∷ codes "script" ∷ codes "iframe" ∷ codes "object" ∷ codes "applet" ∷
+    codes "canvas" ∷ codes "source" ∷ codes "button" ∷ codes "select" ∷ codes "option" ∷
+    codes "dialog" ∷ codes "keygen" ∷ codes "noembed" ∷ codes "bgsound" ∷ codes "noscript" ∷
+    codes "template" ∷ codes "frameset" ∷ codes "textarea" ∷ codes "optgroup" ∷ codes "datalist" ∷
+    codes "progress" ∷ codes "noframes" ∷ codes "basefont" ∷ []
+
+-- The words of that length.
+abbrev pub of_length : ℕ → List (List ℕ) → List (List ℕ)
+of_length n words = filter (λ word. length word == n) words
 
 -- The elements `html` and `body`, whose attributes don't count, since pages hide them only until a
 -- script has run.

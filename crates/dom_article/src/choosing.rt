@@ -1,7 +1,9 @@
 //! The choice of a round: the best block, the root of the article, and what joins it.
 
-ghost use Rattle.std.specs.Prelude.{◌≡◌};
+ghost use Rattle.std.specs.Prelude.{◌≡◌, IfOk};
 ghost use Rattle.dom_article.specs.Best.{IsBestOf, beats, is_candidate, may_be_best, score_at};
+ghost use Rattle.dom_article.specs.Chosen.{IsLargeMain, Starts, best_in, has_two_thirds};
+ghost use Rattle.dom_article.specs.Chosen.{is_frame_at, is_main_at, promoted, size_at};
 
 use crate::kinds::Tag;
 use crate::page::{Facts, Page};
@@ -17,45 +19,81 @@ pub(crate) struct Choice {
     /// The node that holds the article.
     pub(crate) root: NodeId,
     best: NodeId,
-    /// By node id: what joins on the way from the best block to the root, and that way itself.
-    joined: Vec<bool>,
-    path: Vec<bool>,
+    ways: Ways,
 }
 
 /// Chooses the article of a round. The result is `None` if there is no block at all. Fails only
 /// when memory runs out.
-pub(crate) fn choose(page: &Page<'_>, round: &Round) -> Result<Option<Choice>, OutOfMemory> {
-    if !round.rules.cleans
-        && let Some(main) = largest_main(page, round)
-        && round.at(main).size >= ENOUGH
-    {
+pub(crate) fn choose(page: &Page<'_>, round: &Round) -> Result<Option<Choice>, OutOfMemory>
+    ensures { IfOk result (λ found. Starts page.now round.now (best_in found)) }
+{
+    let main = large_main(page, round);
+    if let Some(main) = main {
         return Ok(Some(Choice::new(page, main)?));
     }
     let Some(first) = first_greatest(page, round) else {
         return Ok(None);
     };
-    let mut choice = Choice::new(page, promoted(page, round, first))?;
-    choice.climb(page, round);
-    choice.join_headings(page, round);
+    let best = promoted(page, round, first);
+    let mut choice = Choice::new(page, best)?;
+    choice.root = choice.ways.climb(page, round, best);
+    choice.ways.join_headings(page, round, best, choice.root);
     Ok(Some(choice))
 }
 
+/// Returns the first of the largest elements that say that they are the article, if it is large and
+/// the round leaves no bad blocks out.
+fn large_main(page: &Page<'_>, round: &Round) -> Option<NodeId>
+    ensures { IsLargeMain page.now round.now result }
+{
+    if round.rules.cleans {
+        return None;
+    }
+    let Some(main) = largest_main(page, round) else {
+        return None;
+    };
+    if round.at(main).size < ENOUGH {
+        return None;
+    }
+    Some(main)
+}
+
 /// Returns the first of the largest elements that say that they are the article.
-fn largest_main(page: &Page<'_>, round: &Round) -> Option<NodeId> {
+fn largest_main(page: &Page<'_>, round: &Round) -> Option<NodeId>
+    ensures { IsBestOf (is_main_at page.now round.now) (size_at round.now)
+        page.now.order.items result }
+{
     let mut largest: Option<NodeId> = None;
     for id in &page.order {
-        if round.is_gone(*id) || !page.at(*id).is_main {
-            continue;
-        }
-        let is_larger = match largest {
-            Some(other) => round.at(*id).size > round.at(other).size,
-            None => true,
-        };
-        if is_larger {
+        if is_larger(page, round, &largest, *id) {
             largest = Some(*id);
         }
     }
     largest
+}
+
+/// Returns whether an element says that it is the article, and is larger than the largest so far.
+fn is_larger(page: &Page<'_>, round: &Round, largest: &Option<NodeId>, id: NodeId) -> bool
+    ensures { result ≡ beats (is_main_at page.now round.now) (size_at round.now)
+        largest.now id }
+{
+    if !is_main(page, round, id) {
+        return false;
+    }
+    match largest {
+        Some(other) => round.at(*other).size < round.at(id).size,
+        None => true,
+    }
+}
+
+/// Returns whether an element isn't gone and says that it is the article.
+fn is_main(page: &Page<'_>, round: &Round, id: NodeId) -> bool
+    ensures { result ≡ is_main_at page.now round.now id }
+{
+    if round.is_gone(id) {
+        return false;
+    }
+    page.at(id).is_main
 }
 
 /// Returns whether a node may be the best block.
@@ -113,36 +151,86 @@ fn beats(page: &Page<'_>, round: &Round, greatest: &Option<NodeId>, id: NodeId) 
 
 /// Returns the outermost one of a block and its ancestors below `body` that has two thirds of its
 /// score.
-fn promoted(page: &Page<'_>, round: &Round, first: NodeId) -> NodeId {
-    let top = round.at(first).score.saturating_mul(2);
+fn promoted(page: &Page<'_>, round: &Round, first: NodeId) -> NodeId
+    ensures { result ≡ promoted page.now round.now first }
+{
+    let top = round.at(first).score;
     let mut best = first;
     for above in page.tree.ancestor_ids_of_it(&first, None) {
         if is_frame(page, above) {
             return best;
         }
-        if round.at(above).score.saturating_mul(3) >= top {
+        if has_two_thirds(top, round.at(above).score) {
             best = above;
         }
     }
     best
 }
 
+/// Returns whether a score is at least two thirds of another.
+fn has_two_thirds(top: i64, score: i64) -> bool
+    ensures { result ≡ has_two_thirds top score }
+{
+    top.saturating_mul(2) <= score.saturating_mul(3)
+}
+
 /// Returns whether the node is the document, `html` or `body`.
-fn is_frame(page: &Page<'_>, id: NodeId) -> bool {
-    matches!(page.tag(id), Tag::Document | Tag::Html | Tag::Body)
+fn is_frame(page: &Page<'_>, id: NodeId) -> bool
+    ensures { result ≡ is_frame_at page.now id }
+{
+    match page.at(id).kind.tag {
+        Tag::Document | Tag::Html | Tag::Body => true,
+        _ => false,
+    }
 }
 
 impl Choice {
-    fn new(page: &Page<'_>, best: NodeId) -> Result<Choice, OutOfMemory> {
-        let alloc = page.tree.allocator();
-        let mut choice = Choice {
+    fn new(page: &Page<'_>, best: NodeId) -> Result<Choice, OutOfMemory>
+        ensures { IfOk result (λ choice. choice.best ≡ best) }
+    {
+        Ok(Choice {
             root: best,
             best,
+            ways: Ways::new(page, best)?,
+        })
+    }
+
+    /// Returns whether a node belongs to the article if its parent does.
+    pub(crate) fn keeps(&self, page: &Page<'_>, round: &Round, id: NodeId) -> bool {
+        if round.is_gone(id) {
+            return false;
+        }
+        if id == self.root || self.ways.is_on_path(id) {
+            return true;
+        }
+        let sums = round.at(id);
+        let beside_path = match page.parent(id) {
+            Some(parent) => parent != self.best && self.ways.is_on_path(parent),
+            None => false,
+        };
+        if beside_path {
+            return self.ways.has_joined(id) || sums.is_inline && sums.size == 0;
+        }
+        sums.is_inline || !sums.is_bad
+    }
+}
+
+/// By node id: what joins on the way from the best block to the root, and that way itself.
+#[derive(Drop)]
+struct Ways {
+    joined: Vec<bool>,
+    path: Vec<bool>,
+}
+
+impl Ways {
+    fn new(page: &Page<'_>, best: NodeId) -> Result<Ways, OutOfMemory> {
+        let alloc = page.tree.allocator();
+        let mut ways = Ways {
             joined: vec![in alloc; false; page.tree.len()]?,
             path: vec![in alloc; false; page.tree.len()]?,
         };
-        choice.put_on_path(best);
-        Ok(choice)
+        ways.put_on_path(best);
+        Ok(ways)
     }
 
     fn has_joined(&self, id: NodeId) -> bool {
@@ -166,9 +254,8 @@ impl Choice {
     }
 
     /// Climbs from the best block to `body` or to a node that says that it is the article. What
-    /// joins on the way is marked; the root is the last node at which a text joins.
-    fn climb(&mut self, page: &Page<'_>, round: &Round) {
-        let best = self.best;
+    /// joins on the way is marked; the result, the root, is the last node at which a text joins.
+    fn climb(&mut self, page: &Page<'_>, round: &Round, best: NodeId) -> NodeId {
         let top = round.at(best).score;
         let mut on = best;
         let mut root = best;
@@ -186,7 +273,7 @@ impl Choice {
             }
             on = above;
         }
-        self.root = root;
+        root
     }
 
     /// Marks the children of a node that join, and returns whether one of them is inline or has a
@@ -212,11 +299,10 @@ impl Choice {
 
     /// Puts the way from the best block to the root on the path, and lets headings join whose
     /// followers are kept.
-    fn join_headings(&mut self, page: &Page<'_>, round: &Round) {
-        let best = self.best;
+    fn join_headings(&mut self, page: &Page<'_>, round: &Round, best: NodeId, root: NodeId) {
         let mut on = best;
         for above in page.tree.ancestor_ids_of_it(&best, None) {
-            if on == self.root {
+            if on == root {
                 return;
             }
             self.join_headings_of(page, round, above, on);
@@ -243,25 +329,6 @@ impl Choice {
                 follows = false;
             }
         }
-    }
-
-    /// Returns whether a node belongs to the article if its parent does.
-    pub(crate) fn keeps(&self, page: &Page<'_>, round: &Round, id: NodeId) -> bool {
-        if round.is_gone(id) {
-            return false;
-        }
-        if id == self.root || self.is_on_path(id) {
-            return true;
-        }
-        let sums = round.at(id);
-        let beside_path = match page.parent(id) {
-            Some(parent) => parent != self.best && self.is_on_path(parent),
-            None => false,
-        };
-        if beside_path {
-            return self.has_joined(id) || sums.is_inline && sums.size == 0;
-        }
-        sums.is_inline || !sums.is_bad
     }
 }
 

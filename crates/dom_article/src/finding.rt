@@ -239,9 +239,9 @@ impl Article {
         is_marked(&self.kept, *id)
     }
 
-    /// Returns a document with a copy of the kept nodes, whose only child is the copy of the root.
-    /// If the root is the document of the page, it is the copy of that. `tree` is the tree of the
-    /// page. Fails when memory or node ids run out.
+    /// Returns a document with a copy of the kept nodes. Documents, `html` and `body` have no copy:
+    /// what is copied of their children stands in their place. So the HTML of the document is that
+    /// of the article. `tree` is the tree of the page. Fails when memory or node ids run out.
     pub fn copy(&self, tree: &Tree) -> Result<Tree, EditFault> {
         copy_kept(tree, self.root, &self.kept)
     }

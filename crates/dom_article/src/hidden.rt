@@ -1,10 +1,10 @@
 //! Nodes that are never shown.
 
-ghost use Rattle.std.specs.Prelude.{◌≡◌, codes};
+ghost use Rattle.std.specs.Prelude.{◌≡◌, codes, map};
 ghost use Rattle.dom_nodes.specs.Words.{is_among};
 ghost use Rattle.dom_article.specs.Hidden.{begins_blank, begins_with, frame_names, has_value};
 ghost use Rattle.dom_article.specs.Hidden.{hides, is_fallback, is_hidden, is_hidden_element};
-ghost use Rattle.dom_article.specs.Hidden.{is_mentioned_first, mentions, never_names, says_hidden};
+ghost use Rattle.dom_article.specs.Hidden.{is_mentioned_first, mentions, never_names, of_length, says_hidden};
 ghost use Rattle.dom_article.specs.Hidden.{squeezed};
 
 use crate::tables::{FRAMES, NEVER};
@@ -42,10 +42,37 @@ fn is_hidden_element(element: &Element) -> bool
 fn is_never(name: &str) -> bool
     ensures { result ≡ is_among name.now never_names }
 {
-    is_one_of(name, &NEVER)
+    is_one_of(name, never_of_length(name.len()))
 }
 
-fn is_frame(name: &str) -> bool
+/// Returns the names of elements that are never part of an article, and that have this length. (The
+/// list is in the order of lengths.)
+fn never_of_length(length: usize) -> &'static [&'static str]
+    ensures { map (λ name. name.now) result.now ≡ of_length length never_names }
+{
+    if length < 3 || length > 8 {
+        return &[];
+    }
+    if length == 3 {
+        return &NEVER[..3];
+    }
+    if length == 4 {
+        return &NEVER[3..9];
+    }
+    if length == 5 {
+        return &NEVER[9..19];
+    }
+    if length == 6 {
+        return &NEVER[19..30];
+    }
+    if length == 7 {
+        return &NEVER[30..32];
+    }
+    &NEVER[32..]
+}
+
+/// Returns whether the name is `html` or `body`.
+pub(crate) fn is_frame(name: &str) -> bool
     ensures { result ≡ is_among name.now frame_names }
 {
     is_one_of(name, &FRAMES)

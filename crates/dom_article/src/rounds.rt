@@ -1,6 +1,7 @@
 //! A round: which nodes are gone, and what is added up of the others.
 
 ghost use Rattle.std.specs.Prelude.{◌≡◌};
+ghost use Rattle.dom_article.specs.Badness.{is_gone_by};
 ghost use Rattle.dom_article.specs.Best.{is_gone, sums_at};
 
 use crate::kinds::Tag;
@@ -295,11 +296,16 @@ struct Block {
 }
 
 /// Returns whether a node is gone by itself.
-fn is_gone_by(facts: &Facts, rules: Rules) -> bool {
+fn is_gone_by(facts: &Facts, rules: Rules) -> bool
+    ensures { result ≡ is_gone_by rules facts.now }
+{
     if facts.is_hidden {
         return true;
     }
-    rules.hints && (facts.has_role || facts.is_unlikely && !facts.holds)
+    if !rules.hints {
+        return false;
+    }
+    facts.has_role || (facts.is_unlikely && !facts.holds)
 }
 
 /// Returns what is added up of a text.

@@ -78,11 +78,11 @@ pub(crate) static ROWS: [&str; 2] = ["tr", "ul"];
 /// The elements that are never part of an article: scripts, styles, navigation, controls of forms,
 /// and what is embedded.
 pub(crate) static NEVER: [&str; 41] = [
-    "script", "style", "noscript", "template", "head", "title", "link", "meta", "base", "iframe",
-    "frame", "frameset", "object", "embed", "applet", "canvas", "svg", "audio", "video", "source",
-    "track", "button", "input", "select", "textarea", "option", "optgroup", "datalist", "dialog",
-    "nav", "menu", "progress", "meter", "param", "area", "map", "noembed", "noframes", "basefont",
-    "bgsound", "keygen",
+    "svg", "nav", "map", "head", "link", "meta", "base", "menu", "area", "style", "title", "frame",
+    "embed", "audio", "video", "track", "input", "meter", "param", "script", "iframe", "object",
+    "applet", "canvas", "source", "button", "select", "option", "dialog", "keygen", "noembed",
+    "bgsound", "noscript", "template", "frameset", "textarea", "optgroup", "datalist", "progress",
+    "noframes", "basefont",
 ];
 
 /// The elements whose attribute `hidden` doesn't count: pages hide them only until a script has

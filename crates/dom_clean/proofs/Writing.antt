@@ -37,7 +37,7 @@ use Rattle.dom_clean.specs.declared.fates.Place.{Place}
 use Rattle.dom_clean.specs.declared.writer.Entry.{Entry}
 use Rattle.dom_clean.specs.declared.writer.Entry.TheVariants.{Row, End}
 
-length-numbers : (ms ns : List ℕ) → length (ms ++ ns) ≡ length ms + length ns
+pub length-numbers : (ms ns : List ℕ) → length (ms ++ ns) ≡ length ms + length ns
 length-numbers [] ns = omega arith
 length-numbers (m ∷ ms) ns = omega (arith, length-numbers ms ns)
 
@@ -149,15 +149,15 @@ module _ (policy : Policy) (forest : Forest) (are : AreTrees forest) (lines : Ar
   text-with_row None place entries = ap (λ ts. text_of (cleaned policy forest place ts) ++ ahead_text policy forest entries) (sym are.no_trees)
   text-with_row (Some n) place entries = refl
 
-  weight-with_row : (first : Option ℕ) (place : Place) (entries : List Entry) → weight forest (with_row first place entries) ≡ row_weight forest first + weight forest entries
+  pub weight-with_row : (first : Option ℕ) (place : Place) (entries : List Entry) → weight forest (with_row first place entries) ≡ row_weight forest first + weight forest entries
   weight-with_row None place entries = omega (arith, ap (λ ts. length (walk ts)) are.no_trees)
   weight-with_row (Some n) place entries = refl
 
-  known-with_row : (first : Option ℕ) (place : Place) (entries : List Entry) → IsWithin forest first → AreKnown forest entries → AreKnown forest (with_row first place entries)
+  pub known-with_row : (first : Option ℕ) (place : Place) (entries : List Entry) → IsWithin forest first → AreKnown forest entries → AreKnown forest (with_row first place entries)
   known-with_row None place entries known within = within
   known-with_row (Some n) place entries known within = (known, within)
 
-  row_is : (n : ℕ) → n < length forest.content → trees forest (row_on forest false (Some n)) ≡ Tree n (trees forest (contents_list forest n)) (trees forest (row_on forest false (first_of n))) (trees forest (row_on forest false (next_of n)))
+  pub row_is : (n : ℕ) → n < length forest.content → trees forest (row_on forest false (Some n)) ≡ Tree n (trees forest (contents_list forest n)) (trees forest (row_on forest false (first_of n))) (trees forest (row_on forest false (next_of n)))
   row_is n known = lines.row_trees n known ∙ ap (λ ns. Tree n (trees forest (contents_list forest n)) (trees forest ns) (trees forest (later forest false n))) (lines.below false n)
       ∙ ap (λ ns. Tree n (trees forest (contents_list forest n)) (trees forest (row_on forest false (first_of n))) (trees forest ns)) (lines.beside false n)
 
@@ -200,7 +200,7 @@ module _ (policy : Policy) (forest : Forest) (are : AreTrees forest) (lines : Ar
   node-text Stays in_front (Comment c) n below place entries read = refl
   node-text Stays in_front (ProcessingInstruction a b) n below place entries read = refl
 
-  weight-with_below : (fate : Fate) (content : NodeData) (n : ℕ) (below : Option ℕ) (place : Place) (entries : List Entry) → weight forest (with_below fate content n below place entries) ≤ 1 + row_weight forest below + weight forest entries
+  pub weight-with_below : (fate : Fate) (content : NodeData) (n : ℕ) (below : Option ℕ) (place : Place) (entries : List Entry) → weight forest (with_below fate content n below place entries) ≤ 1 + row_weight forest below + weight forest entries
   weight-with_below Stays (AnElement e) n below place entries =
       cond_both (is_among e.name.local void_names) entries _ (λ es. weight forest es ≤ 1 + row_weight forest below + weight forest entries) (λ _. omega arith)
       (λ _. omega (arith, weight-with_row below (place_below Stays place (AnElement e)) (End n ∷ entries)))
@@ -213,7 +213,7 @@ module _ (policy : Policy) (forest : Forest) (are : AreTrees forest) (lines : Ar
   weight-with_below Stays (Comment c) n below place entries = omega arith
   weight-with_below Stays (ProcessingInstruction a b) n below place entries = omega arith
 
-  known-with_below : (fate : Fate) (content : NodeData) (n : ℕ) (below : Option ℕ) (place : Place) (entries : List Entry) → IsWithin forest below → AreKnown forest entries → AreKnown forest (with_below fate content n below place entries)
+  pub known-with_below : (fate : Fate) (content : NodeData) (n : ℕ) (below : Option ℕ) (place : Place) (entries : List Entry) → IsWithin forest below → AreKnown forest entries → AreKnown forest (with_below fate content n below place entries)
   known-with_below Stays (AnElement e) n below place entries known within =
       cond_both (is_among e.name.local void_names) entries _ (AreKnown forest) (λ _. within) (λ _. known-with_row below _ (End n ∷ entries) known within)
   known-with_below Unwrapped content n below place entries known within = known-with_row below place entries known within

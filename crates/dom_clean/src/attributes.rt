@@ -60,7 +60,7 @@ pub(crate) fn is_void_name(name: &str) -> bool
 
 /// Returns whether the value of an attribute of that name is an address.
 #[tactic(auto, unfolding(crate::specs::Policy::address_names))]
-fn is_address_name(name: &str) -> bool
+pub(crate) fn is_address_name(name: &str) -> bool
     ensures { result ≡ is_among name.now address_names }
 {
     is_one_of(name, &ADDRESS_NAMES)
@@ -74,7 +74,7 @@ fn is_link_name(name: &str) -> bool
     is_one_of(name, &["a", "area"])
 }
 
-fn is_nowhere(attr: &Attr) -> bool
+pub(crate) fn is_nowhere(attr: &Attr) -> bool
     ensures { result ≡ is_nowhere attr.now.name.ns }
 {
     matches!(attr.name.ns(), NamespaceRef::None)
@@ -133,7 +133,7 @@ fn push_rel(lists: &Lists, element: &str, text: &mut String) -> Result<(), OutOf
 
 /// Writes what is left of an attribute; `place` is the attributes before it, and it. An attribute
 /// that stays is compared with all those before it.
-fn push_attr(
+pub(crate) fn push_attr(
     alloc: Global,
     lists: &Lists,
     element: &str,

@@ -28,6 +28,9 @@ use std::alloc::Global;
 /// doctype, `html`, `head` and `meta` come before it.
 const BODY: usize = 5;
 
+/// How many elements of a source that isn't calm are nested while it is read, as in browsers.
+const SOURCE_DEPTH: usize = 512;
+
 /// Returns the text of what the policy leaves of a fragment, which is read as the contents of a
 /// `div`. Fails only if memory is refused or the node ids run out.
 ///
@@ -35,6 +38,9 @@ const BODY: usize = 5;
 /// in the body of a page, and as a fragment in a `body`, `div`, `li`, `td` or `blockquote`.
 ///
 /// A text that was cleaned by the same policy is returned as it is (clause `again`).
+///
+/// A source that isn't calm is read with up to 512 nested elements, as in browsers: deeper ones
+/// become siblings, as `Options::max_depth` says. `clean_tree` cleans a tree of any depth.
 pub fn clean(alloc: Global, source: &str, policy: &Policy) -> Result<String, PageFault>
     ensures cleaned { IfOk result (λ text. IsCleanedText policy.now (string_bytes text)) }
     ensures calm { (body : ValueTrees) → IsCalmPage (page_around source.now) (page_of body)
@@ -62,6 +68,8 @@ pub fn clean(alloc: Global, source: &str, policy: &Policy) -> Result<String, Pag
 /// that were left in its body.
 ///
 /// A page that was cleaned by the same policy is returned as it is (clause `again`).
+///
+/// A source that isn't calm is read with up to 512 nested elements, as `clean` reads it.
 pub fn clean_page(alloc: Global, source: &str, policy: &Policy) -> Result<String, PageFault>
     ensures cleaned { IfOk result (λ page. IsCleanedPage policy.now (string_bytes page)) }
     ensures calm { (trees : ValueTrees) → IsCalmPage source.now trees → IfOk result (λ page.
@@ -73,12 +81,7 @@ pub fn clean_page(alloc: Global, source: &str, policy: &Policy) -> Result<String
 {
     // Every policy is sound.
     let _ = policy.lists();
-    let options = Options {
-        scripting: false,
-        max_depth: None,
-        errors: false,
-    };
-    let document = parse_page(alloc, source, options)?;
+    let document = read_page(alloc, source)?;
     let text = clean_node(&document.tree, body_of(&document.tree), policy)?;
     Ok(page_around(alloc, text.as_str())?)
 }
@@ -118,12 +121,33 @@ fn clean_node(tree: &Tree, id: NodeId, policy: &Policy) -> Result<String, PageFa
     Ok(text)
 }
 
-/// Returns the text of what the policy leaves of a fragment with parse errors or without.
+/// Returns how a source that isn't calm is read.
+fn reading_options() -> Options {
+    Options {
+        scripting: false,
+        max_depth: Some(SOURCE_DEPTH),
+        errors: false,
+    }
+}
+
+/// Returns the document of a page. A calm page is read as explicit markup, whatever its depth.
+fn read_page(alloc: Global, source: &str) -> Result<Document, PageFault>
+    ensures { (trees : ValueTrees) → IsCalmPage source.now trees
+        → IfOk result (λ document. document.tree ≡ document_of trees) }
+{
+    match read_calm(alloc, source)? {
+        Some(document) => Ok(document),
+        None => parse_page(alloc, source, reading_options()),
+    }
+}
+
+/// Returns the text of what the policy leaves of a fragment that isn't calm.
 fn clean_fragment(alloc: Global, source: &str, policy: &Policy) -> Result<String, PageFault>
     ensures cleaned { IfOk result (λ text. IsCleanedText policy.now (string_bytes text)) }
     ensures left { IfOk result (λ text. IsLeftBy policy.now (string_bytes text)) }
 {
-    let document = parse_page_fragment(alloc, source, Context::Html("div"), Options::default())?;
+    let options = reading_options();
+    let document = parse_page_fragment(alloc, source, Context::Html("div"), options)?;
     let tree = &document.tree;
     let top = first_child_id(tree.nodes(), &tree.root_id());
     clean_node(tree, top.unwrap_or(NodeId::root()), policy)

@@ -1,9 +1,10 @@
 //! Texts and values of attributes, as they are written.
 
-ghost use Rattle.std.specs.Prelude.{◌≡◌, ◌++◌, ◌∷◌, [], IfOk, MatchOption, OnOk, Some, false};
+ghost use Rattle.std.specs.Prelude.{◌≡◌, ◌++◌, ◌∷◌, [], IfOk, MatchOption, OnOk, Some, false, true};
 ghost use Rattle.std.specs.Prelude.{filter, map, string_bytes};
 ghost use Rattle.std.specs.Option.{option_map};
-ghost use Rattle.dom_clean.specs.Fates.{cleaned_classes, prefixed, spellable, spelled_char};
+ghost use Rattle.dom_clean.specs.Cuts.{SpellsAfter};
+ghost use Rattle.dom_clean.specs.Fates.{cleaned_classes, prefixed, spellable};
 ghost use Rattle.dom_clean.specs.Fates.{unless_empty, with_words};
 ghost use Rattle.calm_pages.specs.Calm.{begins_line};
 ghost use Rattle.dom_nodes.specs.Ascii.{line_feed};
@@ -17,6 +18,7 @@ ghost use Rattle.dom_markup.specs.Escaping.{escaped_text, text_char};
 
 use crate::lists::{Lists, is_among};
 use dom_nodes::fault::OutOfMemory;
+use memchr::{memchr, memchr2, memchr3};
 use std::alloc::{AllocError, Global};
 
 /// Returns the text without U+0000 and carriage returns, which no calm page has.
@@ -24,23 +26,49 @@ pub(crate) fn spellable(alloc: Global, text: &str) -> Result<String, OutOfMemory
     ensures { IfOk result (λ made. string_bytes made ≡ spellable text.now) }
 {
     let mut made = String::new(alloc);
-    for c in text.chars() {
-        push_spelled(&mut made, c)?;
+    let mut rest = text;
+    while let Some((front, later)) = cut_unspelled(rest) {
+        made.push_str(front)?;
+        rest = later;
     }
+    made.push_str(rest)?;
     Ok(made)
 }
 
-fn push_spelled(text: &mut String, c: char) -> Result<(), AllocError>
-    ensures { OnOk result (string_bytes text.new ≡ string_bytes text.old ++ spelled_char c) }
+/// Splits the text at its first U+0000 or carriage return, which neither part has.
+fn cut_unspelled(text: &str) -> Option<(&str, &str)>
+    ensures { MatchOption result (spellable text.now ≡ text.now)
+        (λ parts. SpellsAfter text.now parts.0.now parts.1.now) }
 {
-    if c == '\0' || c == '\r' {
-        return Ok(());
-    }
-    text.push(c)
+    let at = memchr2(b'\0', b'\r', text.as_bytes())?;
+    Some((&text[..at], &text[at + 1..]))
 }
 
-/// Appends a text, escaped like the text of a text node.
+/// Appends a text, escaped like the text of a text node. Most texts have no character to escape, and
+/// are copied at once.
 pub(crate) fn push_text(text: &mut String, contents: &str) -> Result<(), OutOfMemory>
+    ensures { OnOk result (string_bytes text.new
+        ≡ string_bytes text.old ++ escaped_text contents.now) }
+{
+    if !is_plain(contents) {
+        return push_chars(text, contents);
+    }
+    text.push_str(contents)?;
+    Ok(())
+}
+
+/// Returns whether the text has no `&`, `<` or `>`, nor the first byte of a no-break space.
+fn is_plain(text: &str) -> bool
+    ensures { result ≡ true → escaped_text text.now ≡ text.now }
+{
+    match memchr3(b'&', b'<', b'>', text.as_bytes()) {
+        Some(_) => false,
+        None => memchr(0xC2, text.as_bytes()).is_none(),
+    }
+}
+
+/// Appends a text, escaped, character by character.
+fn push_chars(text: &mut String, contents: &str) -> Result<(), OutOfMemory>
     ensures { OnOk result (string_bytes text.new
         ≡ string_bytes text.old ++ escaped_text contents.now) }
 {

@@ -241,7 +241,7 @@ fn write_node(
 }
 
 /// Pushes entries for what is below a node of that fate.
-fn push_below(
+pub(crate) fn push_below(
     ahead: &mut Ahead,
     fate: Fate,
     content: &NodeData,

@@ -1,6 +1,7 @@
 -- What a call on a handle promises, by what the handle held before, what it holds after, and the answer.
-use Rattle.std.specs.Prelude.{ℕ, ℤ, ◌≡◌, ◌<◌, ◌≤ℤ◌, ◌⊎◌, Err, List, Ok, Option, MatchOption, Result, length, negsuc, pos, take}
+use Rattle.std.specs.Prelude.{ℕ, ℤ, ◌≡◌, ◌<◌, ◌≤ℤ◌, ◌⊎◌, Err, List, None, Ok, Option, MatchOption, Result, length, negsuc, pos, take}
 use Rattle.c_state.specs.declared.fault.Fault.{Fault}
+use Rattle.c_state.specs.declared.state.State.{State}
 
 -- The answer for C: the count, unless it is more than the greatest answer, or a number below 0 for a fault
 abbrev pub IsAnswer : Result ℕ Fault → ℤ → Type 0
@@ -29,3 +30,7 @@ pub record Reads {S : Type 0} (old new : Option S) (answer : ℤ) (IsIt : S → 
 -- The handle of a document still has it, and this holds of it. A handle without a document says so: the answer is -2
 abbrev pub Lends : {S : Type 0} → Option S → Option S → ℤ → (S → Type 0) → Type 0
 Lends old new answer Holds = (new ≡ old) × MatchOption old (answer ≡ negsuc 1) Holds
+
+-- The handle still has its document; what was found in it may be other than before
+abbrev pub KeepsDocument : Option State → Option State → Type 0
+KeepsDocument old new = MatchOption old (new ≡ None) (λ s. MatchOption new ⊥ (λ t. t.document ≡ s.document))

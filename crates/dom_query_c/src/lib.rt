@@ -45,6 +45,7 @@ macro_rules! ask {
     };
 }
 
+mod articles;
 mod handle;
 mod parts;
 mod policies;

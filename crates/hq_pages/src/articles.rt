@@ -3,11 +3,10 @@
 
 use crate::faults::Fault;
 use crate::json::add;
-use crate::linked_data::linked_data_of;
 use crate::options::{Options, Printing, Show};
 use crate::showing::{crate_markdown_of, markdown_of};
-use dom_article::{Article, article_of_known};
 use dom_query::{Document, NodeId, NodeMarkup, NodeMd, NodeRef, clean_document};
+use page_articles::{Article, article_of_page, document_of_article};
 use serde_json::{Map, Value};
 use std::alloc::Global;
 
@@ -28,18 +27,13 @@ pub fn take_article(
     options: &Options<'_>,
     any: bool,
 ) -> Result<Option<TakenArticle>, Fault> {
-    let data = linked_data_of(document)?;
-    let Some(article) = article_of_known(&document.tree, &data.known())? else {
+    let Some(article) = article_of_page(document)? else {
         return Ok(None);
     };
     if !article.sure && !any {
         return Ok(None);
     }
-    let mut copy = Document {
-        tree: article.copy(&document.tree)?,
-        errors: Vec::new(document.tree.allocator()),
-        quirks_mode: document.quirks_mode,
-    };
+    let mut copy = document_of_article(document, &article)?;
     if let Some(policy) = &options.policy {
         copy = clean_document(&copy.tree, policy)?;
     }
@@ -51,15 +45,12 @@ pub fn take_article(
     }))
 }
 
-/// Returns the node whose children are the article: the `body` of a document that was sanitised, or
-/// the copy of `body` if that holds the article, and otherwise the root.
+/// Returns the node whose children are the article: the `body` of a document that was sanitised, and
+/// otherwise the root.
 fn top_of(document: &Document) -> NodeId {
-    if let Some(body) = document.body() {
-        return body.id;
-    }
-    match document.html_root() {
-        Some(node) if node.has_name("body") => node.id,
-        _ => document.root().id,
+    match document.body() {
+        Some(body) => body.id,
+        None => document.root().id,
     }
 }
 

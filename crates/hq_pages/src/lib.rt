@@ -12,7 +12,6 @@ pub mod csv_rows;
 pub mod faults;
 pub mod hints;
 pub mod json;
-pub mod linked_data;
 pub mod options;
 pub mod page_lines;
 pub mod pages;

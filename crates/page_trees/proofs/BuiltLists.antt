@@ -13,7 +13,7 @@ use Rattle.page_trees.specs.declared.formatting.Entry.{Entry}
 use Rattle.page_trees.proofs.PoppingLemmas.{all_before_last, before_last_push}
 use Rattle.page_trees.proofs.ScopeLemmas.{by_ends}
 
-built_listed : (s : TreeState) (t : GrowingTree) (entries : List Entry) (listed : List StandardEntry) → Builds s t → IsListOf t.nodes listed entries →
+pub built_listed : (s : TreeState) (t : GrowingTree) (entries : List Entry) (listed : List StandardEntry) → Builds s t → IsListOf t.nodes listed entries →
     Builds (record s { formatting = entries }) (record t { listed = listed })
 built_listed s t entries listed b is = record {
   nodes = b.nodes;

@@ -34,7 +34,7 @@ page_built = record {
   form = refl;
   form_named = tt;
   context = tt;
-  late = tt;
+  late = λ n. tt;
   lone = only_root;
 }
 
@@ -48,6 +48,6 @@ fragment_built = record {
   form = refl;
   form_named = tt;
   context = tt;
-  late = tt;
+  late = λ n. tt;
   lone = only_root;
 }

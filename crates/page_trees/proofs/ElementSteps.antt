@@ -109,7 +109,7 @@ own standard e =
     ap (λ k. own_name (elim k [ Starting ↦ AStart standard.name (distinct (reverse standard.attrs)) standard.self_closing | Ending ↦ AnEnd standard.name ])) e
 
 -- the current start tag makes this element
-current_element : (name : Name) (tag : Tag) (b : Building) → is_start_kind tag.kind ≡ true → IsCurrentTag name tag b →
+pub current_element : (name : Name) (tag : Tag) (b : Building) → is_start_kind tag.kind ≡ true → IsCurrentTag name tag b →
     IsTagOf ElementNamespace.Html name tag (own_name b.token) b.attrs
 current_element name tag b h c =
     let kind : c.standard.kind ≡ Starting = sym c.is.kind ∙ starts tag.kind h in

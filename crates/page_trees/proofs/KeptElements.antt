@@ -1,7 +1,7 @@
 -- The elements of the definition's store stay as they are where nodes are made and moved, and texts grow.
 use Rattle.std.proofs.Common.{◌≡◌, ℕ, suc, zero, ◌<◌, ◌≤◌, ◌+◌, ◌==◌, Bool, true, false, List, [], ◌∷◌, ◌++◌, map, refl, sym, ap, ◌∙◌, length, Option, Some, None, arith, inl, inr, subst, codes, true≢false, if◌then◌else◌}
-use Rattle.std.specs.Prelude.{All, get_or}
-use Rattle.std.proofs.lemmas.Bool.Decides.{eqb_tells}
+use Rattle.std.specs.Prelude.{All, IfSome, get_or}
+use Rattle.std.specs.Option.{option_map_or}
 use Rattle.std.proofs.lemmas.List.Elements.{All-weaker}
 use Rattle.dom_nodes.specs.declared.name.Attr.{Attr}
 use Rattle.dom_links.specs.Contents.{changed_at as changed}
@@ -11,8 +11,8 @@ use Rattle.standard_trees.specs.GrowingTree.{is_named as is_of_kind}
 use Rattle.standard_trees.specs.TreeStore.{CommentNode, ContentsNode, DoctypeNode, DocumentNode, ElementNode, EndOf, Kind, Node, NodeAttr, Place, Space, TextNode}
 use Rattle.standard_trees.specs.TreeStore.{changed_at, contents_in, is_document, leaf, node_at, node_before, put_at, removed, text_in}
 use Rattle.page_trees.specs.SameNodes.{AreNodes, text_after, with_kind, with_kind_at, with_text_at}
-use Rattle.page_trees.specs.Stands.{AllStand, Builds, EntryStands, IsFormNamed, IsHeadNamed, IsOfKind, StandsFor, TakeAttrs, late_names}
-use Rattle.page_trees.specs.TreeState.{Late, TreeState, added_to, completed}
+use Rattle.page_trees.specs.Stands.{AllStand, Builds, EntryStands, IsFormNamed, IsHeadNamed, IsOfKind, StandsFor, TakeAttrs, TakesAttrs, late_names}
+use Rattle.page_trees.specs.TreeState.{Late, TreeState, added_to, completed, late_at}
 use Rattle.page_trees.specs.declared.formatting.Entry.{Entry}
 use Rattle.page_trees.specs.declared.stack.Open.{Open}
 use Rattle.page_trees.proofs.StoreLemmas.{kind_at, kind_from, kinds, kinds_changed, kinds_more, kinds_put, kinds_removed, with_kind_of}
@@ -155,9 +155,11 @@ head_kept old new kept (Some n) named =
     (ap (is_of_kind (codes "head" ∷ [])) same ∙ named.0, ap contents_in same ∙ named.1)
 
 late_kept : (old new : List Node) → Keeps old new → (late : List Late) → TakeAttrs old late → TakeAttrs new late
-late_kept old new kept [] takes = tt
-late_kept old new kept (late ∷ others) takes =
-    (ap (is_of_kind late_names) (named_kept old new kept late_names refl late.id takes.0) ∙ takes.0, late_kept old new kept others takes.1)
+late_kept old new kept late takes n = by (late_at late n) (takes n)
+  where
+    by : (o : Option Late) → IfSome o (TakesAttrs (node_at old n).kind) → IfSome o (TakesAttrs (node_at new n).kind)
+    by None is = tt
+    by (Some one) is = subst (λ (kind : Kind). TakesAttrs kind one) (sym (named_kept old new kept late_names refl n is.named)) is
 
 -- ---- the state with other nodes
 
@@ -183,9 +185,19 @@ past_kind [] n h = refl
 past_kind (node ∷ nodes) zero h = absurd (omega (arith, h))
 past_kind (node ∷ nodes) (suc n) h = past_kind nodes n (omega (arith, h))
 
+-- what is added to an element is what the tags for it add
+pub added_is : (late : List Late) (n : ℕ) → added_to late n ≡ option_map_or (λ (one : Late). one.added) (late_at late n) []
+added_is [] n = refl
+added_is (late ∷ others) n = by (late.id == n) (added_is others n)
+  where
+    by : (b : Bool) → added_to others n ≡ option_map_or (λ (one : Late). one.added) (late_at others n) [] →
+        (let attrs : List Attr = if b then late.added else added_to others n in attrs) ≡ option_map_or (λ (one : Late). one.added) (if b then Some late else late_at others n) []
+    by true e = refl
+    by false e = e
+
 pub none_added : (nodes : List Node) (late : List Late) (n : ℕ) → TakeAttrs nodes late → length nodes ≤ n → added_to late n ≡ []
-none_added nodes [] n takes h = refl
-none_added nodes (late ∷ others) n takes h = elim (eqb_tells late.id n) [
-  | inl same ↦ absurd (true≢false (sym takes.0 ∙ ap (is_of_kind late_names) (past_kind nodes late.id (omega (arith, h, same.1)))))
-  | inr other ↦ ap (λ (b : Bool). (let attrs : List Attr = if b then late.added else added_to others n in attrs)) other.0 ∙ none_added nodes others n takes.1 h
-]
+none_added nodes late n takes h = added_is late n ∙ by (late_at late n) (takes n)
+  where
+    by : (o : Option Late) → IfSome o (TakesAttrs (node_at nodes n).kind) → option_map_or (λ (one : Late). one.added) o [] ≡ []
+    by None is = refl
+    by (Some one) is = absurd (true≢false (sym is.named ∙ ap (is_of_kind late_names) (past_kind nodes n h)))

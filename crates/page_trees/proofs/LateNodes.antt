@@ -46,7 +46,7 @@ late_element : (attrs : List Attr) (content : NodeData) → is_element (with_att
 late_element attrs (Element element) = refl
 late_element attrs content = refl
 
-no_attrs : (content : NodeData) → with_attrs [] content ≡ content
+pub no_attrs : (content : NodeData) → with_attrs [] content ≡ content
 no_attrs (Element element) =
     ap (λ (attrs : List Attr). Element (record {
       name = element.name;

@@ -18,6 +18,7 @@ mod IndexLemmas
 mod AlikeLemmas
 mod RefreshLemmas
 mod StackSearches
+mod ThisElement
 pub mod NamesAgree
 pub mod ScopeEnds
 pub mod StandingNames
@@ -36,6 +37,9 @@ pub mod LateNodes
 mod AbsentAttrs
 pub mod KeptElements
 pub mod BuiltNodes
+pub mod CopiedElements
+pub mod ReopenedElements
+pub mod ClosedEntries
 pub mod TagKinds
 pub mod BuiltRoots
 pub mod BuiltCalls
@@ -60,3 +64,12 @@ pub mod TokenRules
 pub mod PageEnds
 pub mod ForeignTags
 pub mod TextTags
+pub mod DepthNoted
+pub mod MergedAttrs
+pub mod MergedNodes
+pub mod OpenNames
+pub mod HtmlTags
+pub mod MergedSteps
+pub mod CommentPlaces
+pub mod FirstRules
+pub mod AfterBodyTags

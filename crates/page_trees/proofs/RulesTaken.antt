@@ -48,7 +48,7 @@ chosen t b (rule patterns tests acts ∷ more) =
 abbrev pub FitAlike : Token → Token → Type 0
 FitAlike t u = (p : Pattern) → knows p ≡ true → fits p t ≡ fits p u
 
-any_alike : (t u : Token) → FitAlike t u → (ps : List Pattern) → list_all knows ps ≡ true → list_any (λ p. fits p t) ps ≡ list_any (λ p. fits p u) ps
+pub any_alike : (t u : Token) → FitAlike t u → (ps : List Pattern) → list_all knows ps ≡ true → list_any (λ p. fits p t) ps ≡ list_any (λ p. fits p u) ps
 any_alike t u same [] h = refl
 any_alike t u same (p ∷ ps) h =
     let parts = both (knows p) (list_all knows ps) h in
@@ -100,7 +100,7 @@ token_end : (standard : StandardTag) → standard.kind ≡ Ending → token_of s
 token_end standard e =
     ap (λ k. elim k [ Starting ↦ AStart standard.name (distinct (reverse standard.attrs)) standard.self_closing | Ending ↦ AnEnd standard.name ]) e
 
-kind_fits : (standard : StandardTag) (k : TagKind) (start : Bool) → is_start_kind k ≡ start → kind_of k ≡ standard.kind → IsTagName standard.name →
+pub kind_fits : (standard : StandardTag) (k : TagKind) (start : Bool) → is_start_kind k ≡ start → kind_of k ≡ standard.kind → IsTagName standard.name →
     FitAlike (token_of standard) (plain_tag start (name_of standard.name))
 kind_fits standard TagKind.Start true e f tag =
     subst (λ t. FitAlike t (plain_tag true (name_of standard.name))) (sym (token_start standard (sym f))) (start_fits standard.name (distinct (reverse standard.attrs)) standard.self_closing tag)

@@ -8,9 +8,10 @@ use Rattle.standard_trees.specs.RuleWords.{AppendDoctype, BeforeHtml, InsertComm
 use Rattle.standard_trees.specs.TreeStore.{DoctypeNode, EndOf, Place}
 use Rattle.dom_trees.specs.declared.quirks.QuirksMode.{QuirksMode}
 use Rattle.page_trees.specs.Constructs.{Constructs, RemembersLimits, WithinLimits, first_fault}
+use Rattle.page_trees.specs.LateMerges.{CommentsInHtml}
 use Rattle.page_trees.specs.Quirks.{mode_of as mode_for}
 use Rattle.page_trees.specs.Stands.{Builds, Does, DoesAtAnyDepth, place_for}
-use Rattle.page_trees.specs.TokenSteps.{CommentsInHtml, PerformsOn, has_html, is_initial, keeps_characters}
+use Rattle.page_trees.specs.TokenSteps.{PerformsOn, PutsInHtml, is_initial, keeps_characters}
 use Rattle.page_trees.specs.TreeState.{TreeState}
 use Rattle.page_trees.specs.declared.builder.Mode.{Mode}
 use Rattle.page_trees.specs.declared.builder.TreeBuilder.{TreeBuilder}
@@ -84,11 +85,11 @@ comment_at_top old new tree done cs e does within b token c =
     (was_ok old.fault done (Does (with_comment cs (EndOf 0)) old.tree tree) (unbroken old new tree done e within) does b.tree c.tree)
 
 pub comment_in_html : (old new : TreeBuilder) (tree : TreeState) (done : Result Unit PageFault) (cs : List ℕ) → new ≡ record old { tree = tree; fault = first_fault old.fault done } →
-    OnOk done ((t : GrowingTree) → has_html t ≡ true → Builds old.tree t → Builds tree (with_comment cs (EndOf (topmost t.stack)) t)) → CommentsInHtml cs old new
+    OnOk done (CommentsInHtml cs old.tree tree) → PutsInHtml cs old new
 unfolding perform
 comment_in_html old new tree done cs e does within b html token c =
     comment_put old new tree (first_fault old.fault done) (EndOf (topmost b.tree.stack)) cs e b token c
-    (was_ok old.fault done ((t : GrowingTree) → has_html t ≡ true → Builds old.tree t → Builds tree (with_comment cs (EndOf (topmost t.stack)) t)) (unbroken old new tree done e within) does b.tree html c.tree)
+    (was_ok old.fault done (CommentsInHtml cs old.tree tree) (unbroken old new tree done e within) does b.tree html c.tree)
 
 -- ---- doctypes
 

@@ -1,8 +1,11 @@
 -- "For each attribute on the token, check to see if the attribute is already present on the element; if it is not, add it"
 -- (13.2.6.4.7): the attributes that later tags add to an element.
 use Rattle.std.specs.Prelude.{◌≡◌, ◌++◌, Bool, List, String, filter, map, not, string_bytes, ℕ}
+use Rattle.std.specs.BTreeMap.{is_at}
 use Rattle.std.specs.BTreeSet.{BTreeSet, contains_text}
+use Rattle.std.specs.Cmp.Lexicographic.{slice_cmp}
 use Rattle.std.specs.List.{list_any}
+use Rattle.std.specs.Ordering.{nat_cmp}
 use Rattle.dom_nodes.specs.Changes.{is_attr_named}
 use Rattle.dom_nodes.specs.declared.name.Attr.{Attr}
 use Rattle.page_tokens.specs.declared.attribute.TagAttr.{TagAttr}
@@ -21,6 +24,10 @@ absent_in attrs given = map (attr_in ElementNamespace.Html) (filter (λ a. not (
 -- the set has the names of the attributes
 abbrev pub HasNames : {A : Type 0} → BTreeSet (String A) → List Attr → Type 0
 HasNames names attrs = (name : List ℕ) → contains_text names name ≡ is_present attrs name
+
+-- the names, as the set compares them, are those of the attributes
+abbrev pub AreNamesOf : List (List ℕ) → List Attr → Type 0
+AreNamesOf names attrs = (name : List ℕ) → list_any (is_at (slice_cmp nat_cmp name)) names ≡ is_present attrs name
 
 -- the names that are kept are those of the element's own attributes and of those that are to be added
 abbrev pub Knows : List Attr → LateAttrs → Type 0

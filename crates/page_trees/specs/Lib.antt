@@ -23,3 +23,5 @@ pub mod Constructs
 pub mod TagInsertions
 pub mod TokenSteps
 pub mod TagSteps
+pub mod Reopening
+pub mod LateMerges

@@ -1,7 +1,7 @@
 -- How the state of tree construction stands for the one that standard_trees defines (13.2.4). Both number nodes in the order in which
 -- they are made, so the id of a node is its number there.
-use Rattle.std.specs.Prelude.{◌≡◌, ◌+◌, ◌≤◌, All, Bool, List, None, Option, Some, [], ◌∷◌, codes, drop, false, encode_utf8_all, if◌then◌else◌}
-use Rattle.std.specs.Prelude.{length, map, reverse, string_bytes, true, ℕ, ◌&&◌}
+use Rattle.std.specs.Prelude.{◌≡◌, ◌+◌, ◌≤◌, All, Bool, IfSome, List, None, Option, Some, [], ◌∷◌, codes, drop, false, encode_utf8_all}
+use Rattle.std.specs.Prelude.{if◌then◌else◌, length, map, reverse, string_bytes, true, ℕ, ◌&&◌}
 use Rattle.std.specs.Borrow.{Bor}
 use Rattle.std.specs.Option.{option_map_or}
 use Rattle.standard_tokens.specs.Tokens.{Doctype}
@@ -13,7 +13,7 @@ use Rattle.standard_trees.specs.GrowingTree.{with_stack}
 use Rattle.standard_trees.specs.NameLists.{html_encodings}
 use Rattle.standard_trees.specs.RuleWords.{ButtonScope, ListItemScope, Scope as DefaultScope, ScopeKind, TableScope}
 use Rattle.standard_trees.specs.TreeStore.{Before, DocumentNode, ElementNode, EndOf, Kind, Node, NodeAttr, Place, Space, is_member}
-use Rattle.standard_trees.specs.TreeStore.{contents_in, is_document, node_at, removed}
+use Rattle.standard_trees.specs.TreeStore.{attrs_in, contents_in, is_document, node_at, removed}
 use Rattle.dom_links.specs.declared.gap.InsertionPoint.{InsertionPoint}
 use Rattle.dom_links.specs.declared.gap.InsertionPoint.TheVariants.{Before as TheBefore, EndOf as TheEndOf}
 use Rattle.page_tokens.specs.declared.token.Tag.{Tag}
@@ -22,7 +22,8 @@ use Rattle.page_trees.specs.Names.{name_of, text_of}
 use Rattle.page_trees.specs.Placing.{is_a_template}
 use Rattle.page_trees.specs.SameNodes.{AreNodes, attr_for, part_for}
 use Rattle.page_trees.specs.Sets.{is_an_html_point, is_in_mathml, is_one, local_for, space_of}
-use Rattle.page_trees.specs.TreeState.{Late, TreeState, completed}
+use Rattle.page_trees.specs.LateAttrs.{AreNamesOf}
+use Rattle.page_trees.specs.TreeState.{Late, TreeState, completed, late_at}
 use Rattle.page_trees.specs.declared.formatting.Entry.{Entry}
 use Rattle.page_trees.specs.declared.growing.placing.Placing.{Placing}
 use Rattle.page_trees.specs.declared.name.Name.{Name}
@@ -112,9 +113,13 @@ IsHeadNamed nodes (Some n) = (is_named (codes "head" ∷ []) (node_at nodes n).k
 abbrev pub late_names : List (List ℕ)
 late_names = codes "html" ∷ codes "body" ∷ []
 
+-- an element with the attributes of later tags, whose names are known
+pub record TakesAttrs (element : Kind) (late : Late) : Type 0 where
+  pub named : is_named late_names element ≡ true
+  pub known : AreNamesOf late.names (map attr_for (attrs_in element))
+
 abbrev pub TakeAttrs : List Node → List Late → Type 0
-TakeAttrs nodes [] = Unit {0}
-TakeAttrs nodes (late ∷ others) = (is_named late_names (node_at nodes late.id).kind ≡ true) × TakeAttrs nodes others
+TakeAttrs nodes late = (n : ℕ) → IfSome (late_at late n) (TakesAttrs (node_at nodes n).kind)
 
 -- the context element of a fragment
 abbrev pub IsContext : Option Open → Option Kind → Type 0

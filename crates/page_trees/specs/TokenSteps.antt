@@ -1,11 +1,11 @@
 -- What a function does that processes a token which is no tag: actions of the rules for that token, the rules for a mode, or a whole step
 -- of tree construction (13.2.6).
-use Rattle.std.specs.Prelude.{◌≡◌, ◌∷◌, Bool, List, None, Option, Some, [], codes, false, true, ℕ}
+use Rattle.std.specs.Prelude.{◌≡◌, ◌∷◌, Bool, List, None, Option, Some, [], false, true, ℕ}
 use Rattle.standard_tokens.specs.Tokens.{AComment, Token}
 use Rattle.standard_trees.specs.Building.{Building, tree_step}
-use Rattle.standard_trees.specs.GrowingTree.{GrowingTree, is_one, topmost}
 use Rattle.standard_trees.specs.RuleWords.{Action, AfterBody, Dispatcher, InsertCommentInHtml, Mode as StandardMode}
 use Rattle.page_trees.specs.Constructs.{Constructs, Outcome, WithinLimits, all_performed, is_entered_plainly, returns_later}
+use Rattle.page_trees.specs.LateMerges.{HasHtml}
 use Rattle.page_trees.specs.declared.builder.Mode.{Mode}
 use Rattle.page_trees.specs.declared.builder.Next.{Next}
 use Rattle.page_trees.specs.declared.builder.TreeBuilder.{TreeBuilder}
@@ -33,17 +33,15 @@ Processes token old new = old.switch ≡ None → WithinLimits new → (b : Buil
 
 -- ---- comments
 
--- where the rules put a comment into `html`, that is the outermost open element
-abbrev pub has_html : GrowingTree → Bool
-has_html t = is_one t (codes "html" ∷ []) (topmost t.stack)
-
-abbrev pub CommentsInHtml : List ℕ → TreeBuilder → TreeBuilder → Type 0
-CommentsInHtml text old new =
-    WithinLimits new → (b : Building) → has_html b.tree ≡ true → b.token ≡ AComment text → Constructs old b →
+-- within the limits, a comment is inserted into the outermost open element, `html`
+abbrev pub PutsInHtml : List ℕ → TreeBuilder → TreeBuilder → Type 0
+PutsInHtml text old new =
+    WithinLimits new → (b : Building) → HasHtml b → b.token ≡ AComment text → Constructs old b →
     Constructs new (all_performed (InsertCommentInHtml ∷ []) b)
 
+-- where the rules put a comment there, `html` is that element
 abbrev pub EndsInHtml : Building → Type 0
-EndsInHtml b = b.mode ≡ AfterBody → has_html b.tree ≡ true
+EndsInHtml b = b.mode ≡ AfterBody → HasHtml b
 
 -- within the limits, a comment is processed by the dispatcher's rules, or in a whole step
 abbrev pub TakesComment : List ℕ → TreeBuilder → TreeBuilder → Type 0

@@ -1,5 +1,5 @@
 -- The tree under construction, with what points into it (13.2.4.2 to 13.2.4.4), as contracts see it.
-use Rattle.std.specs.Prelude.{List, None, Option, [], ◌++◌, ◌==◌, ◌∷◌, if◌then◌else◌, map, slice_get, ℕ}
+use Rattle.std.specs.Prelude.{List, None, Option, Some, [], ◌++◌, ◌==◌, ◌∷◌, if◌then◌else◌, map, slice_get, string_bytes, ℕ}
 use Rattle.std.specs.Option.{option_or}
 use Rattle.dom_nodes.specs.declared.name.Attr.{Attr}
 use Rattle.dom_nodes.specs.declared.node_data.NodeData.{NodeData}
@@ -18,6 +18,7 @@ use Rattle.page_trees.specs.declared.stack.Open.{Open}
 pub record Late : Type 0 where
   pub id : ℕ
   pub added : List Attr
+  pub names : List (List ℕ)  -- the names of its own attributes and of those
 
 pub record TreeState : Type 0 where
   pub forest : Forest
@@ -30,7 +31,13 @@ pub record TreeState : Type 0 where
   pub quirks : QuirksMode
 
 abbrev pub late_of : List LateAttrs → List Late
-late_of elements = map (λ late. record { id = late.id; added = late.added.items }) elements
+late_of elements =
+    map (λ late. record { id = late.id; added = late.added.items; names = map (λ name. string_bytes name) late.names.keys }) elements
+
+-- what later tags add to element n, if there were any
+abbrev pub late_at : List Late → ℕ → Option Late
+late_at [] n = None
+late_at (late ∷ others) n = if late.id == n then Some late else late_at others n
 
 -- a tree in which nothing is open
 abbrev pub fresh_state : Forest → TreeState

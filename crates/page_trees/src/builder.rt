@@ -1,6 +1,6 @@
 //! The state of tree construction (13.2.4), besides the tree and the stack.
 
-ghost use Rattle.std.specs.Prelude.{◌≡◌, ◌≤◌, false, length};
+ghost use Rattle.std.specs.Prelude.{◌≡◌, ◌||◌, length, nat_lt};
 ghost use Rattle.page_trees.specs.Constructs.{first_fault};
 ghost use Rattle.page_trees.specs.declared.builder.Next.TheVariants.{Again, Done as IsDone};
 
@@ -112,10 +112,8 @@ impl TreeBuilder {
 
     /// Notes if more elements are open than the limit on depth allows.
     pub fn note_depth(&mut self)
-        ensures rest { self.new ≡ record self.old { too_deep = self.new.too_deep } }
-        ensures kept { self.new.too_deep ≡ false → self.old.too_deep ≡ false }
-        ensures noted { self.new.too_deep ≡ false →
-            length self.old.tree.stack ≤ self.old.placing.max_depth }
+        ensures { let deep = nat_lt self.old.placing.max_depth (length self.old.tree.stack) in
+            self.new ≡ record self.old { too_deep = self.old.too_deep || deep } }
     {
         if self.tree.open().len() > self.placing.max_depth {
             self.too_deep = true;

@@ -214,6 +214,12 @@ impl ActiveFormatting {
         self.entries.len()
     }
 
+    pub fn as_slice(&self) -> &[Entry]
+        ensures { result.now ≡ self.now.entries.items }
+    {
+        self.entries.as_slice()
+    }
+
     pub fn get(&self, index: usize) -> Option<Entry>
         ensures found { IfSome result (Contains self.now.entries.items) }
         ensures value { result ≡ slice_get self.now.entries.items index }
@@ -416,7 +422,7 @@ impl ActiveFormatting {
     }
 
     /// Returns the element of the entry at an index, if it is no marker.
-    fn element_at(&self, index: usize) -> Option<Open>
+    pub fn element_at(&self, index: usize) -> Option<Open>
         ensures { result ≡ option_and_then element_in (slice_get self.now.entries.items index) }
     {
         self.get(index)?.element()

@@ -2,17 +2,20 @@
 //! elements, the list of active formatting elements, and the head and form element pointers. A call
 //! that returns a `Result` fails only when memory or node ids run out.
 
-ghost use Rattle.std.specs.Prelude.{◌≡◌, ◌<◌, [], ◌∷◌, IfOk, List, OnOk, codes, length, not};
-ghost use Rattle.std.specs.Prelude.{encode_utf8_all, false, slice_get, true, ℕ};
-ghost use Rattle.std.specs.Option.{is_some, option_map, option_map_or};
+ghost use Rattle.std.specs.Prelude.{◌≡◌, ◌<◌, ◌≤◌, ◌||◌, [], ◌∷◌, IfOk, IfSome, List, OnOk, codes};
+ghost use Rattle.std.specs.Prelude.{encode_utf8_all, false, length, not, slice_get, true, ℕ};
+ghost use Rattle.std.specs.Option.{is_some, option_and_then, option_map, option_map_or};
 ghost use Rattle.dom_links.specs.Growth.{lone};
 ghost use Rattle.dom_links.specs.Sound.{IsOpenGap};
 ghost use Rattle.dom_nodes.specs.declared.node_data.NodeData.TheVariants.{Document as TheDocument};
 ghost use Rattle.dom_nodes.specs.declared.node_data.NodeData.TheVariants.{Fragment as TheFragment};
-ghost use Rattle.page_trees.specs.Elements.{IsRooted};
+ghost use Rattle.page_trees.specs.Elements.{IsElement, IsRooted};
+ghost use Rattle.page_trees.specs.Formatting.{element_in};
+ghost use Rattle.page_trees.specs.LateMerges.{CommentsInHtml, MergesInto, id_at, is_open};
 ghost use Rattle.page_trees.specs.Modes.{points_nowhere};
 ghost use Rattle.page_trees.specs.Names.{text_of};
 ghost use Rattle.page_trees.specs.Placing.{is_at_top};
+ghost use Rattle.page_trees.specs.Reopening.{Reopens};
 ghost use Rattle.page_trees.specs.Scopes.{is_name};
 ghost use Rattle.page_trees.specs.SearchIndex.{IsIndexed};
 ghost use Rattle.page_trees.specs.SameNodes.{IsPointOf};
@@ -40,7 +43,7 @@ mod placing;
 mod popping;
 
 use crate::fault::PageFault;
-use crate::formatting::{ActiveFormatting, Entry};
+use crate::formatting::ActiveFormatting;
 use crate::name::Name;
 use crate::pointers::FormPointer;
 use crate::stack::{ElementNamespace, Open, OpenElements};
@@ -185,8 +188,13 @@ impl GrowingTree {
     }
 
     /// Returns whether a `form` in a table is ignored, because a form or a template is open.
-    pub fn ignores_form(&self) -> bool {
-        self.has_form() || self.stack.has(Name::Template)
+    pub fn ignores_form(&self) -> bool
+        ensures { Tells (λ t. is_set t.form || is_open (codes "template") t) self.now result }
+    {
+        if self.has_form() {
+            return true;
+        }
+        self.stack.has(Name::Template)
     }
 
     pub fn context(&self) -> Option<Open>
@@ -418,11 +426,17 @@ impl GrowingTree {
     }
 
     /// Inserts a comment as the last child of the outermost element.
-    pub fn put_comment_in_html(&mut self, text: &str) -> Result<(), PageFault> {
+    pub fn put_comment_in_html(&mut self, text: &str) -> Result<(), PageFault>
+        ensures rule { (cs : List ℕ) → text.now ≡ encode_utf8_all cs → OnOk result
+            (CommentsInHtml cs self.old self.new) }
+        ensures quirks { self.new.quirks ≡ self.old.quirks }
+    {
         let Some(html) = self.stack.get(0) else {
             return Ok(());
         };
-        put_comment(&mut self.tree, InsertionPoint::EndOf(html.id), text)
+        is_forest(&self.tree);
+        put_comment(&mut self.tree, InsertionPoint::EndOf(html.id), text)?;
+        Ok(())
     }
 
     /// Inserts a doctype as the last child of the root: name, public identifier and system
@@ -440,11 +454,15 @@ impl GrowingTree {
 
     /// Adds to the element at an index of the stack those of a tag's attributes whose names it
     /// doesn't have yet. They are in the tree once all is read.
-    pub fn add_attrs(&mut self, place: usize, tag: &Tag) -> Result<(), PageFault> {
-        match self.stack.get(place) {
-            Some(open) => self.late.add(&self.tree, open.id, tag),
-            None => Ok(()),
+    pub fn add_attrs(&mut self, place: usize, tag: &Tag) -> Result<(), PageFault>
+        ensures rule { OnOk result
+            (MergesInto (id_at self.old.stack place) tag.now self.old self.new) }
+        ensures quirks { self.new.quirks ≡ self.old.quirks }
+    {
+        if let Some(open) = self.stack.get(place) {
+            self.late.add(&self.tree, open.id, tag)?;
         }
+        Ok(())
     }
 
     /// Detaches the element at an index of the stack.
@@ -457,17 +475,30 @@ impl GrowingTree {
         }
     }
 
+    /// Returns the element of the entry at an index of the list, if it is no marker.
+    fn entry_element(&self, index: usize) -> Option<Open>
+        ensures value { let entries = self.now.formatting in
+            result ≡ option_and_then element_in (slice_get entries index) }
+        ensures element { IfSome result (λ o. IsElement self.now.forest o.id) }
+    {
+        self.formatting.element_at(index)
+    }
+
     /// Inserts a copy of a formatting element, pushes it onto the stack, and replaces the element
     /// in the list of active formatting elements.
     pub fn reconstruct_formatting(
         &mut self,
         index: usize,
         placing: Placing,
-    ) -> Result<(), PageFault> {
-        let Some(Entry::Element(open)) = self.formatting.get(index) else {
+    ) -> Result<(), PageFault>
+        ensures rule { OnOk result (Reopens placing index self.old self.new) }
+        ensures grows { OnOk result (length self.old.stack ≤ length self.new.stack) }
+    {
+        let Some(open) = self.entry_element(index) else {
             return Ok(());
         };
         let gap = self.gap(placing);
+        is_forest(&self.tree);
         let copy = put_copy(&mut self.tree, gap, open)?;
         self.stack.push(&copy)?;
         self.formatting.replace(index, &copy);

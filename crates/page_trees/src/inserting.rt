@@ -3,14 +3,16 @@
 ghost use Rattle.std.specs.Prelude.{◌≡◌, ◌<◌, [], ◌∷◌, List, encode_utf8_all, length, true, ℕ};
 ghost use Rattle.standard_tokens.specs.Tokens.{AComment};
 ghost use Rattle.standard_trees.specs.RuleWords.{InsertComment, InsertCommentInDocument};
-ghost use Rattle.standard_trees.specs.RuleWords.{InsertElement, InsertRootElement, Pop, SwitchTo};
+ghost use Rattle.standard_trees.specs.RuleWords.{InsertElement, InsertRootElement, ListMarker};
+ghost use Rattle.standard_trees.specs.RuleWords.{Pop, ReconstructFormatting, SwitchTo};
 ghost use Rattle.standard_trees.specs.TreeStore.{EndOf};
 ghost use Rattle.page_trees.specs.Constructs.{Performs, PerformsFor};
 ghost use Rattle.page_trees.specs.Constructs.{RemembersLimits, implying, is_entered_plainly};
+ghost use Rattle.page_trees.specs.LateMerges.{MergesTagInto, id_at};
 ghost use Rattle.page_trees.specs.Modes.{mode_of};
 ghost use Rattle.page_trees.specs.Names.{text_of};
 ghost use Rattle.page_trees.specs.TagInsertions.{InsertsTag, InsertsTagAt};
-ghost use Rattle.page_trees.specs.TokenSteps.{CommentsInHtml, PerformsOn};
+ghost use Rattle.page_trees.specs.TokenSteps.{PerformsOn, PutsInHtml};
 ghost use Rattle.page_trees.specs.declared.builder.Next.TheVariants.{Again, Done as IsDone};
 ghost use Rattle.page_trees.specs.declared.name.Name.TheVariants.{Html as HtmlName};
 ghost use Rattle.page_trees.specs.declared.stack.ElementNamespace.TheVariants.{Html as HtmlSpace};
@@ -123,9 +125,25 @@ impl TreeBuilder {
     }
 
     /// Reconstructs the active formatting elements, and then inserts an element.
-    pub fn insert_inline(&mut self, name: Name, tag: &Tag) -> Next {
+    pub fn insert_inline(&mut self, name: Name, tag: &Tag) -> Next
+        ensures next { result ≡ IsDone }
+        ensures limits { RemembersLimits self.old self.new }
+        ensures rule { let insert = ReconstructFormatting ∷ InsertElement ∷ [] in
+            PerformsFor name tag.now insert self.old self.new }
+    {
         self.reconstruct();
         self.insert_done(name, tag)
+    }
+
+    /// Inserts an element, and appends a marker to the list of active formatting elements.
+    pub fn insert_marked(&mut self, name: Name, tag: &Tag) -> Next
+        ensures next { result ≡ IsDone }
+        ensures limits { RemembersLimits self.old self.new }
+        ensures rule { PerformsFor name tag.now (InsertElement ∷ ListMarker ∷ []) self.old self.new }
+    {
+        self.insert(name, tag);
+        self.push_marker();
+        Next::Done
     }
 
     /// Inserts characters.
@@ -158,7 +176,7 @@ impl TreeBuilder {
     pub fn put_comment_in_html(&mut self, text: &str)
         ensures limits { RemembersLimits self.old self.new }
         ensures rule { (cs : List ℕ) → text.now ≡ encode_utf8_all cs →
-            CommentsInHtml cs self.old self.new }
+            PutsInHtml cs self.old self.new }
     {
         let put = self.tree.put_comment_in_html(text);
         self.keep(put);
@@ -166,19 +184,29 @@ impl TreeBuilder {
 
     /// Adds to the element at an index of the stack those of a tag's attributes whose names it
     /// doesn't have yet.
-    pub fn add_attrs(&mut self, place: usize, tag: &Tag) {
+    pub fn add_attrs(&mut self, place: usize, tag: &Tag)
+        ensures limits { RemembersLimits self.old self.new }
+        ensures rule { let element = id_at self.old.tree.stack place in
+            MergesTagInto element tag.now self.old self.new }
+    {
         let added = self.tree.add_attrs(place, tag);
         self.keep(added);
     }
 
     /// Appends a marker to the list of active formatting elements.
-    pub fn push_marker(&mut self) {
+    pub fn push_marker(&mut self)
+        ensures limits { RemembersLimits self.old self.new }
+        ensures rule { Performs (ListMarker ∷ []) self.old self.new }
+    {
         let pushed = self.tree.push_marker();
         self.keep(pushed);
     }
 
     /// Reconstructs the active formatting elements: inserts copies of those that are not open.
-    pub fn reconstruct(&mut self) {
+    pub fn reconstruct(&mut self)
+        ensures limits { RemembersLimits self.old self.new }
+        ensures rule { Performs (ReconstructFormatting ∷ []) self.old self.new }
+    {
         let opened = self.tree.reconstruct(self.placing);
         self.keep(opened);
         self.note_depth();

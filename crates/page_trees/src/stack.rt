@@ -3,7 +3,8 @@
 
 ghost use Rattle.std.specs.Prelude.{◌≡◌, [], ◌∷◌, ◌++◌, Contains, IfNone, IfSome, OnErr, OnOk};
 ghost use Rattle.std.specs.Prelude.{◌+◌, ◌-◌, ◌<◌, ◌≤◌, ◌↔◌, ◌⊎◌, IsTrue, List, drop, false, insert};
-ghost use Rattle.std.specs.Prelude.{length, not, remove, reverse, slice_get, slice_set, take};
+ghost use Rattle.std.specs.Prelude.{◌&&◌, eqb, length, not, remove, reverse, slice_get, slice_set};
+ghost use Rattle.std.specs.Prelude.{take};
 ghost use Rattle.std.specs.Option.{option_map_or, option_to_list};
 ghost use Rattle.page_trees.specs.Popping.{first_from, up_to_last};
 ghost use Rattle.standard_trees.specs.GrowingTree.{GrowingTree as StandardTree};
@@ -11,12 +12,14 @@ ghost use Rattle.standard_trees.specs.GrowingTree.{beyond, has_in_scope, in_scop
 ghost use Rattle.standard_trees.specs.GrowingTree.{implied_of, popped_up_to, with_stack};
 ghost use Rattle.standard_trees.specs.NameLists.{implied};
 ghost use Rattle.page_trees.specs.Names.{text_of};
+ghost use Rattle.page_trees.specs.Reopening.{index_at, is_this};
 ghost use Rattle.page_trees.specs.Scopes.{ends_in, has_name, is_among, is_name, is_named};
 ghost use Rattle.page_trees.specs.Scopes.{is_implied_but, is_named_like, last_place};
 ghost use Rattle.page_trees.specs.SearchIndex.{IsIndex, IsIndexed, is_sought};
 ghost use Rattle.page_trees.specs.Sets.{context_names, ends_context, ends_scope};
 ghost use Rattle.page_trees.specs.Sets.{has_html_content};
 ghost use Rattle.page_trees.specs.Sets.{is_in_html, is_special_element};
+ghost use Rattle.page_trees.specs.LateMerges.{is_open};
 ghost use Rattle.page_trees.specs.Stands.{IsStackOf, scope_kind, text_list};
 ghost use Rattle.page_trees.specs.declared.name.Name.TheVariants.{Other};
 ghost use Rattle.page_trees.specs.declared.stack.Open.{Open as AnOpen};
@@ -66,6 +69,13 @@ impl Open {
         ensures { result ≡ has_name name self.now }
     {
         self.ns == ElementNamespace::Html && self.name == name
+    }
+
+    /// Returns whether it is the HTML element with that name and id.
+    fn is_this(&self, name: Name, id: NodeId) -> bool
+        ensures { result ≡ (has_name name self.now && eqb self.now.id id) }
+    {
+        self.is_html(name) && self.id == id
     }
 }
 
@@ -449,23 +459,54 @@ impl OpenElements {
         None
     }
 
-    /// Returns the index of the HTML element with that name and id on the stack.
-    pub fn place_among(&self, name: Name, id: NodeId) -> Option<usize> {
-        let mut top = self.top(name);
-        for _ in 0..self.elements.len() {
-            let place = top.checked_sub(1)?;
-            if self.get(place)?.id == id {
+    /// Returns the index of the HTML element with that name and id on the stack. The elements that
+    /// have no entry in the search index, which are the last ones, are looked at one by one.
+    pub fn place_among(&self, name: Name, id: NodeId) -> Option<usize>
+        ensures { let elements = self.now.elements.items in IsIndexed self.now →
+            result ≡ index_at (last_place (is_this name id) elements) }
+    {
+        if name == Name::Other {
+            return None;
+        }
+        let mut rest = self.elements.as_slice();
+        while rest.len() > self.marks.len() {
+            let Some((element, below)) = rest.split_last() else {
+                return None;
+            };
+            if element.is_this(name, id) {
+                return Some(below.len());
+            }
+            rest = below;
+        }
+        self.marked_place(name, id)
+    }
+
+    /// Returns this among the elements that have entries in the search index.
+    fn marked_place(&self, name: Name, id: NodeId) -> Option<usize>
+        ensures { let marked = take (length self.now.marks.rows.items) self.now.elements.items in
+            is_name name Other ≡ false → IsIndexed self.now →
+            result ≡ index_at (last_place (is_this name id) marked) }
+    {
+        let mut top = self.marks.last(Sought::Key(key_for(true, name, 0)));
+        while let Some(place) = top.checked_sub(1) {
+            let Some(element) = self.get(place) else {
+                return None;
+            };
+            if element.id == id {
                 return Some(place);
             }
-            top = self.marks.same(place);
+            top = self.marks.same(place).min(place);
         }
         None
     }
 
     /// Returns whether an HTML element with that name is open.
     pub fn has(&self, name: Name) -> bool
-        ensures { IsIndexed self.now → IsTrue result ↔
+        ensures searched { IsIndexed self.now → IsTrue result ↔
             (0 < last_place (is_named name) self.now.elements.items) }
+        ensures rule { let elements = self.now.elements.items in (tree : StandardTree) →
+            is_name name Other ≡ false → IsStackOf tree elements → IsIndexed self.now →
+            result ≡ is_open (text_of name) tree }
     {
         self.top(name) > 0
     }

@@ -6,7 +6,7 @@ import io
 import pathlib
 
 import dom_query
-from dom_query import Document, DomError, MarkupError, Node, PageReader, Policy, PolicyError, Selector, SelectorError
+from dom_query import Article, Document, DomError, MarkupError, Node, PageReader, Policy, PolicyError, Selector, SelectorError
 
 LINKS = Selector("a[href]")
 
@@ -18,6 +18,13 @@ def titles(pages: list[bytes]) -> list[str]:
             title = document.select_one("title")
             found.append(title.text if title is not None else "")
     return found
+
+
+def taken(page: Document) -> tuple[str, str] | None:
+    article: Article | None = page.article()
+    if article is None or not article.sure:
+        return None
+    return article.title or article.document.text[:40], article.markdown
 
 
 def links(document: Document, base: str = "") -> dict[str, str]:

@@ -2,7 +2,11 @@
 //! (13.2.6.4.7). A call that returns a `Result` fails only when memory or node ids run out.
 
 ghost use Rattle.std.specs.Prelude.{◌≡◌, ◌+◌, ◌^◌, ◌<◌, ◌≤◌, OnErr, OnOk, false, insert, true};
+ghost use Rattle.standard_trees.specs.Formatting.{reconstructed};
 ghost use Rattle.page_trees.specs.Elements.{IsElement};
+ghost use Rattle.page_trees.specs.Reopening.{is_closed, stays};
+ghost use Rattle.page_trees.specs.Scopes.{last_place};
+ghost use Rattle.page_trees.specs.Stands.{DoesIn};
 ghost use Rattle.page_trees.specs.declared.formatting.Entry.TheVariants.{Element as AnEntry};
 
 use super::GrowingTree;
@@ -57,7 +61,10 @@ impl Bookmark {
 
 impl GrowingTree {
     /// Reconstructs the active formatting elements: inserts copies of those that are not open.
-    pub fn reconstruct(&mut self, placing: Placing) -> Result<(), PageFault> {
+    pub fn reconstruct(&mut self, placing: Placing) -> Result<(), PageFault>
+        ensures { placing.in_head ≡ false →
+            OnOk result (DoesIn placing reconstructed self.old self.new) }
+    {
         for index in self.first_closed()..self.formatting.len() {
             self.reconstruct_formatting(index, placing)?;
         }
@@ -65,14 +72,27 @@ impl GrowingTree {
     }
 
     /// Returns the index of the first entry after the last marker and the last open element.
-    fn first_closed(&self) -> usize {
-        for index in (0..self.formatting.len()).rev() {
-            match self.formatting.get(index) {
-                Some(Entry::Element(open)) if self.stack.place_of(&open).is_none() => {}
-                _ => return index.saturating_add(1),
+    fn first_closed(&self) -> usize
+        ensures { result ≡ last_place (stays self.now.stack) self.now.formatting }
+    {
+        let mut rest = self.formatting.as_slice();
+        while let Some((entry, before)) = rest.split_last() {
+            if !self.is_closed(entry) {
+                return rest.len();
             }
+            rest = before;
         }
         0
+    }
+
+    /// Returns whether an entry is an element that is not open.
+    fn is_closed(&self, entry: &Entry) -> bool
+        ensures { result ≡ is_closed self.now.stack entry.now }
+    {
+        match entry {
+            Entry::Marker => false,
+            Entry::Element(open) => self.stack.place_among(open.name, open.id).is_none(),
+        }
     }
 
     /// Runs the adoption agency algorithm for a tag. Returns `false` if the tag is to be processed

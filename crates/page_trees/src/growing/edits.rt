@@ -23,6 +23,7 @@ ghost use Rattle.page_trees.specs.Insertions.{with_copy_around, with_copy_at};
 ghost use Rattle.page_trees.specs.Insertions.{with_copy_inside, with_element_at};
 ghost use Rattle.page_trees.specs.Insertions.{with_tag_at};
 ghost use Rattle.page_trees.specs.Placing.{is_template_named};
+ghost use Rattle.page_trees.specs.Reopening.{copy_open};
 ghost use Rattle.page_trees.specs.SameNodes.{Changes, ChangesAt, IsKind, with_kind_at};
 ghost use Rattle.page_trees.specs.SameNodes.{with_copy_around as copied_around};
 ghost use Rattle.page_trees.specs.SameNodes.{with_copy_at as copied_at};
@@ -284,6 +285,7 @@ fn copy_of(tree: &mut Tree, element: Open) -> Result<Open, PageFault>
     requires { IsElement tree.old element.id }
     ensures forest { IsForest tree.old }
     ensures ok { IfOk result (λ copy. IsCopy tree.old tree.new copy.id) }
+    ensures shape { IfOk result (λ copy. copy ≡ copy_open element copy.id) }
     ensures made { OnOk result (tree.new ≡ with_copy element.id tree.old) }
     ensures err { OnErr result (tree.new ≡ tree.old) }
 {
@@ -309,6 +311,7 @@ pub fn put_copy(tree: &mut Tree, gap: InsertionPoint, element: Open) -> Result<O
     requires element { IsElement tree.old element.id }
     ensures grows { Grows tree.old tree.new }
     ensures element { IfOk result (λ copy. IsFresh tree.old tree.new copy.id) }
+    ensures shape { IfOk result (λ copy. copy ≡ copy_open element copy.id) }
     ensures made { let after = with_copy_at gap element.id tree.old in
         IfOk result (λ copy. MakesNext copy.id tree.old tree.new after) }
     ensures rule { OnOk result (ChangesAt gap tree.old tree.new (copied_at element.id)) }

@@ -1,9 +1,13 @@
 //! Attributes that later tags add to `html` and to `body`.
 
-ghost use Rattle.std.specs.Prelude.{◌≡◌, ◌==◌, [], ◌∷◌, ◌++◌, IfOk, List, OnOk, position};
+ghost use Rattle.std.specs.Prelude.{◌≡◌, ◌==◌, [], ◌∷◌, ◌++◌, IfOk, List, OnOk, Some, position};
+ghost use Rattle.std.specs.Prelude.{slice_get};
 ghost use Rattle.dom_trees.specs.Views.{node_attrs};
 ghost use Rattle.page_tokens.specs.Attributes.{Gains};
 ghost use Rattle.page_trees.specs.LateAttrs.{AddsAbsent, HasNames, Knows};
+ghost use Rattle.page_trees.specs.LateMerges.{AddsAt, AddsTo, KnowsAt};
+ghost use Rattle.page_trees.specs.TreeState.{late_of};
+ghost use Rattle.page_trees.specs.declared.growing.late.LateAttrs.{LateAttrs as AnElement};
 
 use crate::attributes::attr_of;
 use crate::fault::PageFault;
@@ -109,22 +113,41 @@ impl LateTags {
     }
 
     /// Collects the attributes of a later tag of an element. Fails only when memory runs out.
-    pub fn add(&mut self, tree: &Tree, id: NodeId, tag: &Tag) -> Result<(), PageFault> {
-        let place = self.place_of(tree, id)?;
-        match self.elements.get_mut(place) {
-            Some(late) => late.add(tree.allocator(), tag),
-            None => Ok(()),
+    pub fn add(&mut self, tree: &Tree, id: NodeId, tag: &Tag) -> Result<(), PageFault>
+        ensures { let own = node_attrs tree.now id in
+            KnowsAt own id (late_of self.old.elements.items) → OnOk result
+            (AddsTo own id tag.now.attrs.items (late_of self.old.elements.items)
+            (late_of self.new.elements.items)) }
+    {
+        if let Some(place) = self.find(id) {
+            self.add_at(place, tree.allocator(), tag)?;
+            return Ok(());
         }
+        let mut late = LateAttrs::new(tree, id)?;
+        late.add(tree.allocator(), tag)?;
+        self.push(late)?;
+        Ok(())
     }
 
-    /// Returns where an element is in the list. An element that has no place yet gets the last one.
-    fn place_of(&mut self, tree: &Tree, id: NodeId) -> Result<usize, PageFault> {
-        if let Some(place) = self.find(id) {
-            return Ok(place);
+    /// Collects the attributes of a later tag of the element at an index of the list.
+    fn add_at(&mut self, place: usize, alloc: Global, tag: &Tag) -> Result<(), PageFault>
+        ensures { (own : List Attr) (late : AnElement) → Knows own late →
+            slice_get self.old.elements.items place ≡ Some late → OnOk result
+            (AddsAt own place tag.now.attrs.items late self.old.elements.items
+            self.new.elements.items) }
+    {
+        if let Some(late) = self.elements.get_mut(place) {
+            late.add(alloc, tag)?;
         }
-        let place = self.elements.len();
-        self.elements.push(LateAttrs::new(tree, id)?)?;
-        Ok(place)
+        Ok(())
+    }
+
+    /// Appends an element.
+    fn push(&mut self, late: LateAttrs) -> Result<(), PageFault>
+        ensures { OnOk result (self.new.elements.items ≡ self.old.elements.items ++ late ∷ []) }
+    {
+        self.elements.push(late)?;
+        Ok(())
     }
 
     /// Returns where an element is in the list.

@@ -53,11 +53,7 @@ impl TreeBuilder {
             self.reconstruct();
         }
         match group {
-            Group::Object => {
-                self.insert(name, tag);
-                self.push_marker();
-                Next::Done
-            }
+            Group::Object => self.insert_marked(name, tag),
             Group::Table => self.start_table(tag),
             Group::Void | Group::Param => self.insert_void(name, tag),
             Group::Hr => self.start_hr(tag),

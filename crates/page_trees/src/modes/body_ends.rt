@@ -1,5 +1,11 @@
 //! End tags by the rules for "in body" (13.2.6.4.7).
 
+ghost use Rattle.std.specs.Prelude.{◌≡◌, [], ◌∷◌, codes};
+ghost use Rattle.standard_trees.specs.RuleWords.{FramesetNotOk, InsertNamed, Pop};
+ghost use Rattle.standard_trees.specs.RuleWords.{ReconstructFormatting};
+ghost use Rattle.page_trees.specs.Constructs.{Performs, RemembersLimits};
+ghost use Rattle.page_trees.specs.declared.builder.Next.TheVariants.{Done as IsDone};
+
 use super::groups::{Group, group_of};
 use crate::builder::{Mode, Next, TreeBuilder};
 use crate::name::Name;
@@ -66,14 +72,23 @@ impl TreeBuilder {
         Next::Done
     }
 
+    fn end_br(&mut self) -> Next
+        ensures next { result ≡ IsDone }
+        ensures limits { RemembersLimits self.old self.new }
+        ensures rule { let made = InsertNamed (codes "br") ∷ Pop ∷ FramesetNotOk ∷ [] in
+            Performs (ReconstructFormatting ∷ made) self.old self.new }
+    {
+        self.reconstruct();
+        self.insert_implied(Name::Br, "br");
+        self.tree.pop();
+        self.frameset_ok = false;
+        Next::Done
+    }
+
     /// Processes any other end tag. `</br>` is treated as `<br>` without attributes.
     fn end_other(&mut self, name: Name, tag: &Tag) -> Next {
         if name == Name::Br {
-            self.frameset_ok = false;
-            self.reconstruct();
-            self.insert_implied(Name::Br, "br");
-            self.tree.pop();
-            return Next::Done;
+            return self.end_br();
         }
         self.tree.close_named(name, tag.name.as_str());
         Next::Done

@@ -6,6 +6,7 @@ ghost use Rattle.standard_trees.specs.RuleWords.{InsertElement, InsertNamed, Ins
 ghost use Rattle.standard_trees.specs.RuleWords.{Pop, SetHeadPointer, SetQuirks, SwitchTo};
 ghost use Rattle.page_trees.specs.Constructs.{Performs, PerformsFor, ProcessesTag};
 ghost use Rattle.page_trees.specs.Constructs.{RemembersLimits, is_entered_plainly};
+ghost use Rattle.page_trees.specs.LateMerges.{ProcessesHtmlTag, ProcessesTagInHtml};
 ghost use Rattle.page_trees.specs.Modes.{is_early_end_name, mode_of};
 ghost use Rattle.page_trees.specs.declared.builder.Next.TheVariants.{Again, Done as IsDone};
 ghost use Rattle.page_trees.specs.declared.name.Name.TheVariants.{Head as HeadName};
@@ -73,18 +74,23 @@ impl TreeBuilder {
         self.again_in(Mode::InHead)
     }
 
-    pub fn before_head_tag(&mut self, name: Name, tag: &Tag) -> Next {
+    pub fn before_head_tag(&mut self, name: Name, tag: &Tag) -> Next
+        ensures limits { RemembersLimits self.old self.new }
+        ensures rule { ProcessesTagInHtml BeforeHead name tag.now self.old self.new result }
+    {
         if is_start(tag) {
-            return match name {
-                Name::Html => self.add_html_attrs(tag),
-                Name::Head => self.start_head(tag),
-                _ => self.imply_head(),
-            };
+            if name == Name::Html {
+                return self.add_html_attrs(tag);
+            }
+            if name == Name::Head {
+                return self.start_head(tag);
+            }
+            return self.imply_head();
         }
-        match name {
-            Name::Head | Name::Body | Name::Html | Name::Br => self.imply_head(),
-            _ => Next::Done,
+        if is_early_end(name) {
+            return self.imply_head();
         }
+        Next::Done
     }
 
     fn start_head(&mut self, tag: &Tag) -> Next
@@ -99,10 +105,15 @@ impl TreeBuilder {
     }
 
     /// Adds the attributes of a later start tag `html` to the element.
-    pub fn add_html_attrs(&mut self, tag: &Tag) -> Next {
-        if !self.tree.open().has(Name::Template) {
-            self.add_attrs(0, tag);
+    pub fn add_html_attrs(&mut self, tag: &Tag) -> Next
+        ensures next { result ≡ IsDone }
+        ensures limits { RemembersLimits self.old self.new }
+        ensures rule { ProcessesHtmlTag tag.now self.old self.new result }
+    {
+        if self.tree.open().has(Name::Template) {
+            return Next::Done;
         }
+        self.add_attrs(0, tag);
         Next::Done
     }
 

@@ -116,8 +116,8 @@ impl TreeBuilder {
         self.take_doctype(doctype);
     }
 
-    /// Processes a doctype by the rules for the current insertion mode, or for foreign content. Only
-    /// at the beginning of the page it is not ignored.
+    /// Processes a doctype by the rules for the current insertion mode, or for foreign content. It
+    /// is ignored but at the beginning of the page.
     fn take_doctype(&mut self, doctype: &Doctype)
         ensures limits { RemembersLimits self.old self.new }
         ensures rule { (d : StandardDoctype) → IsDoctype doctype.now d →

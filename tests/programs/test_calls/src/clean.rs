@@ -3,14 +3,15 @@
 //! does this for several fragments with byte 30 between them, and writes byte 30 after each text;
 //! `page` cleans standard input as a page, and `tree` cleans the tree of that page; `written`
 //! writes what is left of that tree to standard output piece by piece, and `document` prints the
-//! document of what is left of it. `bytes` and `page-bytes` clean standard input in any encoding,
+//! document of what is left of it. `removed` and `removed-body` print what is taken out below the
+//! root of that tree and of its body. `bytes` and `page-bytes` clean standard input in any encoding,
 //! as a fragment and as a page, and print the encoding and the number of errors first.
 
 mod rules;
 
 use dom_clean::{
-    CleanedBytes, Policy, clean, clean_bytes, clean_document, clean_page, clean_page_bytes,
-    clean_tree, write_clean_tree,
+    CleanedBytes, Policy, Removed, clean, clean_bytes, clean_document, clean_page,
+    clean_page_bytes, clean_tree, removed_from_body, removed_from_tree, write_clean_tree,
 };
 use dom_markup::document::Document;
 use dom_markup::serializing::NodeMarkup;
@@ -26,6 +27,8 @@ enum Way {
     Tree,
     Written,
     Document,
+    Removed,
+    RemovedBody,
     Bytes,
     PageBytes,
 }
@@ -55,6 +58,8 @@ fn way_of(word: &str) -> Option<Way> {
         "tree" => Some(Way::Tree),
         "written" => Some(Way::Written),
         "document" => Some(Way::Document),
+        "removed" => Some(Way::Removed),
+        "removed-body" => Some(Way::RemovedBody),
         "bytes" => Some(Way::Bytes),
         "page-bytes" => Some(Way::PageBytes),
         _ => None,
@@ -101,8 +106,27 @@ fn answer_text(rt: &HostRuntime, way: Way, source: &str, policy: &Policy) -> Opt
             let cleaned = clean_document(&document.tree, policy).ok()?;
             print!(rt; "{}", cleaned.root().inner_html().ok()?).ok()
         }
+        Way::Removed => {
+            let document = page_of(rt, source)?;
+            show_removed(rt, removed_from_tree(&document.tree, policy).ok()?)
+        }
+        Way::RemovedBody => {
+            let document = page_of(rt, source)?;
+            show_removed(rt, removed_from_body(&document.tree, policy).ok()?)
+        }
         _ => print!(rt; "{}", clean(rt.alloc(), source, policy).ok()?).ok(),
     }
+}
+
+fn show_removed(rt: &HostRuntime, removed: Vec<Removed>) -> Option<()> {
+    for one in &removed {
+        match one {
+            Removed::Element(name) => println!(rt; "element {name}").ok()?,
+            Removed::Attribute(name) => println!(rt; "attribute {name}").ok()?,
+            Removed::Address(name) => println!(rt; "address {name}").ok()?,
+        }
+    }
+    Some(())
 }
 
 fn page_of(rt: &HostRuntime, source: &str) -> Option<Document> {

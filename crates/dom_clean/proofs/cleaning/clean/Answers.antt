@@ -1,24 +1,14 @@
 use Rattle.std.proofs.Common.{◌≡◌, ℕ, ◌≤◌, Option, None, Some, sym, ap, ◌∙◌, arith}
 use Rattle.std.specs.Prelude.{MatchOption, unwrap_or}
-use Rattle.std.proofs.lemmas.Option.{none-some, same_Some}
 use Rattle.std.proofs.lemmas.Result.{IfOk-weaker}
 use Rattle.dom_links.specs.Forest.{Forest}
 use Rattle.dom_markup.specs.Numbered.{document_of}
-use Rattle.dom_markup.specs.declared.document.Document.{Document}
 use Rattle.dom_clean.specs.Cleaned.{cleaned_below}
 use Rattle.dom_clean.specs.Laws.{left_below, page_of}
 use Rattle.dom_clean.specs.Written.{text_of}
 use Rattle.dom_clean.proofs.Again.{page_read, text_stays}
+use Rattle.dom_clean.proofs.Found.{found_is, found_none}
 use Rattle.dom_clean.proofs.cleaning.clean.Goals as goal
-
--- the document that was found
-found_is : (found : Option Document) (document : Document) (forest : Forest) → found ≡ Some document → MatchOption found ⊥ (λ d. d.tree ≡ forest) → document.tree ≡ forest
-found_is None document forest is holds = absurd holds
-found_is (Some d) document forest is holds = ap (λ (x : Document). x.tree) (sym (same_Some d document is)) ∙ holds
-
-found_none : (found : Option Document) (forest : Forest) → found ≡ None → MatchOption found ⊥ (λ d. d.tree ≡ forest) → ⊥
-found_none None forest is holds = holds
-found_none (Some d) forest is holds = none-some d (sym is)
 
 id_is : (found : Option ℕ) (other : ℕ) → MatchOption found (4294967295 ≤ 5) (λ id. id ≡ 5) → unwrap_or found other ≡ 5
 id_is None other holds = absurd (omega (arith, holds))

@@ -2,15 +2,16 @@
 //! an object whose `@type` names a kind of article. A call that returns a `Result` fails only when
 //! memory runs out.
 
-use crate::faults::Fault;
 use dom_article::Known;
-use dom_query::{Document, NodeRef};
+use dom_markup::document::Document;
+use dom_nodes::fault::OutOfMemory;
+use dom_trees::node_ref::NodeRef;
 use serde_json::{Map, Value};
 use std::alloc::Global;
 
 /// What JSON-LD says of an article.
 #[derive(Drop)]
-pub struct LinkedData {
+pub(crate) struct LinkedData {
     title: Option<String>,
     byline: Option<String>,
     published: Option<String>,
@@ -21,7 +22,7 @@ pub struct LinkedData {
 
 impl LinkedData {
     /// Returns what is known of the article.
-    pub fn known(&self) -> Known<'_> {
+    pub(crate) fn known(&self) -> Known<'_> {
         Known {
             title: text_in(&self.title),
             byline: text_in(&self.byline),
@@ -41,17 +42,16 @@ fn text_in(text: &Option<String>) -> Option<&str> {
 }
 
 /// Returns what the scripts of a page say in JSON-LD.
-pub fn linked_data_of(document: &Document) -> Result<LinkedData, Fault> {
+pub(crate) fn linked_data_of(document: &Document) -> Result<LinkedData, OutOfMemory> {
     let alloc = document.tree.allocator();
     for node in document.root().descendants_it() {
         if !is_linked_data(&node) {
             continue;
         }
         let text = node.text()?;
-        let Ok(value) = Value::from_slice(alloc, text.as_bytes()) else {
-            continue;
-        };
-        if let Some(object) = article_in(&value) {
+        if let Some(value) = value_of(alloc, text.as_str())?
+            && let Some(object) = article_in(&value)
+        {
             return data_of(alloc, object);
         }
     }
@@ -63,6 +63,19 @@ pub fn linked_data_of(document: &Document) -> Result<LinkedData, Fault> {
         description: None,
         image: None,
     })
+}
+
+/// Returns the value that a text is in JSON, or `None` if it is none.
+fn value_of(alloc: Global, text: &str) -> Result<Option<Value>, OutOfMemory> {
+    match Value::from_slice(alloc, text.as_bytes()) {
+        Ok(value) => Ok(Some(value)),
+        Err(fault) => {
+            if fault.is_syntax() || fault.is_eof() {
+                return Ok(None);
+            }
+            Err(OutOfMemory)
+        }
+    }
 }
 
 fn is_linked_data(node: &NodeRef<'_>) -> bool {
@@ -142,7 +155,7 @@ fn names_article(name: &str) -> bool {
         || matches!(name, "Report" | "APIReference")
 }
 
-fn data_of(alloc: Global, object: &Map<String, Value>) -> Result<LinkedData, Fault> {
+fn data_of(alloc: Global, object: &Map<String, Value>) -> Result<LinkedData, OutOfMemory> {
     let mut title = name_of(alloc, object.get("headline"))?;
     if title.is_none() {
         title = name_of(alloc, object.get("name"))?;
@@ -158,7 +171,7 @@ fn data_of(alloc: Global, object: &Map<String, Value>) -> Result<LinkedData, Fau
 }
 
 /// Returns a text, the name of an object, or the names in an array with commas between them.
-fn name_of(alloc: Global, value: Option<&Value>) -> Result<Option<String>, Fault> {
+fn name_of(alloc: Global, value: Option<&Value>) -> Result<Option<String>, OutOfMemory> {
     let mut names = String::new(alloc);
     match value {
         Some(Value::Array(values)) => {
@@ -175,7 +188,7 @@ fn name_of(alloc: Global, value: Option<&Value>) -> Result<Option<String>, Fault
     Ok(Some(names))
 }
 
-fn add_name(names: &mut String, value: &Value) -> Result<(), Fault> {
+fn add_name(names: &mut String, value: &Value) -> Result<(), OutOfMemory> {
     let name = match value {
         Value::Object(object) => object.get("name"),
         other => Some(other),
@@ -190,7 +203,7 @@ fn add_name(names: &mut String, value: &Value) -> Result<(), Fault> {
 }
 
 /// Returns an address: a text, the `url` of an object, or the first address in an array.
-fn address_in(alloc: Global, value: Option<&Value>) -> Result<Option<String>, Fault> {
+fn address_in(alloc: Global, value: Option<&Value>) -> Result<Option<String>, OutOfMemory> {
     let value = match value {
         Some(Value::Array(values)) => values.first(),
         other => other,
