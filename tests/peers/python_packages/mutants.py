@@ -245,7 +245,10 @@ def in_a_process(copied, call, seconds):
         pass
     _, status = os.waitpid(child, 0)
     if answered:
-        return json.loads(answered)
+        try:
+            return json.loads(answered)
+        except ValueError:
+            return "wrote something else"
     return "ended by a signal" if is_ready and os.WIFSIGNALED(status) else "ended" if is_ready else "waits for ever"
 
 
