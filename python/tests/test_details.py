@@ -6,6 +6,7 @@ import io
 import os
 import pathlib
 import pickle
+import re
 import shutil
 import subprocess
 import sys
@@ -402,6 +403,7 @@ class Edits(unittest.TestCase):
     def test_attributes_as_a_mapping(self):
         self.node["id"] = "é"
         self.assertNotIn(self.node.first_child, self.node.attrs)
+        self.assertEqual(["id" in self.node.attrs, "none" in self.node.attrs, "" in self.node.attrs], [True, False, False])
         self.assertIn(self.node.first_child, self.node)
         self.assertEqual(self.node.attrs.get("none", "x"), "x")
         self.assertEqual(self.node.attrs.setdefault("id", "y"), "é")
@@ -448,8 +450,9 @@ class Libraries(unittest.TestCase):
 
     def test_another_version(self):
         text = (self.package / "_library.py").read_text(encoding="utf-8")
-        self.assertEqual(text.count('VERSION = "1.0.0"'), 1)
-        (self.package / "_library.py").write_text(text.replace('VERSION = "1.0.0"', 'VERSION = "9.8.7"'), encoding="utf-8")
+        text, count = re.subn(r"(?m)^VERSION = .*$", "VERSION = '9.8.7'", text)
+        self.assertEqual(count, 1)
+        (self.package / "_library.py").write_text(text, encoding="utf-8")
         said = self.printed(DOM_QUERY_LIBRARY=self.path())
         self.assertEqual(
             said, f"ImportError: dom_query 9.8.7 can't use version 1.0.0 of its shared library, {self.path()}. Run ./install-c again."
