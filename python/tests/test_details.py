@@ -6,11 +6,14 @@ import io
 import os
 import pathlib
 import pickle
+import re
 import shutil
 import subprocess
 import sys
 import tempfile
 import unittest
+import unittest.mock
+import weakref
 
 import dom_query
 from dom_query import DomError, EditError, MarkupError, NodeError, PageReader, Policy, PolicyError, SelectorError
@@ -92,7 +95,12 @@ class Said(unittest.TestCase):
         self.said(TypeError, wanted, lambda: Policy(attributes=["id"]))
         wanted = "tag_attribute_values['b'] is a dict from names of elements, or '*' for every element, and not ['id']"
         self.said(TypeError, wanted, lambda: Policy(tag_attribute_values={"b": ["id"]}))
+        wanted = wanted.replace("['b']", "")
+        self.said(TypeError, wanted, lambda: Policy(tag_attribute_values=["id"]))
         self.said(TypeError, "attributes is a dict from names of elements, and 5 is none", lambda: Policy(attributes={5: {"id"}}))
+        self.said(TypeError, "attributes['b'] is a set of names, and not 'id'", lambda: Policy(attributes={"b": "id"}))
+        self.said(TypeError, "attributes['b'] is a set of names, and 5 is none", lambda: Policy(attributes={"b": {5}}))
+        self.said(TypeError, "tag_attribute_values['b']['id'] is a set of names, and not 'x'", lambda: Policy(tag_attribute_values={"b": {"id": "x"}}))
         wanted = "classes is None or has a class; for no class at all, leave class out of attributes"
         self.said(ValueError, wanted, lambda: Policy(classes=()))
         wanted = "no page can have the element '<b>', which attributes has"
@@ -218,6 +226,39 @@ class Memory(unittest.TestCase):
                     use()
                 gc.collect()
                 self.assertLess(used() - before, 200_000)
+        kept = [it.room for it in (*library._strings, *library._nodes, *library._pieces)]
+        self.assertLessEqual(max([0, *kept, *(it.joined.room for it in library._pieces)]), library.KEPT)
+
+    def test_none_is_left(self):
+        """Where the library finds no memory, or too many nodes, that is what is raised, and nothing comes back half read."""
+        reader, page = PageReader(), dom_query.parse("<p>")
+        uses = {
+            "dq_parse_page": lambda: dom_query.parse("<p>"),
+            "dq_parse_bytes": lambda: dom_query.parse(b"<p>"),
+            "dq_parse": lambda: dom_query.parse_strict("<p></p>"),
+            "dq_parse_fragment": lambda: dom_query.parse_fragment("<p>"),
+            "dq_reader_begin": PageReader,
+            "dq_reader_feed": lambda: reader.feed(b"<p>"),
+            "dq_reader_end": reader.finish,
+            "dq_policy_empty": Policy,
+            "dq_matches": lambda: dom_query.Selector("p"),
+            "dq_select": lambda: page.select("p"),
+            "dq_text": lambda: page.text,
+            "dq_select_texts": lambda: page.select_texts("p"),
+            "dq_html": lambda: page.html_bytes(),
+            "dq_new_text": lambda: page.new_text("a"),
+            "dq_clean": lambda: dom_query.clean("<p>"),
+        }
+        dom_query.clean("")
+        for name, use in uses.items():
+            for code, kind in ((library.MEMORY, MemoryError), (library.TOO_MANY_NODES, dom_query.LimitError)):
+                refusing = lambda *_, code=code: code
+                with unittest.mock.patch.object(library.lib, name, refusing), unittest.mock.patch.object(library.unlocked, name, refusing):
+                    with self.subTest(call=name, code=code), self.assertRaises(kind):
+                        use()
+        with unittest.mock.patch.object(library.lib, "dq_parse", lambda *_: library.MEMORY), unittest.mock.patch("dom_query.selector._blank", []):
+            with self.assertRaises(MemoryError):
+                dom_query.Selector("p")
 
 
 class Codes(unittest.TestCase):
@@ -336,9 +377,33 @@ class Edits(unittest.TestCase):
                 self.document.new_element("p", attrs)
         self.assertEqual(self.document.new_text("").number, made + 1)
 
+    def test_texts_at_the_root(self):
+        root = self.document.root
+        root.append("after")
+        root.prepend("before")
+        self.assertEqual(self.document.html, "before<div><script></script><p>a</p></div>after")
+        text = root.first_child
+        self.assertEqual([self.refused(-10, use, "x") for use in (text.append, text.prepend)], [0, 0])
+        self.assertEqual([self.refused(-11, use, "x") for use in (root.before, root.after, root.replace_with)], [0, 0, 0])
+
+    def test_what_is_referred_to_weakly(self):
+        for thing in (dom_query.parse("<p>"), self.node, PageReader(), Policy()):
+            kept = weakref.ref(thing)
+            self.assertIs(kept(), thing)
+            with self.assertRaises(AttributeError):
+                thing.frobnicate = 1
+
+    def test_policies_beside_other_things(self):
+        policy = Policy(tags={"b"})
+        self.assertEqual([policy == other for other in (5, None, "Policy()", Policy(), Policy(tags={"b"}))], [False, False, False, False, True])
+        with self.assertRaises(PolicyError) as caught:
+            Policy(tags={"X@[Z"})
+        self.assertEqual((caught.exception.code, caught.exception.name), (-50, "x@[z"))
+
     def test_attributes_as_a_mapping(self):
         self.node["id"] = "é"
         self.assertNotIn(self.node.first_child, self.node.attrs)
+        self.assertEqual(["id" in self.node.attrs, "none" in self.node.attrs, "" in self.node.attrs], [True, False, False])
         self.assertIn(self.node.first_child, self.node)
         self.assertEqual(self.node.attrs.get("none", "x"), "x")
         self.assertEqual(self.node.attrs.setdefault("id", "y"), "é")
@@ -385,8 +450,9 @@ class Libraries(unittest.TestCase):
 
     def test_another_version(self):
         text = (self.package / "_library.py").read_text(encoding="utf-8")
-        self.assertEqual(text.count('VERSION = "1.0.0"'), 1)
-        (self.package / "_library.py").write_text(text.replace('VERSION = "1.0.0"', 'VERSION = "9.8.7"'), encoding="utf-8")
+        text, count = re.subn(r"(?m)^VERSION = .*$", "VERSION = '9.8.7'", text)
+        self.assertEqual(count, 1)
+        (self.package / "_library.py").write_text(text, encoding="utf-8")
         said = self.printed(DOM_QUERY_LIBRARY=self.path())
         self.assertEqual(
             said, f"ImportError: dom_query 9.8.7 can't use version 1.0.0 of its shared library, {self.path()}. Run ./install-c again."

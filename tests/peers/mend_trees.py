@@ -9,6 +9,7 @@
 - "in table body", a template ends the scope in which a `tbody`, `thead` or `tfoot` is looked for;
 - `feDropShadow` is an SVG element;
 - in foreign content, each null character is replaced by one U+FFFD, also where several are side by side;
+- where the insertion mode is reset, an SVG or MathML element isn't taken for the HTML element of that name;
 - in foreign content of a fragment, an end tag for which only the topmost element is left is processed by the current insertion mode.
 
 table_rows.py knows of two more: parse5 7.1.2 doesn't know the element `search`, and has the rules of `select` that the Standard had until
@@ -28,6 +29,14 @@ CHANGES = {
             "    for (let i = p.openElements.stackTop; i > 0; i--) {\n        const element = p.openElements.items[i];\n        if (p.treeAdapter.getNamespaceURI",
             "    for (let i = p.openElements.stackTop; i > 0 || (i === 0 && p.openElements.stackTop > 0); i--) {\n"
             "        const element = p.openElements.items[i];\n        if (p.treeAdapter.getNamespaceURI",
+        ),
+        (
+            "            switch (i === 0 && this.fragmentContext ? this.fragmentContextID : this.openElements.tagIDs[i]) {\n"
+            "                case html_js_1.TAG_ID.TR: {\n",
+            "            const inFragment = i === 0 && this.fragmentContext;\n"
+            "            const isHTML = this.treeAdapter.getNamespaceURI(inFragment ? this.fragmentContext : this.openElements.items[i]) === html_js_1.NS.HTML;\n"
+            "            switch (!isHTML ? html_js_1.TAG_ID.UNKNOWN : inFragment ? this.fragmentContextID : this.openElements.tagIDs[i]) {\n"
+            "                case html_js_1.TAG_ID.TR: {\n",
         ),
         ("    token.chars = unicode.REPLACEMENT_CHARACTER;\n", "    token.chars = unicode.REPLACEMENT_CHARACTER.repeat(token.chars.length);\n"),
         ("        this.currentNotInHTML = !isHTML;\n", "        this.currentNotInHTML = !isHTML;\n        this.tokenizer.allowsCdata = !isHTML;\n"),

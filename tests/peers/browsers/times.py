@@ -1,14 +1,14 @@
 """Times of Chromium's own `DOMParser`, `outerHTML`, `textContent` and `querySelectorAll` on pages. Outside the gate.
 
-    times.py PAGE..     prints for each page, read as UTF-8, and each call the best and the middle of nine runs in milliseconds, and how many
-                        characters or elements it answered
+    times.py PAGE..     prints for each page, read as UTF-8, and each call the best and the middle of nine runs in milliseconds, those of the
+                        library, and how many characters (the library: bytes) or elements they answered
 
 Chromium is Debian's package, as in ask.py. It has no window; the text of the page is there before a run begins, what an earlier run left is
-collected before the next one, and the page that measures is isolated from other origins, so that its clock tells 5 microseconds. A run is
-measured by that clock, so other work on the machine makes it longer: the middle beside the best says by how much.
+collected before the next one, and the page that measures is isolated from other origins, so that its clock tells 5 microseconds. Times are those of
+a clock, so other work on the machine makes a run longer: the middle beside the best says by how much.
 
-Where CALLS names a program like tests/programs/out/test_calls, its part `times` measures the library's own calls on the same page (which must
-be explicit markup), after Chromium has ended: the best of nine runs, and what it counted."""
+Where the Python package finds its library (by DOM_QUERY_LIBRARY, say), the library's own calls are measured on the same page after Chromium has ended, by
+processor time: dq_parse_page with a depth of 512, as in browsers, dq_html, dq_text and dq_select."""
 import json
 import os
 import pathlib
@@ -17,8 +17,11 @@ import subprocess
 import sys
 import tempfile
 import threading
+import time
 
 import ask
+
+sys.path.insert(0, str(pathlib.Path(__file__).resolve().parents[3] / "python"))
 
 RUNS = 9
 SELECTORS = [
@@ -31,8 +34,6 @@ SELECTORS = [
     "li ~ li",
     "dt + dd a",
 ]
-# What the test program calls what Chromium does.
-OURS = {"DOMParser": "page", "outerHTML": "html", "textContent": "text"}
 PAGE = """<!doctype html><meta charset="utf-8"><script>
 const measured = (call) => {
   const times = [];
@@ -48,22 +49,20 @@ const measured = (call) => {
 };
 (async () => {
   const text = await (await fetch("/text")).text();
-  const found = {};
   const [times, page] = measured(() => new DOMParser().parseFromString(text, "text/html"));
-  found["DOMParser"] = [times, text.length];
-  const ways = { outerHTML: (top) => top.outerHTML, textContent: (top) => top.textContent };
-  for (const [name, way] of Object.entries(ways)) {
-    const [times, answer] = measured(() => way(page.documentElement));
+  const found = { DOMParser: [times, text.length] };
+  const calls = { outerHTML: () => page.documentElement.outerHTML, textContent: () => page.documentElement.textContent };
+  for (const selector of SELECTORS) calls[selector] = () => page.querySelectorAll(selector);
+  for (const [name, call] of Object.entries(calls)) {
+    const [times, answer] = measured(call);
     found[name] = [times, answer.length];
-  }
-  for (const selector of SELECTORS) {
-    const [times, answer] = measured(() => page.querySelectorAll(selector));
-    found[selector] = [times, answer.length];
   }
   await fetch("/found", { method: "POST", body: JSON.stringify([found, crossOriginIsolated]) });
 })();
 </script>""".replace("RUNS", str(RUNS)).replace("SELECTORS", json.dumps(SELECTORS))
 CHROMIUM = [*ask.BROWSERS["chromium"][:-1], "--js-flags=--expose-gc", "{page}"]
+# A browser of the superuser would raise its own priority; without this capability it can't.
+STARTED = [] if os.getuid() else ["setpriv", "--bounding-set", "-sys_nice", "--inh-caps", "-sys_nice"]
 
 
 class Handler(ask.Handler):
@@ -84,39 +83,52 @@ def measured(text, seconds=900):
     server = ask.Server(("127.0.0.1", 0), Handler)
     server.text, server.trees, server.done = text, None, threading.Event()
     threading.Thread(target=server.serve_forever, daemon=True).start()
-    try:
-        with tempfile.TemporaryDirectory(ignore_cleanup_errors=True) as room:
-            words = [it.format(room=room, page=f"http://127.0.0.1:{server.server_port}/") for it in CHROMIUM]
-            started = subprocess.Popen(words, stdout=subprocess.DEVNULL, stderr=subprocess.DEVNULL, env={**os.environ, "HOME": room})
-            try:
-                if not server.done.wait(seconds):
-                    sys.exit("Chromium didn't answer")
-            finally:
-                started.kill()
-                started.wait()
-    finally:
-        server.shutdown()
+    with tempfile.TemporaryDirectory(ignore_cleanup_errors=True) as room:
+        words = [it.format(room=room, page=f"http://127.0.0.1:{server.server_port}/") for it in CHROMIUM]
+        started = subprocess.Popen([*STARTED, *words], stdout=subprocess.DEVNULL, stderr=subprocess.DEVNULL, env={**os.environ, "HOME": room})
+        try:
+            if not server.done.wait(seconds):
+                sys.exit("Chromium didn't answer")
+        finally:
+            started.kill()
+            started.wait()
+            server.shutdown()
     return server.trees
 
 
-def of_calls(page, name):
-    """The best time of the library's call in milliseconds, and what it counted, as the test program says it."""
-    if "CALLS" not in os.environ:
-        return ""
-    words = ["times", *([OURS[name], str(RUNS)] if name in OURS else ["select", str(RUNS), name])]
-    with open(page, "rb") as given:
-        ran = subprocess.run([os.environ["CALLS"], *words], stdin=given, stdout=subprocess.PIPE, text=True)
-    took, counted = ran.stdout.split()[-2:] if ran.stdout else (0, "nothing")
-    return f"; here {int(took) / 1e6:.3f}: {counted}"
+def ours(text):
+    """The same of the library: for each call its times in milliseconds and what it answers, a number of bytes or of nodes."""
+    try:
+        from dom_query import _library as library
+    except ImportError as fault:
+        print(f"the library is left out: {fault}")
+        return {}
+    lib, page, string, nodes = library.unlocked, library.Handle(), library.String(), library.Nodes()
+    calls = {
+        "DOMParser": lambda: lib.dq_parse_page(page, text, len(text), 512),
+        "outerHTML": lambda: lib.dq_html(page, 0, string),
+        "textContent": lambda: lib.dq_text(page, 0, string),
+        **{it: lambda it=it.encode(): lib.dq_select(page, 0, it, len(it), nodes) for it in SELECTORS},
+    }
+    found = {}
+    for name, call in calls.items():
+        times = []
+        for _ in range(RUNS):
+            begun = time.thread_time()
+            answer = call()
+            times.append((time.thread_time() - begun) * 1000)
+        found[name] = times, answer
+    return found
 
 
 def main(pages):
     for page in pages:
         text = pathlib.Path(page).read_bytes().decode("utf-8", "replace").encode()
-        found, is_fine = measured(text)
+        (found, is_fine), here = measured(text), ours(text)
         print(f"{page}: {len(text)} bytes{'' if is_fine else ', by the coarse clock'}")
         for name, (times, size) in found.items():
-            print(f"  {min(times):9.3f} {statistics.median(times):9.3f}  {name}: {size}{of_calls(page, name)}", flush=True)
+            both = [f"{min(it):9.3f} {statistics.median(it):9.3f}" for it in (times, here.get(name, [[0]])[0])]
+            print(f"  {'  '.join(both)}  {name}: {size} {here[name][1] if name in here else ''}", flush=True)
 
 
 if __name__ == "__main__":

@@ -9,7 +9,7 @@ It needs the shared library in python/dom_query, where ./install-c puts it, or i
 observed first, and kept in FOLDER/calls.json for as long as the package and its tests are the same.
 
 A wrong body leaves out a statement, turns a condition, takes one part of a condition, another comparison, number, text or name of a
-constant, or returns None. wrong_bodies.txt names those that a user can't notice, with the reason; they are not run."""
+constant, or returns None. wrong_bodies.txt names those that a user can't notice, with the reason: `show` doesn't print them where they survive."""
 import ast
 import collections
 import hashlib
@@ -61,7 +61,7 @@ class Mutants(ast.NodeVisitor):
         shown = node if isinstance(field, str) or field[0] not in ("body", "orelse", "finalbody") else getattr(node, field[0])[field[1]]
         text = ast.unparse(shown).splitlines()[0][:90]
         begins = self.begins[-1] if self.begins else None
-        where = {"file": self.name, "line": shown.lineno, "at": len(self.found), "function": ".".join(self.within), "begins": begins, "defines": self.defines}
+        where = {"file": self.name, "line": shown.lineno, "at": len(self.found), "function": ".".join(self.within) or self.defines, "begins": begins, "defines": self.defines}
         self.found.append({**where, "kind": kind, "text": text, "source": source})
 
     def visit_FunctionDef(self, node):
@@ -135,7 +135,7 @@ class Mutants(ast.NodeVisitor):
 
 
 def known():
-    """What is not run: file, function, kind and text of each, with the reason."""
+    """What no user can notice: file, function, kind and text of each, with the reason."""
     lines = KNOWN.read_text(encoding="utf-8").splitlines() if KNOWN.exists() else []
     return [line.split(" | ") for line in lines if line and not line.startswith("#")]
 
@@ -245,7 +245,10 @@ def in_a_process(copied, call, seconds):
         pass
     _, status = os.waitpid(child, 0)
     if answered:
-        return json.loads(answered)
+        try:
+            return json.loads(answered)
+        except ValueError:
+            return "wrote something else"
     return "ended by a signal" if is_ready and os.WIFSIGNALED(status) else "ended" if is_ready else "waits for ever"
 
 
@@ -303,12 +306,12 @@ def run(folder, part, of):
     done = outcomes(folder)
     with open(folder / f"outcome{part}.jsonl", "a", encoding="utf-8") as kept:
         for mutant in made()[part::of]:
-            name, why = name_of(mutant, trials.of), reason(mutant)
-            if name in done or why:
+            name = name_of(mutant, trials.of)
+            if name in done:
                 continue
             shown = trials.shown(mutant)
             print(json.dumps({"name": name, "shown": shown}), file=kept, flush=True)
-            if not shown:
+            if not shown and not reason(mutant):
                 print(name, flush=True)
 
 
@@ -318,7 +321,7 @@ def show(folder):
     counts, survivors = collections.Counter(), []
     for mutant in made():
         name = name_of(mutant, "").rpartition(" | ")[0]
-        kind = "named" if reason(mutant) else "not run" if name not in done else "shown" if done[name] else "survive"
+        kind = "not run" if name not in done else "shown" if done[name] else "named" if reason(mutant) else "survive"
         counts[kind] += 1
         survivors += [name] if kind == "survive" else []
     print(f"{sum(counts.values())} wrong bodies: {dict(counts)}")
