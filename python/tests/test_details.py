@@ -227,8 +227,8 @@ class Memory(unittest.TestCase):
                     use()
                 gc.collect()
                 self.assertLess(used() - before, 200_000)
-        kept = [it.room for it in (*library._strings, *library._nodes, *library._pieces)]
-        self.assertLessEqual(max([0, *kept, *(it.joined.room for it in library._pieces)]), library.KEPT)
+                kept = [it.room for it in (*library._strings, *library._nodes, *library._pieces)]
+                self.assertLessEqual(max([0, *kept, *(it.joined.room for it in library._pieces)]), library.KEPT)
 
     def test_none_is_left(self):
         """Where the library finds no memory, or too many nodes, that is what is raised, and nothing comes back half read."""
