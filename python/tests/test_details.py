@@ -214,6 +214,7 @@ class Memory(unittest.TestCase):
             "bytes": page.html_bytes,
             "nodes": lambda: library.numbers_of(lib.dq_select, handle, 0, b"b", 1),
             "texts": lambda: library.texts_of(lib.dq_select_texts, handle, 0, b"b", 1),
+            "texts that aren't there": lambda: library.texts_of(lib.dq_select_attrs, handle, 0, b"b", 1, b"id", 2),
             "a long text in a list": lambda: page.select_texts("p"),
         }
         for name, use in uses.items():
@@ -226,8 +227,8 @@ class Memory(unittest.TestCase):
                     use()
                 gc.collect()
                 self.assertLess(used() - before, 200_000)
-        kept = [it.room for it in (*library._strings, *library._nodes, *library._pieces)]
-        self.assertLessEqual(max([0, *kept, *(it.joined.room for it in library._pieces)]), library.KEPT)
+                kept = [it.room for it in (*library._strings, *library._nodes, *library._pieces)]
+                self.assertLessEqual(max([0, *kept, *(it.joined.room for it in library._pieces)]), library.KEPT)
 
     def test_none_is_left(self):
         """Where the library finds no memory, or too many nodes, that is what is raised, and nothing comes back half read."""
@@ -361,6 +362,19 @@ class Edits(unittest.TestCase):
         self.assertEqual((text.text, text.html, text.html_bytes(), text.markdown, text.classes, text.children), ("", "", b"", "", [], []))
         self.assertEqual(dom_query.parse_fragment("").html_bytes(), dom_query.parse_fragment("").html.encode())
         self.assertEqual(dom_query.parse_strict("").html_bytes(), b"")
+
+    def test_what_other_raw_elements_hold(self):
+        for name in ("style", "xmp", "iframe", "noembed", "noframes"):
+            node = self.document.new_element(name)
+            node.text = "<!--<script> "
+            self.assertEqual(dom_query.parse_fragment(node.html).select_one(name).text, "<!--<script> ")
+
+    def test_what_stands_in_the_document(self):
+        top = self.document.root.first_child
+        inside = [self.document.root, top, self.node, self.node.first_child]
+        self.assertEqual([it in self.document for it in inside], [True] * 4)
+        top.remove()
+        self.assertEqual([it in self.document for it in inside], [True, False, False, False])
 
     def test_what_plaintext_holds(self):
         self.node.name = "plaintext"
