@@ -7,7 +7,8 @@ own calls. The cost is the processor time of the calls, without the start of Pyt
 The package must find its library: beside it, where ./install-c puts it, or by DOM_QUERY_LIBRARY. GROWTH_N=n sets the smallest size.
 
 `hq --count` is `select` here, `--text` and `--html` are `select_texts` and `select_html`, `--md` is `markdown` of each node, `--json` its
-name, attributes and text, `--sanitize` is `clean`. The package has no call for `--tree` and `--article`: there all nodes are gone through.
+name, attributes and text, `--sanitize` is `clean`, and so would be the patterns of the call `clean`, which are left out. `--article` is `article`. The
+package has no call for `--tree`: there all nodes are gone through.
 
 `growth()` is the part of it that runs in `check`, as in growth.py: four times the input must take less than MOST times as long."""
 import functools
@@ -20,7 +21,7 @@ import sys
 import time
 
 sys.path.insert(0, str(pathlib.Path(__file__).resolve().parent))
-from growth import MOST, PATTERNS, SMALL, STEEP, TRIES, is_known  # noqa: E402
+from growth import CALL, MOST, PATTERNS, SMALL, STEEP, TRIES, is_known  # noqa: E402
 
 PACKAGE = pathlib.Path(__file__).resolve().parents[2] / "python"
 # Seconds of processor time below which a time says nothing. (No process is started for a pattern.)
@@ -55,7 +56,7 @@ CALLS = {
     "--json": lambda document, selectors: [(node.name, dict(node.attrs), node.text) for node in document.select(selectors)],
     "--remove": without,
     "--tree": gone_through,
-    "--article": gone_through,
+    "--article": lambda document, *_: document.article(),
 }
 
 
@@ -196,7 +197,7 @@ OWN = {
     "pieces: half a tag": fed(b"<p a=b c=d"),
     "cleaning: a document": of_page(items, lambda document: __import__("dom_query").clean(document)),
 }
-ALL = {**{name: functools.partial(asked, *pattern) for name, pattern in PATTERNS.items()}, **OWN}
+ALL = {**{name: functools.partial(asked, *pattern) for name, pattern in PATTERNS.items() if pattern[1] != CALL}, **OWN}
 
 
 def seconds(call):
