@@ -16,7 +16,7 @@ use Rattle.standard_tokens.specs.Tokens.{Attr, Doctype as StandardDoctype, Token
 use Rattle.page_tokens.specs.PageLaws.{CallsReadTexts, CallsReadTokens, CharactersAreTold, IsAnswered, PagesBegin, PagesEnd, TextsAreRead, TokensAreRead}
 use Rattle.page_tokens.specs.Reading.{text_of}
 use Rattle.page_tokens.specs.Standard.{AreAttrs, Goes, stays, steps, Held, Holds, IsAttr, IsDoctype, IsLast, IsTag, MaySpell, ReferenceHeld, Stands, Stops, Told}
-use Rattle.page_tokens.specs.StandardPages.{BehindText, EmitsLast, Finishes, HasRead, IsAt, IsForeignNow, IsOfPage, IsTextState, lacks_cdata, ReadsText, told_or}
+use Rattle.page_tokens.specs.StandardPages.{BehindText, EmitsLast, Finishes, HasRead, IsAt, IsForeignNow, IsOfPage, IsTextState, KeepsFlag, lacks_cdata, ReadsText, told_or}
 use Rattle.page_tokens.specs.StandardStates.{attr_state_of, cdata_state_of, comment_state_of, doctype_state_of, end_tag_state_of, script_state_of, state_in, state_of, tag_state_of}
 use Rattle.page_tokens.specs.declared.attribute.TagAttr.{TagAttr}
 use Rattle.page_tokens.specs.declared.token.Doctype.{Doctype}
@@ -48,7 +48,7 @@ use Rattle.page_tokens.specs.declared.tokenizer.state.State.TheVariants as state
 use Rattle.page_tokens.specs.declared.tokenizer.state.TagState.{TagState}
 use Rattle.page_tokens.specs.declared.tokenizer.state.TagState.TheVariants as tag
 use Rattle.page_tokens.proofs.ForeignFlag.{lacks_rest, same_step}
-use Rattle.page_tokens.proofs.LastSteps.{IsOne, Splits, goes_split, head_of, is_data, nil_cons, step_split, tail_of}
+use Rattle.page_tokens.proofs.LastSteps.{IsOne, Splits, head_of, is_data, nil_cons, step_split, tail_of}
 use Rattle.page_tokens.proofs.PageTexts.{told_one}
 use Rattle.page_tokens.proofs.Placed.{beside, holds_on, stands_beside}
 use Rattle.page_tokens.proofs.TextFollows.{map_append}
@@ -264,21 +264,28 @@ parts_of (t ∷ ts) us (c ∷ cs) e =
     let more : Parts ts us cs = parts_of ts us cs tail in
     record { first = c ∷ more.first; second = more.second; front = ap (λ x. x ∷ ts) head ∙ ap (λ xs. AChar c ∷ xs) more.front; back = more.back; all = ap (λ xs. c ∷ xs) more.all }
 
--- the flag stays behind characters, or it doesn't matter
-abbrev Stays : Bool → Feedback → Bool → List ℕ → List StandardToken → Type 0
-Stays true f b text seen = (cs : List ℕ) → f.in_foreign (seen ++ map AChar cs) ≡ b
-Stays false f b text seen = lacks_cdata text ≡ true
+-- what was read is of the page, and so is what is left
+reads_split : {f : Feedback} {r q : Reader} → Reads f r q → Splits r.text q.text
+reads_split here = record { front = []; is = refl }
+reads_split {f} {r} {q} (next s is runs reads) =
+    let one : Splits r.text s.rest = subst (λ (s : Step). Splits r.text s.rest) is (step_split (f.in_foreign r.seen) r.machine r.text) in
+    let more : Splits s.rest q.text = reads_split reads in
+    record { front = one.front ++ more.front; is = one.is ∙ ap (λ r. one.front ++ r) more.is ∙ sym (append_assoc one.front more.front q.text) }
 
-seen_on : (f : Feedback) (seen : List StandardToken) (b : Bool) (cs : List ℕ) → ((ds : List ℕ) → f.in_foreign (seen ++ map AChar ds) ≡ b) → (ds : List ℕ) → f.in_foreign ((seen ++ map AChar cs) ++ map AChar ds) ≡ b
-seen_on f seen b cs stay ds = ap f.in_foreign (append_assoc seen (map AChar cs) (map AChar ds) ∙ ap (λ ts. seen ++ ts) (sym (map_append AChar cs ds))) ∙ stay (cs ++ ds)
+-- the flag is told and stays behind characters, or it doesn't matter
+abbrev Stays : Bool → Feedback → Bool → Reader → Type 0
+Stays true f b r = (f.in_foreign r.seen ≡ b) × KeepsFlag f r
+Stays false f b r = lacks_cdata r.text ≡ true
 
-stays_on : (cdata : Bool) (f : Feedback) (b : Bool) (text rest : List ℕ) (seen : List StandardToken) (cs : List ℕ) → Splits text rest → Stays cdata f b text seen → Stays cdata f b rest (seen ++ map AChar cs)
-stays_on true f b text rest seen cs split stay = seen_on f seen b cs stay
-stays_on false f b text rest seen cs split stay = lacks_rest split.front rest (subst (λ t. lacks_cdata t ≡ true) split.is stay)
+stays_on : (cdata : Bool) (f : Feedback) (b : Bool) (r q : Reader) (cs : List ℕ) → Reads f r q → q.seen ≡ r.seen ++ map AChar cs → Stays cdata f b r → Stays cdata f b q
+stays_on true f b r q cs reads e stay = (stay.1 q r.seen cs reads e ∙ stay.0, λ p seen ds more is. stay.1 p seen ds (go_on reads more) is)
+stays_on false f b r q cs reads e stay =
+    let split : Splits r.text q.text = reads_split reads in
+    lacks_rest split.front q.text (subst (λ t. lacks_cdata t ≡ true) split.is stay)
 
-step_now : (cdata : Bool) (f : Feedback) (b : Bool) (text : List ℕ) (seen : List StandardToken) → Stays cdata f b text seen → (m : Machine) → step (f.in_foreign seen) m text ≡ step b m text
-step_now true f b text seen stay m = ap (λ x. step x m text) (ap f.in_foreign (sym (append-nil seen)) ∙ stay [])
-step_now false f b text seen stay m = same_step (f.in_foreign seen) b m text stay
+step_now : (cdata : Bool) (f : Feedback) (b : Bool) (r : Reader) → Stays cdata f b r → step (f.in_foreign r.seen) r.machine r.text ≡ step b r.machine r.text
+step_now true f b r stay = ap (λ x. step x r.machine r.text) stay.0
+step_now false f b r stay = same_step (f.in_foreign r.seen) b r.machine r.text stay
 
 nothing_seen : (cs : List ℕ) → [] ≡ map AChar cs → cs ≡ []
 nothing_seen [] e = refl
@@ -287,20 +294,21 @@ nothing_seen (c ∷ cs) e = absurd (nil_cons (AChar c) (map AChar cs) e)
 here_on : {f : Feedback} {m : Machine} {text : List ℕ} (seen all : List StandardToken) → seen ≡ all → Reads f (reader m text seen) (reader m text all)
 here_on {f} {m} {text} seen all e = subst (λ ts. Reads f (reader m text seen) (reader m text ts)) e here
 
-quiet : (cdata : Bool) (f : Feedback) → IsFeedback f → {b : Bool} {m n : Machine} {text rest : List ℕ} {ts : List StandardToken} → Goes b m text ts n rest → (seen : List StandardToken) (cs : List ℕ) → ts ≡ map AChar cs → Stays cdata f b text seen →
+quiet : (cdata : Bool) (f : Feedback) → IsFeedback f → {b : Bool} {m n : Machine} {text rest : List ℕ} {ts : List StandardToken} → Goes b m text ts n rest → (seen : List StandardToken) (cs : List ℕ) → ts ≡ map AChar cs → Stays cdata f b (reader m text seen) →
     Reads f (reader m text seen) (reader n rest (seen ++ map AChar cs))
 quiet cdata f honest stays seen cs e stay = here_on seen (seen ++ map AChar cs) (sym (append-nil seen) ∙ ap (λ ds. seen ++ map AChar ds) (sym (nothing_seen cs e)))
 quiet cdata f honest {b} {m} {n} {text} {rest} {ts} (steps {tokens = later} s is runs goes) seen cs e stay =
     let parts : Parts s.tokens later cs = parts_of s.tokens later cs e in
     let now : List StandardToken = seen ++ map AChar parts.first in
-    let more : Reads f (reader s.machine s.rest now) (reader n rest (now ++ map AChar parts.second)) =
-    quiet cdata f honest goes now parts.second parts.back (stays_on cdata f b text s.rest seen parts.first (subst (λ (s : Step). Splits text s.rest) is (step_split b m text)) stay) in
     let same : after f (reader m text seen) s ≡ reader s.machine s.rest now =
     ap (λ ts. reader (answered f seen ts s.machine) s.rest (seen ++ ts)) parts.front ∙ ap (λ k. reader k s.rest now) (none_answered f honest seen parts.first s.machine) in
+    let one : Reads f (reader m text seen) (reader s.machine s.rest now) =
+    subst (λ r. Reads f (reader m text seen) r) same (next s (step_now cdata f b (reader m text seen) stay ∙ is) runs here) in
+    let more : Reads f (reader s.machine s.rest now) (reader n rest (now ++ map AChar parts.second)) =
+    quiet cdata f honest goes now parts.second parts.back (stays_on cdata f b (reader m text seen) (reader s.machine s.rest now) parts.first one refl stay) in
     let all : now ++ map AChar parts.second ≡ seen ++ map AChar cs =
     append_assoc seen (map AChar parts.first) (map AChar parts.second) ∙ ap (λ ts. seen ++ ts) (sym (map_append AChar parts.first parts.second)) ∙ ap (λ ds. seen ++ map AChar ds) (sym parts.all) in
-    next s (step_now cdata f b text seen stay m ∙ is) runs
-    (subst (λ r. Reads f r (reader n rest (seen ++ map AChar cs))) (sym same) (subst (λ ts. Reads f (reader s.machine s.rest now) (reader n rest ts)) all more))
+    go_on one (subst (λ ts. Reads f (reader s.machine s.rest now) (reader n rest ts)) all more)
 
 -- ---- the beginning
 
@@ -316,26 +324,19 @@ begins cdata f first t fresh empty holds = λ rest page. record {
 
 -- ---- a text
 
--- what was read is of the page, and so is what is left
-reads_split : {f : Feedback} {r q : Reader} → Reads f r q → Splits r.text q.text
-reads_split here = record { front = []; is = refl }
-reads_split {f} {r} {q} (next s is runs reads) =
-    let one : Splits r.text s.rest = subst (λ (s : Step). Splits r.text s.rest) is (step_split (f.in_foreign r.seen) r.machine r.text) in
-    let more : Splits s.rest q.text = reads_split reads in
-    record { front = one.front ++ more.front; is = one.is ∙ ap (λ r. one.front ++ r) more.is ∙ sym (append_assoc one.front more.front q.text) }
-
-stays_at : (cdata : Bool) (f : Feedback) (b : Bool) (first : StandardState) (page text : List ℕ) (m : Machine) (told : List StandardToken) (kept : List ℕ) → IsForeignNow cdata f told b → IsOfPage cdata page →
-    Reads f (reader (start_in first) page []) (reader m text (told ++ map AChar kept)) → Stays cdata f b text (told ++ map AChar kept)
-stays_at true f b first page text m told kept stay of reads = seen_on f told b kept stay
+stays_at : (cdata : Bool) (f : Feedback) (b : Bool) (first : StandardState) (page text : List ℕ) (m : Machine) (told : List StandardToken) (kept : List ℕ) → IsForeignNow cdata f told b → IsOfPage cdata f first page →
+    Reads f (reader (start_in first) page []) (reader m text (told ++ map AChar kept)) → Stays cdata f b (reader m text (told ++ map AChar kept))
+stays_at true f b first page text m told kept stay of reads =
+    (of (reader m text (told ++ map AChar kept)) told kept reads refl ∙ stay, λ q seen cs more e. of q seen cs (go_on reads more) e)
 stays_at false f b first page text m told kept stay of reads =
     let split : Splits page text = reads_split reads in
     lacks_rest split.front text (subst (λ t. lacks_cdata t ≡ true) split.is of)
 
-of_more : (cdata : Bool) (read more rest : List ℕ) → IsOfPage cdata (normalized ((read ++ more) ++ rest)) → IsOfPage cdata (normalized (read ++ (more ++ rest)))
-of_more cdata read more rest of = subst (λ text. IsOfPage cdata (normalized text)) (append_assoc read more rest) of
+of_more : (cdata : Bool) (f : Feedback) (first : StandardState) (read more rest : List ℕ) → IsOfPage cdata f first (normalized ((read ++ more) ++ rest)) → IsOfPage cdata f first (normalized (read ++ (more ++ rest)))
+of_more cdata f first read more rest of = subst (λ text. IsOfPage cdata f first (normalized text)) (append_assoc read more rest) of
 
-of_read : (cdata : Bool) (read : List ℕ) → IsOfPage cdata (normalized read) → IsOfPage cdata (normalized (read ++ []))
-of_read cdata read of = subst (λ text. IsOfPage cdata (normalized text)) (sym (append-nil read)) of
+of_read : (cdata : Bool) (f : Feedback) (first : StandardState) (read : List ℕ) → IsOfPage cdata f first (normalized read) → IsOfPage cdata f first (normalized (read ++ []))
+of_read cdata f first read of = subst (λ text. IsOfPage cdata f first (normalized text)) (sym (append-nil read)) of
 
 -- the place before, with more text in front of the rest
 at_more : (f : Feedback) (first : StandardState) (read more : List ℕ) (told : List StandardToken) (old : Tokenizer) (rest : List ℕ) (at : IsAt f first read told old (more ++ rest)) →
@@ -351,13 +352,13 @@ told_on told kept cs = append_assoc told (map AChar kept) (map AChar cs) ∙ ap 
 
 pub texts : TextsAreRead
 texts cdata f first read more told old new honest stay has reads = λ rest of.
-    let at : IsAt f first read told old (more ++ rest) = has (more ++ rest) (of_more cdata read more rest of) in
+    let at : IsAt f first read told old (more ++ rest) = has (more ++ rest) (of_more cdata f first read more rest of) in
     let to : BehindText old new more None at.machine at.ahead rest = reads.reads at.machine at.ahead rest at.holds in
     let seen : List StandardToken = told ++ map AChar at.kept in
     let left : List ℕ = to.ahead' ++ normalized_behind new.after_return rest in
     let goes : Reads f (reader at.machine (at.ahead ++ normalized_behind old.after_return (more ++ rest)) seen) (reader to.machine left (seen ++ map AChar to.characters)) =
     quiet cdata f honest to.goes seen to.characters (ap (λ ts. map AChar to.characters ++ ts) to.ends ∙ append-nil (map AChar to.characters))
-    (stays_at cdata f old.in_foreign first (normalized (read ++ (more ++ rest))) (at.ahead ++ normalized_behind old.after_return (more ++ rest)) at.machine told at.kept stay (of_more cdata read more rest of) at.reads) in
+    (stays_at cdata f old.in_foreign first (normalized (read ++ (more ++ rest))) (at.ahead ++ normalized_behind old.after_return (more ++ rest)) at.machine told at.kept stay (of_more cdata f first read more rest of) at.reads) in
     record {
       machine = to.machine;
       ahead = to.ahead';
@@ -400,7 +401,7 @@ record TokenAt (f : Feedback) (first : StandardState) (read : List ℕ) (told : 
       (reader (switched (f.switch (told ++ map AChar kept ++ token ∷ [])) machine) (normalized_behind t.after_return rest) (told ++ map AChar kept ++ token ∷ []))
 
 -- the last step, and the answer to its token
-last_answered : (cdata : Bool) (f : Feedback) → IsFeedback f → {b : Bool} {m n : Machine} {text rest : List ℕ} (cs : List ℕ) (one : StandardToken) → EmitsLast b m text cs one n rest → (seen : List StandardToken) → Stays cdata f b text seen →
+last_answered : (cdata : Bool) (f : Feedback) → IsFeedback f → {b : Bool} {m n : Machine} {text rest : List ℕ} (cs : List ℕ) (one : StandardToken) → EmitsLast b m text cs one n rest → (seen : List StandardToken) → Stays cdata f b (reader m text seen) →
     Reads f (reader m text seen) (reader (switched (f.switch (seen ++ map AChar cs ++ one ∷ [])) n) rest (seen ++ map AChar cs ++ one ∷ []))
 last_answered cdata f honest {b} {m} {n} {text} {rest} cs one last seen stay =
     let now : List StandardToken = seen ++ map AChar cs in
@@ -410,13 +411,13 @@ last_answered cdata f honest {b} {m} {n} {text} {rest} cs one last seen stay =
     ap (λ ts. reader (answered f now ts s.machine) s.rest (now ++ ts)) last.tokens
     ∙ ap (λ k. reader (switched (f.switch (now ++ one ∷ [])) k) s.rest (now ++ one ∷ [])) last.machine
     ∙ ap (λ r. reader (switched (f.switch (now ++ one ∷ [])) n) r (now ++ one ∷ [])) last.rest_is in
-    go_on first (next s (step_now cdata f b last.left now (stays_on cdata f b text last.left seen cs (goes_split last.goes) stay) last.before) last.runs
+    go_on first (next s (step_now cdata f b (reader last.before last.left now) (stays_on cdata f b (reader m text seen) (reader last.before last.left now) cs first refl stay)) last.runs
     (subst (λ r. Reads f (after f (reader last.before last.left now) s) r) same here))
 
 token_at : (cdata : Bool) (f : Feedback) (first : StandardState) (read more : List ℕ) (told : List StandardToken) (old new : Tokenizer) (kind : TokenKind) → IsFeedback f → IsForeignNow cdata f told old.in_foreign → HasRead cdata f first read told old →
-    ReadsText old new more (Some kind) → (rest : List ℕ) → IsOfPage cdata (normalized ((read ++ more) ++ rest)) → TokenAt f first (read ++ more) told kind new rest
+    ReadsText old new more (Some kind) → (rest : List ℕ) → IsOfPage cdata f first (normalized ((read ++ more) ++ rest)) → TokenAt f first (read ++ more) told kind new rest
 token_at cdata f first read more told old new kind honest stay has reads rest of =
-    let at : IsAt f first read told old (more ++ rest) = has (more ++ rest) (of_more cdata read more rest of) in
+    let at : IsAt f first read told old (more ++ rest) = has (more ++ rest) (of_more cdata f first read more rest of) in
     let to : BehindText old new more (Some kind) at.machine at.ahead rest = reads.reads at.machine at.ahead rest at.holds in
     let text : List ℕ = at.ahead ++ normalized_behind old.after_return (more ++ rest) in
     let left : List ℕ = to.ahead' ++ normalized_behind new.after_return rest in
@@ -427,7 +428,7 @@ token_at cdata f first read more told old new kind honest stay has reads rest of
     let at_data : InData new to.ahead' to.machine = in_data new to.ahead' to.machine last.leads to.holds in
     let now : List StandardToken = told ++ map AChar (at.kept ++ to.characters) ++ one.token ∷ [] in
     let goes : Reads f (reader at.machine text seen) (reader (switched (f.switch (seen ++ map AChar to.characters ++ one.token ∷ [])) to.machine) left (seen ++ map AChar to.characters ++ one.token ∷ [])) =
-    last_answered cdata f honest to.characters one.token last seen (stays_at cdata f old.in_foreign first (normalized (read ++ (more ++ rest))) text at.machine told at.kept stay (of_more cdata read more rest of) at.reads) in
+    last_answered cdata f honest to.characters one.token last seen (stays_at cdata f old.in_foreign first (normalized (read ++ (more ++ rest))) text at.machine told at.kept stay (of_more cdata f first read more rest of) at.reads) in
     let told_now : seen ++ map AChar to.characters ++ one.token ∷ [] ≡ now = ap (λ ts. ts ++ one.token ∷ []) (told_on told at.kept to.characters) in
     record {
       machine = to.machine;
@@ -469,9 +470,9 @@ fed_back (Some to) old new m only is stands = record {
 }
 
 pub tokens : TokensAreRead
-tokens cdata f first read more told old new kind honest stay has page reads =
-    let at : (rest : List ℕ) → IsOfPage cdata (normalized ((read ++ more) ++ rest)) → TokenAt f first (read ++ more) told kind new rest = token_at cdata f first read more told old new kind honest stay has reads in
-    let chosen : TokenAt f first (read ++ more) told kind new [] = at [] (of_read cdata (read ++ more) page) in
+tokens cdata f first read more told old new kind honest stay has reads behind page =
+    let at : (rest : List ℕ) → IsOfPage cdata f first (normalized ((read ++ more) ++ rest)) → TokenAt f first (read ++ more) told kind new rest = token_at cdata f first read more told old new kind honest stay has reads in
+    let chosen : TokenAt f first (read ++ more) told kind new behind = at behind page in
     let now : List StandardToken = told ++ map AChar chosen.kept ++ chosen.token ∷ [] in
     record {
       token = chosen.token;
@@ -508,22 +509,23 @@ texts_called cdata f first read told old new text rest honest stay has up =
 
 pub tokens_called : CallsReadTokens
 tokens_called cdata f first read told old new text rest kind honest stay has up =
-    (up.read, up.cut, λ page. tokens cdata f first read up.read told old new kind honest stay has page (subst (λ k. ReadsText old new up.read k) (told_is up.told (Some kind) up.kind) up.reads))
+    (up.read, up.cut, tokens cdata f first read up.read told old new kind honest stay has (subst (λ k. ReadsText old new up.read k) (told_is up.told (Some kind) up.kind) up.reads))
 
 -- ---- the end
 
 pub ends : PagesEnd
 ends cdata f first read told old new kind honest stay has of page =
-    let at : IsAt f first read told old [] = has [] (of_read cdata read of) in
+    let at : IsAt f first read told old [] = has [] (of_read cdata f first read of) in
     let stop : Stops old new kind at.machine at.ahead = page.stops at.machine at.ahead at.holds in
     let b : Bool = old.in_foreign in
     let seen : List StandardToken = told ++ map AChar at.kept in
     let now : List StandardToken = seen ++ map AChar stop.characters in
     let left : Reads f (reader (start_in first) (normalized (read ++ [])) []) (reader at.machine at.ahead seen) =
     subst (λ text. Reads f (reader (start_in first) (normalized (read ++ [])) []) (reader at.machine text seen)) (append-nil at.ahead) at.reads in
-    let stay_on : Stays cdata f b at.ahead seen = stays_at cdata f b first (normalized (read ++ [])) at.ahead at.machine told at.kept stay (of_read cdata read of) left in
+    let stay_on : Stays cdata f b (reader at.machine at.ahead seen) = stays_at cdata f b first (normalized (read ++ [])) at.ahead at.machine told at.kept stay (of_read cdata f first read of) left in
     let goes : Reads f (reader at.machine at.ahead seen) (reader stop.machine [] now) = quiet cdata f honest stop.goes seen stop.characters refl stay_on in
-    let flag : step (f.in_foreign now) stop.machine [] ≡ step b stop.machine [] = step_now cdata f b [] now (stays_on cdata f b at.ahead [] seen stop.characters (goes_split stop.goes) stay_on) stop.machine in
+    let flag : step (f.in_foreign now) stop.machine [] ≡ step b stop.machine [] =
+    step_now cdata f b (reader stop.machine [] now) (stays_on cdata f b (reader at.machine at.ahead seen) (reader stop.machine [] now) stop.characters goes refl stay_on) in
     let all : told ++ map AChar (at.kept ++ (stop.characters ++ stop.last)) ++ stop.tokens ++ AnEof ∷ [] ≡ now ++ (map AChar stop.last ++ stop.tokens ++ AnEof ∷ []) =
     ap (λ ts. ts ++ stop.tokens ++ AnEof ∷ []) (sym (told_on told at.kept (stop.characters ++ stop.last)) ∙ ap (λ ts. seen ++ ts) (map_append AChar stop.characters stop.last) ∙ sym (append_assoc seen (map AChar stop.characters) (map AChar stop.last)))
     ∙ ap (λ ts. ts ++ AnEof ∷ []) (append_assoc now (map AChar stop.last) stop.tokens) ∙ append_assoc now (map AChar stop.last ++ stop.tokens) (AnEof ∷ []) in

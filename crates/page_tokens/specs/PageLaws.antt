@@ -64,12 +64,12 @@ pub record TellsToken (cdata : Bool) (f : Feedback) (first : StandardState) (rea
   pub goes_on : (new : Tokenizer) → FeedsBack (f.switch (told ++ map AChar characters ++ token ∷ [])) t new →
       HasRead cdata f first read (told ++ map AChar characters ++ token ∷ []) new
 
--- a text is read up to the end of a token
+-- a text is read up to the end of a token, in a page that may go on
 abbrev pub TokensAreRead : Type 0
 TokensAreRead = (cdata : Bool) (f : Feedback) (first : StandardState) (read more : List ℕ) (told : List StandardToken)
     (old new : Tokenizer) (kind : TokenKind) → IsFeedback f → IsForeignNow cdata f told old.in_foreign →
-    HasRead cdata f first read told old → IsOfPage cdata (normalized (read ++ more)) → ReadsText old new more (Some kind) →
-    TellsToken cdata f first (read ++ more) told kind new
+    HasRead cdata f first read told old → ReadsText old new more (Some kind) → (rest : List ℕ) →
+    IsOfPage cdata f first (normalized ((read ++ more) ++ rest)) → TellsToken cdata f first (read ++ more) told kind new
 
 -- ---- the same of a call that reads up to the end of a token (`read_kind`)
 
@@ -86,7 +86,8 @@ CallsReadTokens = (cdata : Bool) (f : Feedback) (first : StandardState) (read : 
     (old new : Tokenizer) (text rest : List ℕ) (kind : TokenKind) → IsFeedback f → IsForeignNow cdata f told old.in_foreign →
     HasRead cdata f first read told old → ReadsUpTo old new text rest None (Some kind) →
     (more : List ℕ) × (text ≡ encode_utf8_all more ++ rest) ×
-    (IsOfPage cdata (normalized (read ++ more)) → TellsToken cdata f first (read ++ more) told kind new)
+    ((rest : List ℕ) → IsOfPage cdata f first (normalized ((read ++ more) ++ rest)) →
+    TellsToken cdata f first (read ++ more) told kind new)
 
 -- ---- the end
 
@@ -103,5 +104,5 @@ pub record TellsEnd (f : Feedback) (first : StandardState) (read : List ℕ) (to
 abbrev pub PagesEnd : Type 0
 PagesEnd = (cdata : Bool) (f : Feedback) (first : StandardState) (read : List ℕ) (told : List StandardToken)
     (old new : Tokenizer) (kind : Option TokenKind) → IsFeedback f → IsForeignNow cdata f told old.in_foreign →
-    HasRead cdata f first read told old → IsOfPage cdata (normalized read) → EndsPage old new kind →
+    HasRead cdata f first read told old → IsOfPage cdata f first (normalized read) → EndsPage old new kind →
     TellsEnd f first read told kind new

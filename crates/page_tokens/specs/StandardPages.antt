@@ -5,7 +5,7 @@ use Rattle.std.specs.Borrow.{Bor}
 use Rattle.std.specs.List.{starts_with}
 use Rattle.std.specs.Str.{encode_utf8_all}
 use Rattle.standard_tokens.specs.Machine.{Machine, at_state, normalized, normalized_behind, start, start_in, step}
-use Rattle.standard_tokens.specs.Reading.{Feedback, Reads, reader}
+use Rattle.standard_tokens.specs.Reading.{Feedback, Reader, Reads, reader}
 use Rattle.standard_tokens.specs.States.{State as StandardState, Data as DataState}
 use Rattle.standard_tokens.specs.Tokens.{Token as StandardToken, AChar}
 use Rattle.page_tokens.specs.declared.token.TokenKind.{TokenKind}
@@ -139,16 +139,21 @@ abbrev pub lacks_cdata : List ℕ → Bool
 lacks_cdata [] = true
 lacks_cdata (c ∷ text) = not (starts_with eqb (c ∷ text) (codes "[CDATA[")) && lacks_cdata text
 
--- any text, or else one without it
-abbrev pub IsOfPage : Bool → List ℕ → Type 0
-IsOfPage true text = Unit {0}
-IsOfPage false text = lacks_cdata text ≡ true
+-- wherever reading a page comes, tree construction's flag for foreign content is behind characters what it was before them
+abbrev pub KeepsFlag : Feedback → Reader → Type 0
+KeepsFlag f r = (q : Reader) (seen : List StandardToken) (cs : List ℕ) → Reads f r q → q.seen ≡ seen ++ map AChar cs →
+    f.in_foreign q.seen ≡ f.in_foreign seen
 
--- The flag says whether the page may contain `[CDATA[`.
+-- Only in front of `[CDATA[` the flag matters. So it stays behind characters, or else that occurs nowhere.
+abbrev pub IsOfPage : Bool → Feedback → StandardState → List ℕ → Type 0
+IsOfPage true f first text = KeepsFlag f (reader (start_in first) text [])
+IsOfPage false f first text = lacks_cdata text ≡ true
+
+-- The flag `cdata` says whether the page may contain `[CDATA[`.
 abbrev pub HasRead : Bool → Feedback → StandardState → List ℕ → List StandardToken → Tokenizer → Type 0
-HasRead cdata f first read told t = (rest : List ℕ) → IsOfPage cdata (normalized (read ++ rest)) → IsAt f first read told t rest
+HasRead cdata f first read told t = (rest : List ℕ) → IsOfPage cdata f first (normalized (read ++ rest)) → IsAt f first read told t rest
 
--- Only in front of `[CDATA[` tree construction's flag for foreign content matters. It stays as it is behind characters.
+-- the tokenizer was told the flag
 abbrev pub IsForeignNow : Bool → Feedback → List StandardToken → Bool → Type 0
-IsForeignNow true f told foreign = (cs : List ℕ) → f.in_foreign (told ++ map AChar cs) ≡ foreign
+IsForeignNow true f told foreign = f.in_foreign told ≡ foreign
 IsForeignNow false f told foreign = Unit {0}

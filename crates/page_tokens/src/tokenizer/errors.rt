@@ -1,6 +1,6 @@
 //! Parse errors, which are collected only on request.
 
-ghost use Rattle.std.specs.Prelude.{◌≡◌, IfOk, IsOk, false};
+ghost use Rattle.std.specs.Prelude.{◌≡◌, IfOk, IsOk, None, false};
 
 use super::{Progress, Tokenizer};
 use crate::parse_error::{ErrorAt, ParseError};
@@ -27,9 +27,14 @@ pub fn is_noncharacter(number: u32) -> bool {
 
 impl Tokenizer {
     ghost use Rattle.page_tokens.specs.Changes.{Remembers};
+    ghost use Rattle.page_tokens.specs.StandardPages.{KeepsPlace};
 
     /// Sets whether parse errors are collected from now on. Those collected before are dropped.
-    pub fn report_errors(&mut self, wanted: bool) {
+    pub fn report_errors(&mut self, wanted: bool)
+        ensures none { wanted ≡ false → self.new.errors ≡ None }
+        ensures only { self.new ≡ record self.old { errors = self.new.errors } }
+        ensures place { KeepsPlace self.old self.new }
+    {
         self.errors = if wanted {
             Some(Vec::new(self.alloc))
         } else {
