@@ -8,11 +8,11 @@ use Rattle.dom_links.specs.Forest.{Forest}
 use Rattle.dom_links.specs.Sound.{IsForest, IsOpenGap}
 use Rattle.dom_links.specs.declared.gap.InsertionPoint.{InsertionPoint}
 use Rattle.dom_links.specs.declared.gap.InsertionPoint.TheVariants.{Before as TheBefore, EndOf as TheEndOf}
-use Rattle.standard_trees.specs.GrowingTree.{GrowingTree, current, foster_place, in_contents, kind_of, place, place_is_document, with_chars}
+use Rattle.standard_trees.specs.GrowingTree.{GrowingTree, current, foster_place, in_contents, kind_of, place, place_is_document, text_behind, with_chars}
 use Rattle.standard_trees.specs.GrowingTree.{is_one as is_one_of}
 use Rattle.standard_trees.specs.NameLists.{fostering_names}
-use Rattle.standard_trees.specs.TreeStore.{Before, ContentsNode, DocumentNode, ElementNode, EndOf, Kind, Node, Place, contents_in, is_document, is_member, node_at, parent_of}
-use Rattle.page_trees.specs.Placing.{is_at_top}
+use Rattle.standard_trees.specs.TreeStore.{Before, ContentsNode, DocumentNode, ElementNode, EndOf, Kind, Node, Place, contents_in, is_document, is_member, node_at, node_before, parent_of}
+use Rattle.page_trees.specs.TextPlaces.{is_in_root, is_zero}
 use Rattle.page_trees.specs.SameNodes.{AreNodes, IsPointOf, with_text_at}
 use Rattle.page_trees.specs.Stands.{AllStand, Builds, IsCurrent, StandsFor, place_for}
 use Rattle.page_trees.specs.TreeState.{TreeState, completed}
@@ -25,6 +25,7 @@ use Rattle.page_trees.proofs.KeptElements.{built_grown, keeps_text_at, past_kind
 use Rattle.page_trees.proofs.LateNodes.{late_forest, late_long, late_open, late_text_at}
 use Rattle.page_trees.proofs.StandingEdits.{alone_good}
 use Rattle.page_trees.proofs.StandingNodes.{contents_is, parent_at, same_length, text_stands}
+use Rattle.page_trees.proofs.StandingParents.{parent_is}
 use Rattle.page_trees.proofs.TextRuns.{IsThere}
 
 -- ---- numbers of nodes
@@ -84,15 +85,34 @@ text_built s t h gap text c cs b good opens at inside spelt e =
     } in
     subst (Builds (record s { forest = h })) (sym (chars_are t spot c cs takes)) (built_grown s t h nodes b (keeps_text_at (c ∷ cs) spot t.nodes) are)
 
--- the end of the Document is no place for characters
-pub not_top : (s : TreeState) (t : GrowingTree) (gap : InsertionPoint) (spot : Place) → Builds s t → IsPointOf t.nodes gap spot → place_is_document t spot ≡ false → is_at_top gap ≡ false
-not_top s t gap (EndOf zero) b at inside = absurd (true≢false (sym (ap is_document b.nodes.root) ∙ inside))
-not_top s t gap (EndOf (suc p)) b at inside = ap is_at_top at.0 ∙ not_zero (suc p) p (omega arith)
-not_top s t gap (Before p m) b at inside = ap is_at_top at.0
+-- the root alone is a Document
+only_root : (s : TreeState) (t : GrowingTree) → Builds s t → (n : ℕ) → is_document (kind_of t n) ≡ is_zero n
+only_root s t b zero = ap is_document b.nodes.root
+only_root s t b (suc n) = by (is_document (kind_of t (suc n))) refl
+  where
+    by : (c : Bool) → is_document (kind_of t (suc n)) ≡ c → c ≡ is_zero (suc n)
+    by true e = absurd (let none = b.lone (suc n) e in omega (arith, none))
+    by false e = sym (not_zero (suc n) n (omega arith))
+
+-- the place is in the Document where the insertion point is among the root's children
+pub root_is : (s : TreeState) (t : GrowingTree) (gap : InsertionPoint) (spot : Place) → Builds s t → IsPointOf t.nodes gap spot → place_is_document t spot ≡ is_in_root s.forest gap
+unfolding completed
+root_is s t gap (EndOf p) b at = only_root s t b p ∙ sym (ap (is_in_root s.forest) at.0)
+root_is s t gap (Before p m) b at =
+    only_root s t b p ∙ sym (ap (is_in_root s.forest) at.0 ∙ ap (λ (o : Option ℕ). option_map_or is_zero o false) (parent_is t.nodes (completed s.late s.forest) b.nodes m ∙ at.1))
+
+-- characters are not inserted into the Document
+pub document_stays : (t : GrowingTree) (cs : List ℕ) → place_is_document t (place t) ≡ true → with_chars cs t ≡ t
+document_stays t [] e = refl
+document_stays t (c ∷ cs) e =
+    ap (λ (b : Bool). with_chars cs (elim b [ true ↦ t | false ↦ text_behind (node_before t.nodes (place t)) (place t) c t ])) e ∙ document_stays t cs e
 
 -- elements do not go into a head that is closed
 pub in_place : (placing : Placing) (t : GrowingTree) (gap : InsertionPoint) → placing.in_head ≡ false → IsPointOf t.nodes gap (place_for placing t) → IsPointOf t.nodes gap (place t)
 in_place placing t gap outside at = subst (λ (b : Bool). IsPointOf t.nodes gap (if b then option_map_or EndOf t.head (place t) else place t)) outside at
+
+pub document_built : (s : TreeState) (t : GrowingTree) (cs : List ℕ) → Builds s t → place_is_document t (place t) ≡ true → Builds s (with_chars cs t)
+document_built s t cs b e = subst (Builds s) (sym (document_stays t cs e)) b
 
 -- ---- where an element is open, and foster parenting is not enabled, the place is in no Document
 

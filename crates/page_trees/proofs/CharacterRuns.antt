@@ -5,8 +5,8 @@ use Rattle.std.proofs.lemmas.Bool.{cases_Bool, eqb-true, ne_eqb}
 use Rattle.standard_trees.specs.GrowingTree.{GrowingTree, created_at, current, foster_place, in_contents, is_among, is_one, kind_of, place, place_in, place_is_document}
 use Rattle.standard_trees.specs.GrowingTree.{text_behind, top, with_char, with_chars, with_text}
 use Rattle.standard_trees.specs.NameLists.{fostering_names}
-use Rattle.standard_trees.specs.TreeStore.{Before, ContentsNode, EndOf, Kind, Node, Place, TextNode, changed_at, contents_in, is_document, is_member, key_in, leaf}
-use Rattle.standard_trees.specs.TreeStore.{node_at, node_before, parent_from, parent_of, placed_before, put_at, removed, text_in, without}
+use Rattle.standard_trees.specs.TreeStore.{Before, ContentsNode, EndOf, Kind, Node, Place, TextNode, attrs_in, changed_at, contents_in, is_document, is_member, key_in, leaf}
+use Rattle.standard_trees.specs.TreeStore.{node_at, node_before, parent_from, parent_of, placed_before, put_at, removed, space_in, text_in, without}
 use Rattle.dom_links.specs.Contents.{changed_at as changed}
 use Rattle.page_trees.specs.SameNodes.{text_after, with_kind_at, with_text_at}
 use Rattle.page_trees.proofs.StoreLemmas.{kind_at, kinds, kinds_changed, kinds_more, kinds_put, length_nodes, old_node, with_children, with_kind_of}
@@ -19,18 +19,20 @@ pub record Looks (old new : Kind) : Type 0 where
   pub key : key_in new ≡ key_in old
   pub contents : contents_in new ≡ contents_in old
   pub document : is_document new ≡ is_document old
+  pub space : space_in new ≡ space_in old
+  pub attrs : attrs_in new ≡ attrs_in old
 
 looks_same : (kind : Kind) → Looks kind kind
-looks_same kind = record { key = refl; contents = refl; document = refl }
+looks_same kind = record { key = refl; contents = refl; document = refl; space = refl; attrs = refl }
 
 looks_more : (ks : List Kind) (text : List ℕ) (n : ℕ) → Looks (get_or ks n ContentsNode) (get_or (ks ++ TextNode text ∷ []) n ContentsNode)
-looks_more [] text zero = record { key = refl; contents = refl; document = refl }
+looks_more [] text zero = record { key = refl; contents = refl; document = refl; space = refl; attrs = refl }
 looks_more [] text (suc n) = looks_same ContentsNode
 looks_more (k ∷ ks) text zero = looks_same k
 looks_more (k ∷ ks) text (suc n) = looks_more ks text n
 
 looks_text : (kind : Kind) (old text : List ℕ) → text_in kind ≡ Some old → Looks kind (TextNode text)
-looks_text (TextNode one) old text e = record { key = refl; contents = refl; document = refl }
+looks_text (TextNode one) old text e = record { key = refl; contents = refl; document = refl; space = refl; attrs = refl }
 looks_text _ old text e = cc
 
 looks_changed : (ks : List Kind) (old text : List ℕ) (m n : ℕ) → text_in (get_or ks m ContentsNode) ≡ Some old → Looks (get_or ks n ContentsNode) (get_or (changed m (λ _. TextNode text) ks) n ContentsNode)
@@ -41,13 +43,19 @@ looks_changed (k ∷ ks) old text (suc m) zero e = looks_same k
 looks_changed (k ∷ ks) old text (suc m) (suc n) e = looks_changed ks old text m n e
 
 -- the kinds of the nodes look as before, where a text was added
-looks_kept : (nodes : List Node) (spot : Place) (text : List ℕ) (n : ℕ) → Looks (node_at nodes n).kind (node_at (with_text_at text spot nodes) n).kind
+pub looks_kept : (nodes : List Node) (spot : Place) (text : List ℕ) (n : ℕ) → Looks (node_at nodes n).kind (node_at (with_text_at text spot nodes) n).kind
 looks_kept nodes spot text n = by (node_before nodes spot)
   where
     at_kinds : (new : List Node) (ks : List Kind) → kinds new ≡ ks → Looks (get_or (kinds nodes) n ContentsNode) (get_or ks n ContentsNode) → Looks (node_at nodes n).kind (node_at new n).kind
     at_kinds new ks e looks =
         let is : (node_at new n).kind ≡ get_or ks n ContentsNode = kind_at new n ∙ ap (λ (all : List Kind). get_or all n ContentsNode) e in
-        record { key = ap key_in is ∙ looks.key ∙ sym (ap key_in (kind_at nodes n)); contents = ap contents_in is ∙ looks.contents ∙ sym (ap contents_in (kind_at nodes n)); document = ap is_document is ∙ looks.document ∙ sym (ap is_document (kind_at nodes n)) }
+        record {
+          key = ap key_in is ∙ looks.key ∙ sym (ap key_in (kind_at nodes n));
+          contents = ap contents_in is ∙ looks.contents ∙ sym (ap contents_in (kind_at nodes n));
+          document = ap is_document is ∙ looks.document ∙ sym (ap is_document (kind_at nodes n));
+          space = ap space_in is ∙ looks.space ∙ sym (ap space_in (kind_at nodes n));
+          attrs = ap attrs_in is ∙ looks.attrs ∙ sym (ap attrs_in (kind_at nodes n));
+        }
 
     made : Looks (node_at nodes n).kind (node_at (with_kind_at (TextNode text) spot nodes) n).kind
     made =

@@ -10,6 +10,7 @@ use Rattle.standard_trees.specs.TreeStore.{is_html, space_in}
 use Rattle.page_trees.specs.Constructs.{ComesTo, Outcome, Runs}
 use Rattle.page_trees.specs.declared.builder.Next.{Next}
 use Rattle.page_trees.specs.declared.builder.TreeBuilder.{TreeBuilder}
+use Rattle.page_trees.proofs.RulesRun.{turn_goes, turn_passed_on}
 
 -- one of the first two rules is taken
 first_two : {A : Type 0} → (x y : Bool) (rule other : A) → y ≡ true →
@@ -28,7 +29,8 @@ comes_by_mode b c e h = (suc h.0, ap (λ acts. performed (run h.0) acts b) e ∙
 
 pub by_mode : (b : Building) (next : Next) (after : Building) → taken b (rules Dispatcher) ≡ goes UseCurrentMode ∷ [] → Runs b.mode b next after → Runs Dispatcher b next after
 by_mode b Next.Done after e h = comes_by_mode b after e h
-by_mode b Next.Again after e h = (h.0, λ c k. comes_by_mode b c e (h.1 c k))
+by_mode b Next.Again after e h =
+    (h.0, λ c k. comes_by_mode b c e (h.1 c k), turn_passed_on Dispatcher b.mode b after (λ test d c k. turn_goes test d Dispatcher UseCurrentMode b c e k) h.2)
 
 -- what comes of the token in the current insertion mode comes of it
 pub dispatched : (b : Building) (new : TreeBuilder) (next : Next) → is_html (space_in (adjusted_current b.tree)) ≡ true → Outcome b.mode b new next →

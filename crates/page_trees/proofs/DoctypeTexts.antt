@@ -39,16 +39,16 @@ apart b f high low =
     ne_eqb (to_ascii_lowercase b) (to_ascii_lowercase f) (λ e. omega (arith, e, stays, below, high))
 
 -- a byte that is not ASCII, and others
-record BeginsHigh (bytes : List ℕ) : Type 0 where
-  first : ℕ
-  others : List ℕ
-  is : bytes ≡ first ∷ others
-  high : 128 ≤ first
+pub record BeginsHigh (bytes : List ℕ) : Type 0 where
+  pub first : ℕ
+  pub others : List ℕ
+  pub is : bytes ≡ first ∷ others
+  pub high : 128 ≤ first
 
-not_low : (c : ℕ) → 128 ≤ c → nat_lt c 128 ≡ false
+pub not_low : (c : ℕ) → 128 ≤ c → nat_lt c 128 ≡ false
 not_low c h = grind arith
 
-high_begins : (c : ℕ) → 128 ≤ c → BeginsHigh (encode c)
+pub high_begins : (c : ℕ) → 128 ≤ c → BeginsHigh (encode c)
 unfolding encode
 high_begins c h = rw (not_low c h) (each (nat_lt c 2048) (nat_lt c 65536))
   where

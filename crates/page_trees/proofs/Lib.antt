@@ -32,13 +32,17 @@ pub mod StandingPlaces
 pub mod StandingEdits
 pub mod CharacterRuns
 pub mod ActionsOnNodes
+pub mod AgencyEnds
 pub mod AgencyPlaces
+pub mod AgencyRounds
 pub mod LateNodes
 mod AbsentAttrs
 pub mod KeptElements
 pub mod BuiltNodes
 pub mod CopiedElements
 pub mod ReopenedElements
+pub mod LikeElements
+pub mod ListedEntries
 pub mod ClosedEntries
 pub mod TagKinds
 pub mod BuiltRoots
@@ -51,6 +55,8 @@ pub mod BuiltStacks
 pub mod BuiltPointers
 pub mod BuiltStart
 pub mod RulesTaken
+pub mod DeeperRuns
+pub mod TurnsPassed
 pub mod RulesRun
 pub mod ModeTables
 pub mod ModeOutcomes
@@ -64,6 +70,11 @@ pub mod TokenRules
 pub mod PageEnds
 pub mod ForeignTags
 pub mod TextTags
+pub mod CoveredLemmas
+pub mod CoveredTags
+pub mod NamesSpelled
+pub mod TokenTurns
+pub mod TokenCalls
 pub mod DepthNoted
 pub mod MergedAttrs
 pub mod MergedNodes
@@ -73,3 +84,46 @@ pub mod MergedSteps
 pub mod CommentPlaces
 pub mod FirstRules
 pub mod AfterBodyTags
+mod TokenAnswers
+mod PageFronts
+mod PageTurns
+mod ToldTokens
+pub mod SettledFormatting
+pub mod CharactersBehind
+pub mod CharacterRules
+pub mod RunSteps
+pub mod RunOutcomes
+pub mod ForeignRuns
+pub mod CompletedTrees
+pub mod WalkedTrees
+pub mod PageShapes
+pub mod DocumentsStand
+pub mod OneDocument
+pub mod ShapesComputed
+pub mod FormattingRules
+pub mod FormattingTags
+pub mod FoundEntries
+pub mod UnlistedEntries
+pub mod TableRules
+pub mod TableRows
+pub mod TableTags
+pub mod ResetLemmas
+pub mod HeadEdits
+pub mod HeadRules
+pub mod HeadModes
+pub mod HeadAgain
+pub mod HeadPlaces
+pub mod FramesetTags
+pub mod BodyRules
+pub mod BodyStarts
+pub mod ClosedElements
+pub mod BodyControls
+pub mod BodyElements
+pub mod BareElements
+pub mod BodyEnds
+pub mod CoveredRuns
+pub mod KeptByCharacters
+pub mod SpacesApart
+pub mod CharacterTurns
+pub mod FinishedPages
+pub mod BodyFormatting

@@ -1,6 +1,7 @@
 -- What the rules make of the end of the page.
-use Rattle.std.proofs.Common.{◌≡◌, ℕ, Bool, true, false, ◌&&◌, not, List, [], ◌∷◌, map, reverse, refl, sym, ap, subst, ◌∙◌, true≢false}
+use Rattle.std.proofs.Common.{◌≡◌, ℕ, Bool, true, false, ◌&&◌, not, List, [], ◌∷◌, arith, codes, length, map, reverse, refl, sym, ap, subst, ◌∙◌, true≢false}
 use Rattle.std.specs.Prelude.{IfSome}
+use Rattle.std.proofs.lemmas.List.{length-map, length-reverse}
 use Rattle.standard_tokens.specs.Tokens.{AnEof}
 use Rattle.standard_trees.specs.Building.{Building, is_empty, perform, taken}
 use Rattle.standard_trees.specs.GrowingTree.{adjusted_current}
@@ -8,6 +9,8 @@ use Rattle.standard_trees.specs.RuleWords.{Act, Action, Dispatcher, InBody, InTa
 use Rattle.standard_trees.specs.TreeRules.{rules}
 use Rattle.standard_trees.specs.TreeStore.{is_html, space_in}
 use Rattle.page_trees.specs.Constructs.{Constructs, HaveOneToken, LeavesBy, Outcome, Performs, WithinLimits, all_performed, is_entered_plainly, leaving, returns_later}
+use Rattle.page_trees.specs.HeadSteps.{closing_template}
+use Rattle.page_trees.specs.LateMerges.{is_open}
 use Rattle.page_trees.specs.Modes.{mode_of}
 use Rattle.page_trees.specs.TokenSteps.{EndsPlainly, ProcessesBy, at_end, keeps_characters}
 use Rattle.page_trees.specs.declared.builder.Mode.{Mode}
@@ -106,41 +109,80 @@ body_stops : (b : Building) (new : TreeBuilder) → b.template_modes ≡ [] → 
 unfolding rules
 body_stops b new none token stands = stopped InBody b new token (in_no_template (does Stop [] ∷ []) (goes (Use InTemplate) ∷ []) b.template_modes none) stands
 
-body_used : (mode : StandardMode) (b : Building) (new : TreeBuilder) → b.token ≡ AnEof → chosen AnEof b (rules mode) ≡ goes (Use InBody) ∷ [] → Outcome InBody b new Next.Done →
-    Outcome mode b new Next.Done
-body_used mode b new token e o = outcome_by mode InBody b new Next.Done (taken_of AnEof b token (rules mode) ∙ e) o
+body_used : (mode : StandardMode) (b : Building) (new : TreeBuilder) (next : Next) → b.token ≡ AnEof → chosen AnEof b (rules mode) ≡ goes (Use InBody) ∷ [] → Outcome InBody b new next →
+    Outcome mode b new next
+body_used mode b new next token e o = outcome_by mode InBody b new next (taken_of AnEof b token (rules mode) ∙ e) o
 
-table_used : (mode : StandardMode) (b : Building) (new : TreeBuilder) → b.token ≡ AnEof → chosen AnEof b (rules mode) ≡ goes (Use InTable) ∷ [] → Outcome InBody b new Next.Done →
-    Outcome mode b new Next.Done
+table_used : (mode : StandardMode) (b : Building) (new : TreeBuilder) (next : Next) → b.token ≡ AnEof → chosen AnEof b (rules mode) ≡ goes (Use InTable) ∷ [] → Outcome InBody b new next →
+    Outcome mode b new next
 unfolding rules
-table_used mode b new token e o = outcome_by mode InTable b new Next.Done (taken_of AnEof b token (rules mode) ∙ e) (body_used InTable b new token refl o)
+table_used mode b new next token e o = outcome_by mode InTable b new next (taken_of AnEof b token (rules mode) ∙ e) (body_used InTable b new next token refl o)
 
-content_ends : (m : Mode) (b : Building) (new : TreeBuilder) → at_end m ≡ AtEnd.EndContent → keeps_characters m ≡ false → b.token ≡ AnEof → Outcome InBody b new Next.Done →
-    Outcome (mode_of m) b new Next.Done
+content_ends : (m : Mode) (b : Building) (new : TreeBuilder) (next : Next) → at_end m ≡ AtEnd.EndContent → keeps_characters m ≡ false → b.token ≡ AnEof → Outcome InBody b new next →
+    Outcome (mode_of m) b new next
 unfolding rules
-content_ends Mode.InTableText b new e settled token o = absurd (true≢false settled)
-content_ends Mode.InBody b new e settled token o = o
-content_ends Mode.InTable b new e settled token o = body_used (mode_of Mode.InTable) b new token refl o
-content_ends Mode.InCaption b new e settled token o = body_used (mode_of Mode.InCaption) b new token refl o
-content_ends Mode.InColumnGroup b new e settled token o = body_used (mode_of Mode.InColumnGroup) b new token refl o
-content_ends Mode.InCell b new e settled token o = body_used (mode_of Mode.InCell) b new token refl o
-content_ends Mode.InTableBody b new e settled token o = table_used (mode_of Mode.InTableBody) b new token refl o
-content_ends Mode.InRow b new e settled token o = table_used (mode_of Mode.InRow) b new token refl o
-content_ends _ b new e settled token o = absurd (cc)
+content_ends Mode.InTableText b new next e settled token o = absurd (true≢false settled)
+content_ends Mode.InBody b new next e settled token o = o
+content_ends Mode.InTable b new next e settled token o = body_used (mode_of Mode.InTable) b new next token refl o
+content_ends Mode.InCaption b new next e settled token o = body_used (mode_of Mode.InCaption) b new next token refl o
+content_ends Mode.InColumnGroup b new next e settled token o = body_used (mode_of Mode.InColumnGroup) b new next token refl o
+content_ends Mode.InCell b new next e settled token o = body_used (mode_of Mode.InCell) b new next token refl o
+content_ends Mode.InTableBody b new next e settled token o = table_used (mode_of Mode.InTableBody) b new next token refl o
+content_ends Mode.InRow b new next e settled token o = table_used (mode_of Mode.InRow) b new next token refl o
+content_ends _ b new next e settled token o = absurd (cc)
 
-pub end_of_content : (old new : TreeBuilder) (next : Next) → at_end old.mode ≡ AtEnd.EndContent → EndsPlainly old → new ≡ old → next ≡ Next.Done →
+pub end_of_content : (old new : TreeBuilder) (next : Next) → at_end old.mode ≡ AtEnd.EndContent → EndsPlainly old → ProcessesBy InBody AnEof old new next →
     ProcessesBy Dispatcher AnEof old new next
-end_of_content old new next e plain same done within b token stands =
-    let none : b.template_modes ≡ [] = stands.template_modes ∙ ap (λ (ms : List Mode). map mode_of (reverse ms)) plain.templates in
-    let now = subst (λ (s : TreeBuilder). Constructs s b) (sym same) stands in
-    subst (λ (n : Next). Outcome Dispatcher b new n) (sym done)
-    (by_current old.mode b new Next.Done token stands.mode (content_ends old.mode b new e plain.settled token (body_stops b new none token now)))
+end_of_content old new next e plain by within b token stands =
+    by_current old.mode b new next token stands.mode (content_ends old.mode b new next e plain.settled token (by within b token stands))
+
+no_items : {A : Type 0} → (xs : List A) → length xs ≡ 0 → xs ≡ []
+no_items [] e = refl
+no_items (x ∷ xs) e = absurd (omega (arith, e))
+
+-- no template is open, so the page ends
+pub no_template_ends : (old : TreeBuilder) (b : Building) → length old.template_modes.items ≡ 0 → b.token ≡ AnEof → Constructs old b → Outcome InBody b old Next.Done
+no_template_ends old b none token stands =
+    body_stops b old (stands.template_modes.0 ∙ ap (λ (ms : List Mode). map mode_of (reverse ms)) (no_items old.template_modes.items none)) token stands
 
 -- ---- templates
 
-pub no_template_ends : (s : TreeBuilder) → at_end s.mode ≡ AtEnd.EndTemplate → EndsPlainly s → ⊥
-no_template_ends s e plain = plain.outside (by s.mode e)
-  where
-    by : (m : Mode) → at_end m ≡ AtEnd.EndTemplate → m ≡ Mode.InTemplate
-    by Mode.InTemplate e = refl
-    by _ e = absurd (cc)
+abbrev end_acts : Bool → List Act
+end_acts x = elim (not x && true) [ true ↦ plainly (Stop ∷ []) Next.Done | false ↦ plainly closing_template Next.Again ]
+
+end_row : (b : Building) (x : Bool) → is_open (codes "template") b.tree ≡ x → chosen AnEof b (rules InTemplate) ≡ end_acts x
+unfolding rules
+end_row b x e = ap end_acts e
+
+pub template_stops : (b : Building) (new : TreeBuilder) → b.token ≡ AnEof → is_open (codes "template") b.tree ≡ false → Constructs new b → Outcome InTemplate b new Next.Done
+template_stops b new token e stands = stopped InTemplate b new token (end_row b false e) stands
+
+pub template_ends : (b : Building) (new : TreeBuilder) → b.token ≡ AnEof → is_open (codes "template") b.tree ≡ true → Constructs new (all_performed closing_template b) →
+    Outcome InTemplate b new Next.Again
+unfolding perform
+template_ends b new token e stands =
+    outcome InTemplate b new closing_template Next.Again stands (record { token = refl; attrs = refl }) (taken_of AnEof b token (rules InTemplate) ∙ end_row b true e)
+
+template_mode : (m : Mode) → at_end m ≡ AtEnd.EndTemplate → m ≡ Mode.InTemplate
+template_mode Mode.InTemplate e = refl
+template_mode _ e = absurd (cc)
+
+pub end_of_template : (old new : TreeBuilder) (next : Next) → at_end old.mode ≡ AtEnd.EndTemplate → ProcessesBy InTemplate AnEof old new next → ProcessesBy Dispatcher AnEof old new next
+end_of_template old new next e by within b token stands =
+    by_current Mode.InTemplate b new next token (stands.mode ∙ ap mode_of (template_mode old.mode e)) (by within b token stands)
+
+-- "if the stack of template insertion modes is not empty, then process the token using the rules for in template"
+in_some_template : (acts others : List Act) (modes : List StandardMode) → (modes ≡ [] → ⊥) → elim (not (is_empty modes) && true) [ true ↦ others | false ↦ acts ] ≡ others
+in_some_template acts others [] some = absurd (some refl)
+in_some_template acts others (mode ∷ modes) some = refl
+
+some_modes : (old : TreeBuilder) (b : Building) → (length old.template_modes.items ≡ 0 → ⊥) → Constructs old b → b.template_modes ≡ [] → ⊥
+some_modes old b some stands none =
+    some (sym (ap (λ (ms : List StandardMode). length ms) (sym none ∙ stands.template_modes.0) ∙ length-map (reverse old.template_modes.items) mode_of
+    ∙ length-reverse old.template_modes.items))
+
+pub body_in_template : (old new : TreeBuilder) (next : Next) → (length old.template_modes.items ≡ 0 → ⊥) → ProcessesBy InTemplate AnEof old new next → ProcessesBy InBody AnEof old new next
+unfolding rules
+body_in_template old new next some by within b token stands =
+    outcome_by InBody InTemplate b new next
+    (taken_of AnEof b token (rules InBody) ∙ in_some_template (does Stop [] ∷ []) (goes (Use InTemplate) ∷ []) b.template_modes (some_modes old b some stands)) (by within b token stands)

@@ -8,7 +8,6 @@ use Rattle.page_tokens.specs.declared.token.Tag.{Tag}
 use Rattle.page_trees.specs.Constructs.{Constructs, IsCurrentTag, Outcome, all_performed, returns_later}
 use Rattle.page_trees.specs.Modes.{is_start_kind, mode_of}
 use Rattle.page_trees.specs.Names.{html_rows, rare_rows, text_of}
-use Rattle.page_trees.specs.TagSteps.{covers, covers_outer, way_for}
 use Rattle.page_trees.specs.declared.builder.Mode.{Mode}
 use Rattle.page_trees.specs.declared.builder.Next.{Next}
 use Rattle.page_trees.specs.declared.builder.TreeBuilder.{TreeBuilder}
@@ -51,22 +50,3 @@ pub tag_in_mode : (m : Mode) (b : Building) (new : TreeBuilder) (next : Next) �
 tag_in_mode m b new next e mode o =
     let here : Outcome b.mode b new next = subst (λ (x : StandardMode). Outcome x b new next) (sym mode) o in
     record { after = here.after; stands = here.stands; runs = by_mode b next here.after e here.runs }
-
-pub covered : (m n : Mode) → m ≡ n → covers n ≡ false → covers m ≡ true → ⊥
-covered m n e none covers_it = true≢false (sym covers_it ∙ ap covers e ∙ none)
-
-pub covered_outer : (m n : Mode) → m ≡ n → covers_outer n ≡ false → covers_outer m ≡ true → ⊥
-covered_outer m n e none covers_it = true≢false (sym covers_it ∙ ap covers_outer e ∙ none)
-
-pub outer_of : (m : Mode) → (m ≡ Mode.Text → ⊥) → covers m ≡ true → covers_outer m ≡ true
-outer_of Mode.Text other covers_it = absurd (other refl)
-outer_of _ other covers_it = covers_it
-
-pub initial_left : (m : Mode) → (m ≡ Mode.BeforeHtml → ⊥) → covers_outer m ≡ true → m ≡ Mode.Initial
-initial_left Mode.Initial other covers_it = refl
-initial_left Mode.BeforeHtml other covers_it = absurd (other refl)
-initial_left _ other covers_it = absurd (cc)
-
-pub not_both : (b : Building) (foreign : Bool) → foreign ≡ true → taken b (rules Dispatcher) ≡ goes (way_for foreign) ∷ [] → taken b (rules Dispatcher) ≡ goes UseCurrentMode ∷ [] → ⊥
-not_both b true e one other = (let same = sym one ∙ other in cc)
-not_both b false e one other = absurd (true≢false (sym e))

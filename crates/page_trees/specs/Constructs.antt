@@ -1,7 +1,8 @@
 -- How the state of tree construction (13.2.4) stands for the one that standard_trees defines, and what a function does to it that performs
 -- actions of the rules, or processes a token by the rules for an insertion mode (13.2.6.4).
-use Rattle.std.specs.Prelude.{◌≡◌, Bool, List, None, Option, Result, Some, [], ◌∷◌, Err, IfSome, Ok, codes, false, map, not, option_map, reverse}
-use Rattle.std.specs.Prelude.{String, true, ℕ}
+use Rattle.std.specs.Prelude.{◌≡◌, Bool, List, None, Option, Result, Some, [], ◌∷◌, Err, IfSome, Ok, codes, false, map, not, option_map}
+use Rattle.std.specs.Prelude.{reverse}
+use Rattle.std.specs.Prelude.{String, suc, true, ℕ}
 use Rattle.std.specs.List.{list_all}
 use Rattle.standard_tokens.specs.Machine.{Tag as StandardTag, token_of}
 use Rattle.standard_trees.specs.Building.{Building, NoQuirks, is_space, perform}
@@ -9,6 +10,7 @@ use Rattle.standard_trees.specs.Building.{run, token_attrs}
 use Rattle.standard_trees.specs.RuleWords.{Action, AfterHead, BeforeHead, BeforeHtml, Dispatcher, InBody, InHead, InsertNamed}
 use Rattle.standard_trees.specs.RuleWords.{InsertRootNamed, Mode as StandardMode, PlainText, Pop, RawText, RcdataText, ScriptText}
 use Rattle.standard_trees.specs.RuleWords.{SetHeadPointer, SetQuirks, SwitchTo, TextState}
+use Rattle.page_trees.specs.Turns.{run_while}
 use Rattle.page_tokens.specs.Standard.{IsTag, Spells}
 use Rattle.page_tokens.specs.declared.token.Tag.{Tag}
 use Rattle.page_tokens.specs.declared.tokenizer.state.State.{State}
@@ -46,6 +48,10 @@ is_entered_plainly mode = not (returns_later mode)
 abbrev pub IsPending : {A : Type 0} → String A → Bool → List ℕ → Type 0
 IsPending text letters pending = Spells text (reverse pending) × (letters ≡ not (list_all is_space pending))
 
+-- the stack of template insertion modes, each of which is entered plainly
+abbrev pub AreTemplateModes : List Mode → List StandardMode → Type 0
+AreTemplateModes items modes = (modes ≡ map mode_of (reverse items)) × (list_all is_entered_plainly items ≡ true)
+
 -- The state is that of the definition. The original insertion mode counts in the modes that return to it, and pending table characters
 -- count in "in table text" alone. The quirks mode is not set before a doctype is read.
 pub record Constructs (s : TreeBuilder) (b : Building) : Type 0 where
@@ -54,7 +60,7 @@ pub record Constructs (s : TreeBuilder) (b : Building) : Type 0 where
   pub in_head : s.placing.in_head ≡ false
   pub mode : b.mode ≡ mode_of s.mode
   pub original : returns_later s.mode ≡ true → b.original ≡ mode_of s.original
-  pub template_modes : b.template_modes ≡ map mode_of (reverse s.template_modes.items)
+  pub template_modes : AreTemplateModes s.template_modes.items b.template_modes
   pub frameset_ok : b.frameset_ok ≡ s.frameset_ok
   pub scripting : b.scripting ≡ s.scripting
   pub quirks : mode_for b.quirks ≡ s.quirks
@@ -142,10 +148,17 @@ pub record HaveOneToken (b c : Building) : Type 0 where
   pub token : c.token ≡ b.token
   pub attrs : c.attrs ≡ b.attrs
 
+-- what comes of the token by the rules for a mode, turn by turn, comes of it in the state behind, by the dispatcher's and less deep
+abbrev pub TakesTurn : StandardMode → Building → Building → Type 0
+TakesTurn mode b after =
+    (test : Building → Bool) (depth : ℕ) (c : Building) → run_while test (suc depth) mode b ≡ Some c →
+    run_while test depth Dispatcher after ≡ Some c
+
 -- by the rules for a mode the token is done with there, or it is to be reprocessed there
 abbrev pub Runs : StandardMode → Building → Next → Building → Type 0
 Runs mode b Next.Done after = ComesTo mode b after
-Runs mode b Next.Again after = HaveOneToken b after × ((c : Building) → ComesTo Dispatcher after c → ComesTo mode b c)
+Runs mode b Next.Again after =
+    HaveOneToken b after × ((c : Building) → ComesTo Dispatcher after c → ComesTo mode b c) × TakesTurn mode b after
 
 -- what the rules for a mode make of the current token, and the new state stands for it
 pub record Outcome (mode : StandardMode) (b : Building) (new : TreeBuilder) (next : Next) : Type 0 where

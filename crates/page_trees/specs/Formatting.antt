@@ -1,5 +1,6 @@
 -- The list of active formatting elements (13.2.4.3).
-use Rattle.std.specs.Prelude.{ℕ, ◌≡◌, ◌⊎◌, Bool, true, false, ◌==◌, ◌&&◌, List, [], ◌∷◌, Option, None, Some, All, length, remove, reverse, slice_get, if◌then◌else◌}
+use Rattle.std.specs.Prelude.{ℕ, ◌≡◌, ◌⊎◌, Bool, true, false, ◌==◌, ◌&&◌, List, [], ◌∷◌, Option, None, Some, All, length, nat_lt, remove}
+use Rattle.std.specs.Prelude.{reverse, slice_get, if◌then◌else◌}
 use Rattle.std.specs.List.{list_all, list_any}
 use Rattle.std.specs.Option.{option_and_then, option_map_or}
 use Rattle.std.specs.Str.{bytes_eq}
@@ -17,6 +18,10 @@ use Rattle.page_trees.specs.declared.stack.Open.{Open}
 abbrev pub element_in : Entry → Option Open
 element_in (AnEntry o) = Some o
 element_in Marker = None
+
+-- there are fewer entries than are searched by an index
+abbrev pub are_few : {X : Type 0} → List X → Bool
+are_few xs = nat_lt (length xs) 16
 
 -- the elements up to the first marker
 abbrev pub up_to_marker : List Entry → List Open
@@ -55,7 +60,7 @@ last_place test entries = place_from_end test (reverse entries)
 
 -- ---- the Noah's Ark clause
 
--- two elements have the same name and the same attributes, in any order: no two attributes of an element have the same name
+-- two elements have the same name and the same attributes, in any order
 abbrev pub same_attr : Attr → Attr → Bool
 same_attr one other = same_name one.name other.name && bytes_eq one.value other.value
 
@@ -63,7 +68,8 @@ abbrev pub has_attr : List Attr → Attr → Bool
 has_attr attrs attr = list_any (same_attr attr) attrs
 
 abbrev pub same_element : Element → Element → Bool
-same_element one other = same_name one.name other.name && (length one.attrs == length other.attrs && list_all (has_attr other.attrs) one.attrs)
+same_element one other =
+    same_name one.name other.name && (list_all (has_attr other.attrs) one.attrs && list_all (has_attr one.attrs) other.attrs)
 
 -- this of two nodes of a tree
 abbrev pub are_alike : Forest → ℕ → ℕ → Bool

@@ -1,5 +1,6 @@
 -- What a later tag `html` or `body` does to the state of tree construction (13.2.6.4.7): its attributes are merged into the element.
-use Rattle.std.specs.Prelude.{◌≡◌, ◌++◌, ◌==◌, ◌∷◌, IfSome, List, None, Option, Some, [], codes, if◌then◌else◌, map, option_map, slice_get, slice_set}
+use Rattle.std.specs.Prelude.{◌≡◌, ◌++◌, ◌==◌, ◌∷◌, IfSome, List, None, Option, Some, [], codes, if◌then◌else◌, map, option_map, slice_get}
+use Rattle.std.specs.Prelude.{slice_set}
 use Rattle.std.specs.Prelude.{Bool, true, ℕ}
 use Rattle.std.specs.List.{list_any}
 use Rattle.standard_trees.specs.Building.{Building, with_tree}

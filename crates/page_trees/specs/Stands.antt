@@ -8,7 +8,8 @@ use Rattle.standard_tokens.specs.Tokens.{Doctype}
 use Rattle.standard_trees.specs.Formatting.{cleared}
 use Rattle.standard_trees.specs.GrowingTree.{Entry as StandardEntry, FormAt, FormOfContext, FormPointer as StandardForm, Formatting}
 use Rattle.standard_trees.specs.GrowingTree.{GrowingTree, Marker, NoForm, has_in_scope, has_value, is_html_point, is_named, lower}
-use Rattle.standard_trees.specs.GrowingTree.{beyond, current, is_foreign, inserted_at, is_one as is_one_of, place, place_is_document, popped_until}
+use Rattle.standard_trees.specs.GrowingTree.{beyond, current, is_foreign, inserted_at, is_one as is_one_of, place, place_is_document}
+use Rattle.standard_trees.specs.GrowingTree.{popped_until}
 use Rattle.standard_trees.specs.GrowingTree.{with_stack}
 use Rattle.standard_trees.specs.NameLists.{html_encodings}
 use Rattle.standard_trees.specs.RuleWords.{ButtonScope, ListItemScope, Scope as DefaultScope, ScopeKind, TableScope}

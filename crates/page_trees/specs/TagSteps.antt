@@ -5,12 +5,10 @@ use Rattle.standard_trees.specs.RuleWords.{Dispatcher, ForeignContent, Use, UseC
 use Rattle.standard_trees.specs.TreeRules.{rules}
 use Rattle.page_tokens.specs.declared.token.Tag.{Tag}
 use Rattle.page_tokens.specs.declared.token.TagKind.{TagKind}
-use Rattle.page_trees.specs.Constructs.{Constructs, IsCurrentTag, Outcome, WithinLimits}
+use Rattle.page_trees.specs.Constructs.{IsCurrentTag}
 use Rattle.page_trees.specs.Stands.{Builds}
 use Rattle.page_trees.specs.TreeState.{TreeState}
 use Rattle.page_trees.specs.declared.builder.Mode.{Mode}
-use Rattle.page_trees.specs.declared.builder.Next.{Next}
-use Rattle.page_trees.specs.declared.builder.TreeBuilder.{TreeBuilder}
 use Rattle.page_trees.specs.declared.name.Name.{Name}
 
 abbrev pub way_for : Bool → Way
@@ -22,18 +20,17 @@ DispatchesTag kind name state foreign =
     (tag : Tag) → tag.kind ≡ kind → (b : Building) → IsCurrentTag name tag b → Builds state b.tree →
     taken b (rules Dispatcher) ≡ goes (way_for foreign) ∷ []
 
--- the modes around the body of which it is stated that the code processes each tag by their rules; and all such modes
-abbrev pub covers_outer : Mode → Bool
-covers_outer Mode.Initial = true
-covers_outer Mode.BeforeHtml = true
-covers_outer _ = false
-
-abbrev pub covers : Mode → Bool
-covers Mode.Text = true
-covers mode = covers_outer mode
-
--- within the limits, a tag that the dispatcher leaves to the current mode is processed
-abbrev pub DispatchesInMode : Name → Tag → TreeBuilder → TreeBuilder → Next → Type 0
-DispatchesInMode name tag old new next =
-    WithinLimits new → (b : Building) → IsCurrentTag name tag b → Constructs old b → taken b (rules Dispatcher) ≡ goes UseCurrentMode ∷ [] →
-    Outcome Dispatcher b new next
+-- the modes before the body and after it
+abbrev pub is_outer : Mode → Bool
+is_outer Mode.Initial = true
+is_outer Mode.BeforeHtml = true
+is_outer Mode.BeforeHead = true
+is_outer Mode.InHead = true
+is_outer Mode.InHeadNoscript = true
+is_outer Mode.AfterHead = true
+is_outer Mode.AfterBody = true
+is_outer Mode.InFrameset = true
+is_outer Mode.AfterFrameset = true
+is_outer Mode.AfterAfterBody = true
+is_outer Mode.AfterAfterFrameset = true
+is_outer _ = false

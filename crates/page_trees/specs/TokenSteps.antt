@@ -96,9 +96,7 @@ at_end Mode.AfterAfterFrameset = AtEnd.Stop
 at_end Mode.InTemplate = AtEnd.EndTemplate
 at_end _ = AtEnd.EndContent
 
--- No template is open, and no characters are pending.
+-- No characters are pending, and the mode to which "text" returns is entered plainly.
 pub record EndsPlainly (s : TreeBuilder) : Type 0 where
-  pub templates : s.template_modes.items ≡ []
-  pub outside : s.mode ≡ Mode.InTemplate → ⊥
   pub settled : keeps_characters s.mode ≡ false
   pub original : ReturnsPlainly s

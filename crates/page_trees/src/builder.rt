@@ -1,6 +1,8 @@
 //! The state of tree construction (13.2.4), besides the tree and the stack.
 
-ghost use Rattle.std.specs.Prelude.{◌≡◌, ◌||◌, length, nat_lt};
+ghost use Rattle.std.specs.Prelude.{◌≡◌, ◌≤◌, ◌||◌, None, OnOk, length, nat_lt};
+ghost use Rattle.std.specs.Option.{option_or};
+ghost use Rattle.standard_trees.specs.Building.{empty_tree, start};
 ghost use Rattle.page_trees.specs.Constructs.{first_fault};
 ghost use Rattle.page_trees.specs.declared.builder.Next.TheVariants.{Again, Done as IsDone};
 
@@ -44,6 +46,13 @@ pub enum Next {
     Again,
 }
 
+/// Which limits were met: the first fault, and whether more elements were open than may be nested.
+#[derive(Clone, Copy, Drop)]
+pub struct Met {
+    fault: Option<PageFault>,
+    too_deep: bool,
+}
+
 /// The smallest limit on depth: `html`, `body`, and one more element.
 const LEAST_DEPTH: usize = 3;
 
@@ -75,7 +84,13 @@ pub struct TreeBuilder {
 }
 
 impl TreeBuilder {
-    pub fn new(alloc: Global, tree: GrowingTree, options: Options) -> TreeBuilder {
+    ghost use Rattle.page_trees.specs.Constructs.{Constructs};
+    ghost use Rattle.page_trees.specs.Stands.{Builds};
+
+    pub fn new(alloc: Global, tree: GrowingTree, options: Options) -> TreeBuilder
+        ensures switch { result.switch ≡ None }
+        ensures stands { Builds tree empty_tree → Constructs result (start options.scripting) }
+    {
         TreeBuilder {
             alloc,
             tree,
@@ -120,8 +135,30 @@ impl TreeBuilder {
         }
     }
 
+    /// Returns which limits were met so far.
+    pub fn met(&self) -> Met
+        ensures { result ≡ record { fault = self.now.fault; too_deep = self.now.too_deep } }
+    {
+        Met {
+            fault: self.fault,
+            too_deep: self.too_deep,
+        }
+    }
+
+    /// Notes that limits were met before, too.
+    pub fn note_met(&mut self, met: Met)
+        ensures { let fault = option_or met.fault self.old.fault in
+            let deep = self.old.too_deep || met.too_deep in
+            self.new ≡ record self.old { fault = fault; too_deep = deep } }
+    {
+        self.fault = met.fault.or(self.fault);
+        self.too_deep |= met.too_deep;
+    }
+
     /// Returns the first fault as an error, if there is one.
-    pub fn settled(&self) -> Result<(), PageFault> {
+    pub fn settled(&self) -> Result<(), PageFault>
+        ensures { OnOk result (self.now.fault ≡ None) }
+    {
         match self.fault {
             Some(fault) => Err(fault),
             None => Ok(()),
@@ -145,7 +182,9 @@ impl TreeBuilder {
     }
 
     /// Returns how often a token may be reprocessed; after that the rules for "in body" process it.
-    pub fn turns(&self) -> usize {
+    pub fn turns(&self) -> usize
+        ensures { 64 ≤ result }
+    {
         self.tree.open().len().saturating_mul(4).saturating_add(64)
     }
 }

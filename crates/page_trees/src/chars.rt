@@ -1,9 +1,24 @@
 //! Character tokens, which come as runs.
 
-ghost use Rattle.std.specs.Prelude.{◌≡◌, false};
-ghost use Rattle.page_trees.specs.Constructs.{Leaves};
+ghost use Rattle.std.specs.Prelude.{List, encode_utf8_all, false, length, map, not, true, ℕ, ◌∷◌};
+ghost use Rattle.std.specs.Prelude.{◌≡◌};
+ghost use Rattle.std.specs.List.{list_any};
+ghost use Rattle.standard_tokens.specs.Tokens.{AChar};
+ghost use Rattle.standard_trees.specs.Building.{is_space};
+ghost use Rattle.page_trees.specs.CharacterTexts.{TakesPiece, TakesText, front_spaces, is_text};
+ghost use Rattle.page_trees.specs.CharacterTexts.{past_spaces, unskipped};
+ghost use Rattle.page_trees.specs.CoveredTurns.{TakesTokens};
+ghost use Rattle.page_trees.specs.CharacterSteps.{Inserts, InsertsInBody, InsertsLetters, IsRun};
+ghost use Rattle.page_trees.specs.CharacterSteps.{ProcessesForeignRun, ProcessesRun};
+ghost use Rattle.page_trees.specs.CharacterSteps.{ProcessesRunInMode, goes_to_mode, is_null};
+ghost use Rattle.page_trees.specs.CharacterSteps.{way_of, way_of_letters, way_of_nulls};
+ghost use Rattle.page_trees.specs.CharacterSteps.{way_of_spaces};
+ghost use Rattle.page_trees.specs.Constructs.{Leaves, RemembersLimits};
 ghost use Rattle.page_trees.specs.Modes.{drops_letters, holds_table_text, joins_spaces};
+ghost use Rattle.page_trees.specs.Stands.{Tells};
 ghost use Rattle.page_trees.specs.TokenSteps.{keeps_characters};
+ghost use Rattle.page_trees.specs.declared.builder.Next.TheVariants.{Done as IsDone};
+ghost use Rattle.page_trees.specs.declared.chars.Run.TheVariants.{Spaces};
 
 use crate::builder::{Mode, Next, TreeBuilder};
 use crate::fault::PageFault;
@@ -36,16 +51,52 @@ fn has_null(text: &str) -> bool {
     false
 }
 
-/// Returns the text without its leading whitespace.
-fn behind_spaces(text: &str) -> &str {
-    let mut count: usize = 0;
-    for byte in text.as_bytes() {
-        if !matches!(*byte, b'\t' | b'\n' | 0xc | b'\r' | b' ') {
-            break;
+/// Returns whether the text contains a null, byte by byte.
+fn contains_null(text: &str) -> bool
+    ensures { result ≡ list_any is_null text.now }
+{
+    text.as_bytes().contains(&0)
+}
+
+/// Returns whether tree construction treats the byte as whitespace.
+#[inline(always)]
+fn is_space(byte: u8) -> bool
+    ensures { result ≡ is_space byte }
+{
+    matches!(byte, b'\t' | b'\n' | 0xc | b'\r' | b' ')
+}
+
+/// Returns how many bytes of whitespace come first.
+fn spaces_len(text: &str) -> usize
+    ensures { result ≡ length (front_spaces text.now) }
+{
+    let bytes = text.as_bytes();
+    let mut count = 0;
+    while count < bytes.len() {
+        if !is_space(bytes[count]) {
+            return count;
         }
-        count = count.saturating_add(1);
+        count += 1;
     }
-    text.get(count..).unwrap_or(text)
+    count
+}
+
+/// Returns the leading whitespace of the text, and what follows it.
+fn split_spaces(text: &str) -> (&str, &str)
+    ensures front { result.0.now ≡ front_spaces text.now }
+    ensures rest { result.1.now ≡ past_spaces text.now }
+{
+    text.split_at(spaces_len(text))
+}
+
+/// Returns the text without a line feed at its beginning.
+fn without_line_feed(text: &str) -> &str
+    ensures { result.now ≡ unskipped true text.now }
+{
+    let Some(rest) = text.strip_prefix('\n') else {
+        return text;
+    };
+    rest
 }
 
 /// The kinds of runs of characters: nulls, whitespace alone, or any others.
@@ -83,6 +134,13 @@ fn keeps_characters(mode: Mode) -> bool
     matches!(mode, Mode::InTableText)
 }
 
+/// Returns whether characters are those of a text, such as a title.
+fn is_text(mode: Mode) -> bool
+    ensures { result ≡ is_text mode }
+{
+    matches!(mode, Mode::Text)
+}
+
 /// Returns whether characters in that element are pending table character tokens.
 fn holds_table_text(element: &Open) -> bool
     ensures { result ≡ holds_table_text element.now }
@@ -90,21 +148,123 @@ fn holds_table_text(element: &Open) -> bool
     is_template(element) || is_foster_target(element)
 }
 
+/// What the rules for a mode make of a run.
+#[derive(Clone, Copy, Drop)]
+enum RunWay {
+    Ignore,
+    /// The characters are inserted.
+    Put,
+    /// The rules for "in body" process them.
+    Body,
+    /// The rules for "in table" process them.
+    Table,
+    /// They become pending table character tokens.
+    Pending,
+    /// The mode is left, as at anything else.
+    Leave,
+}
+
+fn way_of(kind: Run, mode: Mode) -> RunWay
+    ensures { result ≡ way_of kind mode }
+{
+    match kind {
+        Run::Nulls => way_of_nulls(mode),
+        Run::Spaces => way_of_spaces(mode),
+        Run::Letters => way_of_letters(mode),
+    }
+}
+
+fn way_of_spaces(mode: Mode) -> RunWay
+    ensures { result ≡ way_of_spaces mode }
+{
+    match mode {
+        Mode::Initial | Mode::BeforeHtml | Mode::BeforeHead => RunWay::Ignore,
+        Mode::InBody | Mode::InCaption | Mode::InCell | Mode::InTemplate => RunWay::Body,
+        Mode::AfterBody | Mode::AfterAfterBody | Mode::AfterAfterFrameset => RunWay::Body,
+        Mode::InTable | Mode::InTableBody | Mode::InRow => RunWay::Table,
+        Mode::InTableText => RunWay::Pending,
+        _ => RunWay::Put,
+    }
+}
+
+fn way_of_letters(mode: Mode) -> RunWay
+    ensures { result ≡ way_of_letters mode }
+{
+    match mode {
+        Mode::InBody | Mode::InCaption | Mode::InCell | Mode::InTemplate => RunWay::Body,
+        Mode::Text => RunWay::Put,
+        Mode::InFrameset | Mode::AfterFrameset | Mode::AfterAfterFrameset => RunWay::Ignore,
+        Mode::InTable | Mode::InTableBody | Mode::InRow => RunWay::Table,
+        Mode::InTableText => RunWay::Pending,
+        _ => RunWay::Leave,
+    }
+}
+
+/// Returns what the rules for a mode make of nulls. In the text of an element there are none: they
+/// are replaced there.
+fn way_of_nulls(mode: Mode) -> RunWay
+    ensures { result ≡ way_of_nulls mode }
+{
+    match mode {
+        Mode::InBody | Mode::InCaption | Mode::InCell | Mode::InTemplate => RunWay::Ignore,
+        Mode::InTableText => RunWay::Ignore,
+        Mode::InTable | Mode::InTableBody | Mode::InRow => RunWay::Table,
+        Mode::Text => RunWay::Put,
+        Mode::InFrameset | Mode::AfterFrameset | Mode::AfterAfterFrameset => RunWay::Ignore,
+        _ => RunWay::Leave,
+    }
+}
+
 impl TreeBuilder {
     /// Processes the characters between two tokens.
-    pub fn characters(&mut self, text: &str) {
-        let mut text = text;
-        if self.skip_line_feed && !text.is_empty() {
-            self.skip_line_feed = false;
-            text = text.strip_prefix('\n').unwrap_or(text);
-        }
+    pub fn characters(&mut self, text: &str)
+        ensures limits { RemembersLimits self.old self.new }
+        ensures rule { (cs : List ℕ) → text.now ≡ encode_utf8_all cs →
+            TakesTokens (map AChar cs) self.old self.new }
+    {
         if text.is_empty() {
             return;
         }
-        if self.mode == Mode::Text {
+        let rest = self.past_line_feed(text);
+        self.some_characters(rest)
+    }
+
+    /// Returns the text without the line feed that is to be ignored, if it begins with one.
+    fn past_line_feed<'a>(&mut self, text: &'a str) -> &'a str
+        ensures rest { result.now ≡ unskipped self.old.skip_line_feed text.now }
+        ensures value { self.new ≡ record self.old { skip_line_feed = false } }
+    {
+        let skip = self.skip_line_feed;
+        self.skip_line_feed = false;
+        if skip {
+            return without_line_feed(text);
+        }
+        text
+    }
+
+    /// Processes characters, none of which is ignored.
+    fn some_characters(&mut self, text: &str)
+        ensures limits { RemembersLimits self.old self.new }
+        ensures rule { TakesText text.now self.old self.new }
+    {
+        if text.is_empty() {
+            return;
+        }
+        if is_text(self.mode) {
             return self.put_text(text);
         }
         if !has_null(text) {
+            return self.stretch(text);
+        }
+        self.stretches(text)
+    }
+
+    /// Processes characters, some of which may be nulls.
+    fn stretches(&mut self, text: &str)
+        ensures limits { RemembersLimits self.old self.new }
+        ensures rule { TakesText text.now self.old self.new }
+    {
+        if !contains_null(text) {
             return self.stretch(text);
         }
         for stretch in text.split_inclusive('\0') {
@@ -113,7 +273,9 @@ impl TreeBuilder {
     }
 
     /// Processes characters of which only the last may be a null.
-    fn stretch_to_null(&mut self, text: &str) {
+    fn stretch_to_null(&mut self, text: &str)
+        ensures limits { RemembersLimits self.old self.new }
+    {
         let Some(front) = text.strip_suffix('\0') else {
             return self.stretch(text);
         };
@@ -123,15 +285,18 @@ impl TreeBuilder {
 
     /// Processes characters without nulls: leading whitespace and then the rest, or all as one run
     /// if the mode treats them alike.
-    fn stretch(&mut self, text: &str) {
-        let rest = behind_spaces(text);
+    fn stretch(&mut self, text: &str)
+        ensures limits { RemembersLimits self.old self.new }
+        ensures rule { TakesText text.now self.old self.new }
+    {
+        let (spaces, rest) = split_spaces(text);
         if !rest.is_empty() && joins_spaces(self.mode) {
             return self.run(Run::Letters, text);
         }
-        let spaces = text
-            .get(..text.len().saturating_sub(rest.len()))
-            .unwrap_or("");
         self.run(Run::Spaces, spaces);
+        if rest.is_empty() {
+            return;
+        }
         if drops_letters(self.mode) {
             return self.words(rest);
         }
@@ -139,85 +304,91 @@ impl TreeBuilder {
     }
 
     /// Processes words, and the whitespace between them, one by one.
-    fn words(&mut self, text: &str) {
+    fn words(&mut self, text: &str)
+        ensures limits { RemembersLimits self.old self.new }
+    {
         for piece in text.split_inclusive(SPACES) {
             self.word(piece);
         }
     }
 
     /// Processes a word and the whitespace after it.
-    fn word(&mut self, piece: &str) {
+    fn word(&mut self, piece: &str)
+        ensures limits { RemembersLimits self.old self.new }
+    {
         let word = piece.trim_end_matches(SPACES);
         self.run(Run::Letters, word);
         self.run(Run::Spaces, piece.get(word.len()..).unwrap_or(""))
     }
 
     /// Processes a run of characters, unless it is empty.
-    fn run(&mut self, kind: Run, text: &str) {
+    fn run(&mut self, kind: Run, text: &str)
+        ensures limits { RemembersLimits self.old self.new }
+        ensures rule { TakesPiece kind text.now self.old self.new }
+    {
         if !text.is_empty() {
             self.process(Token::Run(kind, text));
         }
     }
 
     /// Processes a run by the rules of the current insertion mode, or of foreign content.
-    pub fn run_step(&mut self, kind: Run, text: &str) -> Next {
-        if let Some(open) = self.tree.adjusted_current()
-            && open.holds_foreign()
-        {
+    pub fn run_step(&mut self, kind: Run, text: &str) -> Next
+        ensures { (c : ℕ) (cs : List ℕ) → IsRun kind self.old.mode text.now c cs →
+            ProcessesRun kind c cs self.old self.new result }
+    {
+        if self.is_run_foreign() {
             return self.foreign_run(kind, text);
         }
-        match kind {
-            Run::Nulls => self.process_nulls(text),
-            Run::Spaces => self.spaces(text),
-            Run::Letters => self.letters(text),
+        self.run_in_mode(kind, text)
+    }
+
+    /// Returns whether the rules for foreign content process characters.
+    fn is_run_foreign(&self) -> bool
+        ensures { Tells (λ t. not (goes_to_mode t)) self.now.tree result }
+    {
+        match self.tree.adjusted_current() {
+            Some(open) => open.holds_foreign(),
+            None => false,
         }
     }
 
-    fn foreign_run(&mut self, kind: Run, text: &str) -> Next {
+    /// Processes a run by the rules for foreign content.
+    fn foreign_run(&mut self, kind: Run, text: &str) -> Next
+        ensures next { result ≡ IsDone }
+        ensures limits { RemembersLimits self.old self.new }
+        ensures rule { (c : ℕ) (cs : List ℕ) → IsRun kind self.old.mode text.now c cs →
+            ProcessesForeignRun c cs self.old self.new }
+    {
         match kind {
             Run::Nulls => self.put_run("\u{fffd}"),
             Run::Spaces => self.put_run(text),
-            Run::Letters => {
-                self.frameset_ok = false;
-                self.put_run(text)
-            }
+            Run::Letters => self.put_letters(text),
         }
     }
 
-    fn spaces(&mut self, text: &str) -> Next {
-        match self.mode {
-            Mode::Initial | Mode::BeforeHtml | Mode::BeforeHead => Next::Done,
-            Mode::InBody
-            | Mode::InCaption
-            | Mode::InCell
-            | Mode::InTemplate
-            | Mode::AfterBody
-            | Mode::AfterAfterBody
-            | Mode::AfterAfterFrameset => self.body_run(Run::Spaces, text),
-            Mode::InTable | Mode::InTableBody | Mode::InRow => self.table_run(Run::Spaces, text),
-            Mode::InTableText => self.pending_run(Run::Spaces, text),
-            _ => self.put_run(text),
-        }
+    /// Inserts characters that are not white space alone.
+    fn put_letters(&mut self, text: &str) -> Next
+        ensures next { result ≡ IsDone }
+        ensures limits { RemembersLimits self.old self.new }
+        ensures rule { (c : ℕ) (cs : List ℕ) → text.now ≡ encode_utf8_all (c ∷ cs) →
+            InsertsLetters (c ∷ cs) self.old self.new }
+    {
+        self.put_text(text);
+        self.spoil_frameset()
     }
 
-    fn letters(&mut self, text: &str) -> Next {
-        match self.mode {
-            Mode::InBody | Mode::InCaption | Mode::InCell | Mode::InTemplate => {
-                self.body_run(Run::Letters, text)
-            }
-            Mode::Text => self.put_run(text),
-            Mode::InTable | Mode::InTableBody | Mode::InRow => self.table_run(Run::Letters, text),
-            Mode::InTableText => self.pending_run(Run::Letters, text),
-            _ => self.leave_mode(),
-        }
-    }
-
-    fn process_nulls(&mut self, text: &str) -> Next {
-        match self.mode {
-            Mode::InBody | Mode::InCaption | Mode::InCell | Mode::InTemplate | Mode::InTableText =>
-                Next::Done,
-            Mode::InTable | Mode::InTableBody | Mode::InRow => self.table_run(Run::Nulls, text),
-            _ => self.leave_mode(),
+    /// Processes a run by the rules for the current insertion mode.
+    fn run_in_mode(&mut self, kind: Run, text: &str) -> Next
+        ensures { (c : ℕ) (cs : List ℕ) → IsRun kind self.old.mode text.now c cs →
+            ProcessesRunInMode kind c cs self.old self.new result }
+    {
+        match way_of(kind, self.mode) {
+            RunWay::Ignore => Next::Done,
+            RunWay::Put => self.put_run(text),
+            RunWay::Body => self.body_run(kind, text),
+            RunWay::Table => self.table_run(kind, text),
+            RunWay::Pending => self.pending_run(kind, text),
+            RunWay::Leave => self.leave_mode(),
         }
     }
 
@@ -238,21 +409,51 @@ impl TreeBuilder {
         }
     }
 
-    fn put_run(&mut self, text: &str) -> Next {
+    /// Sets the frameset-ok flag to "not ok".
+    fn spoil_frameset(&mut self) -> Next
+        ensures next { result ≡ IsDone }
+        ensures value { self.new ≡ record self.old { frameset_ok = false } }
+    {
+        self.frameset_ok = false;
+        Next::Done
+    }
+
+    fn put_run(&mut self, text: &str) -> Next
+        ensures next { result ≡ IsDone }
+        ensures limits { RemembersLimits self.old self.new }
+        ensures rule { (c : ℕ) (cs : List ℕ) → text.now ≡ encode_utf8_all (c ∷ cs) →
+            Inserts (c ∷ cs) self.old self.new }
+    {
         self.put_text(text);
         Next::Done
     }
 
     /// Processes characters by the rules for "in body".
-    pub fn body_run(&mut self, kind: Run, text: &str) -> Next {
-        if kind == Run::Nulls {
-            return Next::Done;
+    pub fn body_run(&mut self, kind: Run, text: &str) -> Next
+        ensures next { result ≡ IsDone }
+        ensures limits { RemembersLimits self.old self.new }
+        ensures rule { (c : ℕ) (cs : List ℕ) → text.now ≡ encode_utf8_all (c ∷ cs) →
+            InsertsInBody kind (c ∷ cs) self.old self.new }
+    {
+        match kind {
+            Run::Nulls => Next::Done,
+            Run::Spaces => self.put_inline(text),
+            Run::Letters => {
+                self.put_inline(text);
+                self.spoil_frameset()
+            }
         }
+    }
+
+    /// Reconstructs the active formatting elements, and then inserts characters.
+    fn put_inline(&mut self, text: &str) -> Next
+        ensures next { result ≡ IsDone }
+        ensures limits { RemembersLimits self.old self.new }
+        ensures rule { (c : ℕ) (cs : List ℕ) → text.now ≡ encode_utf8_all (c ∷ cs) →
+            InsertsInBody Spaces (c ∷ cs) self.old self.new }
+    {
         self.reconstruct();
         self.put_text(text);
-        if kind == Run::Letters {
-            self.frameset_ok = false;
-        }
         Next::Done
     }
 

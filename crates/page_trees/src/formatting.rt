@@ -1,13 +1,13 @@
 //! The list of active formatting elements (13.2.4.3).
 
 ghost use Rattle.std.specs.Prelude.{◌≡◌, [], ◌∷◌, ◌++◌, Contains, IfNone, IfSome, OnErr, OnOk};
-ghost use Rattle.std.specs.Prelude.{MatchOption, length};
+ghost use Rattle.std.specs.Prelude.{MatchOption, length, true};
 ghost use Rattle.std.specs.Prelude.{insert, remove, slice_get, slice_set};
 ghost use Rattle.std.specs.List.{list_all};
 ghost use Rattle.std.specs.Option.{option_and_then, option_copied, option_to_list};
 ghost use Rattle.dom_trees.specs.Views.{node_element};
 ghost use Rattle.page_trees.specs.Formatting.{IsFirst, IsNamed, IsWithout, NoneHas, after_marker};
-ghost use Rattle.page_trees.specs.Formatting.{are_alike, element_in, has_attr, is_of};
+ghost use Rattle.page_trees.specs.Formatting.{are_alike, are_few, element_in, has_attr, is_of};
 ghost use Rattle.page_trees.specs.Formatting.{last_place, same_attr, same_element, third_alike};
 ghost use Rattle.page_trees.specs.Formatting.{with_room};
 ghost use Rattle.page_trees.specs.Popping.{before_last, is_a_marker};
@@ -26,8 +26,8 @@ use dom_trees::tree::Tree;
 use index::FormattingIndex;
 use std::alloc::Global;
 
-/// A list of this many entries gets an index; a list of half as many loses it. In a shorter list,
-/// each search looks at every entry.
+/// A list of this many entries gets an index, by which it is searched; a list of half as many loses
+/// it. In a shorter list, each search looks at every entry.
 const MANY: usize = 16;
 
 /// An entry of the list of active formatting elements.
@@ -113,18 +113,17 @@ fn has_attrs(one: &Element, other: &Element) -> bool
     true
 }
 
-/// Returns whether two elements have the same name and the same attributes, in any order. No two
-/// attributes of an element have the same name.
+/// Returns whether two elements have the same name and the same attributes, in any order.
 fn is_same_element(one: &Element, other: &Element) -> bool
     ensures { result ≡ same_element one.now other.now }
 {
     if !one.name().is_same(&other.name()) {
         return false;
     }
-    if one.attrs().as_slice().len() != other.attrs().as_slice().len() {
+    if !has_attrs(one, other) {
         return false;
     }
-    has_attrs(one, other)
+    has_attrs(other, one)
 }
 
 /// Returns the element with that id.
@@ -212,6 +211,13 @@ impl ActiveFormatting {
         ensures { result ≡ length self.now.entries.items }
     {
         self.entries.len()
+    }
+
+    /// Returns whether the list has fewer entries than are searched by an index.
+    fn is_short(&self) -> bool
+        ensures { result ≡ are_few self.now.entries.items }
+    {
+        self.entries.len() < MANY
     }
 
     pub fn as_slice(&self) -> &[Entry]
@@ -303,8 +309,11 @@ impl ActiveFormatting {
     /// a long list answers by the likeness alone; the contract says nothing of that answer.
     pub fn third_same(&self, tree: &Tree, id: NodeId, likeness: u32) -> Option<usize>
         ensures { let entries = self.now.entries.items in
-            self.now.index ≡ None → result ≡ third_alike tree.now id entries }
+            are_few entries ≡ true → result ≡ third_alike tree.now id entries }
     {
+        if self.is_short() {
+            return third_like(self.entries.as_slice(), tree, id);
+        }
         match &self.index {
             Some(index) => index.third_alike(likeness),
             None => third_like(self.entries.as_slice(), tree, id),
@@ -313,10 +322,10 @@ impl ActiveFormatting {
 
     /// Makes room for an element that is to be added: if three elements after the last marker have
     /// its name and attributes, the earliest is removed (the Noah's Ark clause). At most one entry
-    /// is removed; the contract says which one for a list without an index.
+    /// is removed; the contract says which one for a short list.
     pub fn make_room(&mut self, tree: &Tree, id: NodeId, likeness: u32)
         ensures ark { let old = self.old.entries.items in
-            self.old.index ≡ None → self.new.entries.items ≡ with_room tree.now id old }
+            are_few old ≡ true → self.new.entries.items ≡ with_room tree.now id old }
         ensures one { let old = self.old.entries.items in
             IsWithout old self.new.entries.items }
     {
@@ -400,8 +409,11 @@ impl ActiveFormatting {
     /// long list answers by itself; the contract says nothing of that answer.
     pub fn index_of(&self, id: NodeId) -> Option<usize>
         ensures { let entries = self.now.entries.items in
-            self.now.index ≡ None → result ≡ last_place (is_of id) entries }
+            are_few entries ≡ true → result ≡ last_place (is_of id) entries }
     {
+        if self.is_short() {
+            return last_entry_of(self.entries.as_slice(), id);
+        }
         match &self.index {
             Some(index) => index.position_of(id),
             None => last_entry_of(self.entries.as_slice(), id),
@@ -412,9 +424,12 @@ impl ActiveFormatting {
     /// finds it by itself; the contract says nothing of that answer.
     pub fn named(&self, name: Name) -> Option<Open>
         ensures { let elements = after_marker self.now.entries.items in
-            self.now.index ≡ None →
+            are_few self.now.entries.items ≡ true →
             MatchOption result (NoneHas (IsNamed name) elements) (IsFirst (IsNamed name) elements) }
     {
+        if self.is_short() {
+            return last_named(self.entries.as_slice(), name);
+        }
         let Some(index) = &self.index else {
             return last_named(self.entries.as_slice(), name);
         };

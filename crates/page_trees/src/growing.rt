@@ -2,33 +2,39 @@
 //! elements, the list of active formatting elements, and the head and form element pointers. A call
 //! that returns a `Result` fails only when memory or node ids run out.
 
-ghost use Rattle.std.specs.Prelude.{◌≡◌, ◌<◌, ◌≤◌, ◌||◌, [], ◌∷◌, IfOk, IfSome, List, OnOk, codes};
-ghost use Rattle.std.specs.Prelude.{encode_utf8_all, false, length, not, slice_get, true, ℕ};
+ghost use Rattle.std.specs.Prelude.{◌≡◌, ◌<◌, ◌≤◌, ◌||◌, [], ◌∷◌, IfErr, IfOk, IfSome, List, OnOk};
+ghost use Rattle.std.specs.Prelude.{codes, encode_utf8_all, false, length, not, slice_get, true, ℕ};
 ghost use Rattle.std.specs.Option.{is_some, option_and_then, option_map, option_map_or};
+ghost use Rattle.dom_links.specs.Forest.{parent};
 ghost use Rattle.dom_links.specs.Growth.{lone};
 ghost use Rattle.dom_links.specs.Sound.{IsOpenGap};
 ghost use Rattle.dom_nodes.specs.declared.node_data.NodeData.TheVariants.{Document as TheDocument};
 ghost use Rattle.dom_nodes.specs.declared.node_data.NodeData.TheVariants.{Fragment as TheFragment};
+ghost use Rattle.page_trees.specs.DocumentTrees.{IsTreeOf};
 ghost use Rattle.page_trees.specs.Elements.{IsElement, IsRooted};
 ghost use Rattle.page_trees.specs.Formatting.{element_in};
 ghost use Rattle.page_trees.specs.LateMerges.{CommentsInHtml, MergesInto, id_at, is_open};
+ghost use Rattle.page_trees.specs.Listing.{FindsListed};
 ghost use Rattle.page_trees.specs.Modes.{points_nowhere};
 ghost use Rattle.page_trees.specs.Names.{text_of};
+ghost use Rattle.page_trees.specs.TextPlaces.{is_in_root, is_zero};
 ghost use Rattle.page_trees.specs.Placing.{is_at_top};
+ghost use Rattle.page_trees.specs.Quirks.{mode_of};
 ghost use Rattle.page_trees.specs.Reopening.{Reopens};
 ghost use Rattle.page_trees.specs.Scopes.{is_name};
 ghost use Rattle.page_trees.specs.SearchIndex.{IsIndexed};
 ghost use Rattle.page_trees.specs.SameNodes.{IsPointOf};
 ghost use Rattle.page_trees.specs.Sets.{local_for, space_of};
 ghost use Rattle.page_trees.specs.Stands.{AreParts, Builds, Does, DoesAtAnyDepth};
-ghost use Rattle.page_trees.specs.Stands.{DoesIn, DoesInside};
+ghost use Rattle.page_trees.specs.Stands.{DoesIn};
 ghost use Rattle.page_trees.specs.Stands.{IsCurrent, IsTagOf, Tells, cut};
 ghost use Rattle.page_trees.specs.Stands.{inserted_in, is_fragment, place_for, with_form};
 ghost use Rattle.page_trees.specs.Stands.{with_form_of_context, with_head};
-ghost use Rattle.page_trees.specs.TreeState.{adjusted_at, fresh_state};
+ghost use Rattle.page_trees.specs.TreeState.{adjusted_at, completed, fresh_state};
+ghost use Rattle.page_trees.specs.declared.fault.PageFault.TheVariants.{Memory as NoMemory};
 ghost use Rattle.page_trees.specs.declared.name.Name.TheVariants.{Other};
 ghost use Rattle.standard_tokens.specs.Tokens.{Doctype};
-ghost use Rattle.standard_trees.specs.Building.{empty_tree, is_present, is_set};
+ghost use Rattle.standard_trees.specs.Building.{Building, empty_tree, is_present, is_set};
 ghost use Rattle.standard_trees.specs.GrowingTree.{GrowingTree as StandardTree};
 ghost use Rattle.standard_trees.specs.GrowingTree.{adjusted_current, created_at, current};
 ghost use Rattle.standard_trees.specs.GrowingTree.{inserted_at, is_named, is_one};
@@ -147,9 +153,16 @@ impl GrowingTree {
     }
 
     /// Returns the finished tree. Fails only when memory runs out.
-    pub fn into_built(self) -> Result<BuiltTree, PageFault> {
+    pub fn into_built(self) -> Result<BuiltTree, PageFault>
+        ensures tree { IfOk result (λ built. built.tree ≡ completed self.late self.forest) }
+        ensures quirks { IfOk result (λ built. built.quirks_mode ≡ self.quirks) }
+        ensures rule { IfOk result (λ built. (b : Building) → Builds self b.tree →
+            mode_of b.quirks ≡ self.quirks → IsTreeOf b built.tree built.quirks_mode) }
+        ensures err { IfErr result (λ fault. fault ≡ NoMemory) }
+    {
         let mut tree = self.tree;
         self.late.put_into(&mut tree)?;
+        is_forest(&tree);
         Ok(BuiltTree {
             tree,
             errors: self.errors,
@@ -238,12 +251,15 @@ impl GrowingTree {
     }
 
     /// Returns the last active formatting element with that name after the last marker.
-    pub fn formatting_named(&self, name: Name) -> Option<Open> {
+    pub fn formatting_named(&self, name: Name) -> Option<Open>
+        ensures { is_name name Other ≡ false → FindsListed name self.now result }
+    {
         self.formatting.named(name)
     }
 
     pub fn set_quirks_mode(&mut self, mode: QuirksMode)
-        ensures { self.new ≡ record self.old { quirks = mode } }
+        ensures value { self.new ≡ record self.old { quirks = mode } }
+        ensures rule { Does (λ t. t) self.old self.new }
     {
         self.quirks_mode = mode;
     }
@@ -387,12 +403,12 @@ impl GrowingTree {
     pub fn put_text(&mut self, placing: Placing, text: &str) -> Result<(), PageFault>
         ensures rule { (c : ℕ) (cs : List ℕ) → placing.in_head ≡ false →
             text.now ≡ encode_utf8_all (c ∷ cs) →
-            OnOk result (DoesInside placing (with_chars (c ∷ cs)) self.old self.new) }
+            OnOk result (DoesAtAnyDepth placing (with_chars (c ∷ cs)) self.old self.new) }
         ensures quirks { self.new.quirks ≡ self.old.quirks }
     {
         let gap = self.gap_at_any_depth(placing);
-        let at_top = is_at_top(&gap);
-        if at_top && self.context.is_none() {
+        is_forest(&self.tree);
+        if is_in_root(&self.tree, &gap) {
             return Ok(());
         }
         is_forest(&self.tree);
@@ -516,12 +532,22 @@ fn lone(alloc: Global, content: NodeData) -> Result<Tree, PageFault>
     }
 }
 
-/// Returns whether an insertion point is at the end of the root's children.
-fn is_at_top(gap: &InsertionPoint) -> bool
-    ensures { result ≡ is_at_top gap.now }
+/// Returns whether an insertion point of the appropriate place is among the root's children.
+fn is_in_root(tree: &Tree, gap: &InsertionPoint) -> bool
+    ensures { result ≡ is_in_root tree.now gap.now }
 {
     match gap {
         InsertionPoint::EndOf(parent) => *parent == NodeId::root(),
+        InsertionPoint::Before(next) => is_child_of_root(tree, *next),
         _ => false,
+    }
+}
+
+fn is_child_of_root(tree: &Tree, id: NodeId) -> bool
+    ensures { result ≡ option_map_or is_zero (parent tree.now id) false }
+{
+    match tree.parent_of(&id) {
+        Some(parent) => parent.id == NodeId::root(),
+        None => false,
     }
 }

@@ -1,24 +1,30 @@
 //! Inserting nodes at the appropriate place. A failed edit is stored as the builder's fault.
 
-ghost use Rattle.std.specs.Prelude.{◌≡◌, ◌<◌, [], ◌∷◌, List, encode_utf8_all, length, true, ℕ};
+ghost use Rattle.std.specs.Prelude.{◌≡◌, ◌<◌, [], ◌∷◌, List, encode_utf8_all, false, length};
+ghost use Rattle.std.specs.Prelude.{true, ℕ};
 ghost use Rattle.standard_tokens.specs.Tokens.{AComment};
 ghost use Rattle.standard_trees.specs.RuleWords.{InsertComment, InsertCommentInDocument};
 ghost use Rattle.standard_trees.specs.RuleWords.{InsertElement, InsertRootElement, ListMarker};
 ghost use Rattle.standard_trees.specs.RuleWords.{Pop, ReconstructFormatting, SwitchTo};
 ghost use Rattle.standard_trees.specs.TreeStore.{EndOf};
+ghost use Rattle.page_trees.specs.CharacterSteps.{Inserts};
 ghost use Rattle.page_trees.specs.Constructs.{Performs, PerformsFor};
 ghost use Rattle.page_trees.specs.Constructs.{RemembersLimits, implying, is_entered_plainly};
+ghost use Rattle.page_trees.specs.HeadSteps.{place_in_head};
 ghost use Rattle.page_trees.specs.LateMerges.{MergesTagInto, id_at};
+ghost use Rattle.page_trees.specs.Listing.{AdoptsFor};
 ghost use Rattle.page_trees.specs.Modes.{mode_of};
 ghost use Rattle.page_trees.specs.Names.{text_of};
+ghost use Rattle.page_trees.specs.Scopes.{is_name};
 ghost use Rattle.page_trees.specs.TagInsertions.{InsertsTag, InsertsTagAt};
 ghost use Rattle.page_trees.specs.TokenSteps.{PerformsOn, PutsInHtml};
 ghost use Rattle.page_trees.specs.declared.builder.Next.TheVariants.{Again, Done as IsDone};
-ghost use Rattle.page_trees.specs.declared.name.Name.TheVariants.{Html as HtmlName};
+ghost use Rattle.page_trees.specs.declared.name.Name.TheVariants.{Html as HtmlName, Other};
 ghost use Rattle.page_trees.specs.declared.stack.ElementNamespace.TheVariants.{Html as HtmlSpace};
 
 use crate::builder::{Mode, Next, TreeBuilder};
 use crate::fault::PageFault;
+use crate::growing::Placing;
 use crate::name::Name;
 use crate::stack::ElementNamespace;
 use page_tokens::token::{Tag, TagKind};
@@ -40,6 +46,21 @@ impl TreeBuilder {
         ensures rule { InsertsTag ns name tag.now self.old self.new }
     {
         let inserted = self.tree.insert(self.placing, ns, name, tag);
+        self.keep(inserted);
+        self.note_depth();
+    }
+
+    /// Inserts an HTML element for a tag into the head, which is closed already, and pushes it onto
+    /// the stack of open elements. Where no head was opened, its place is the appropriate one.
+    pub fn insert_into_head(&mut self, name: Name, tag: &Tag)
+        ensures limits { RemembersLimits self.old self.new }
+        ensures rule { InsertsTagAt place_in_head HtmlSpace name tag.now self.old self.new }
+    {
+        let placing = Placing {
+            in_head: true,
+            ..self.placing
+        };
+        let inserted = self.tree.insert(placing, ElementNamespace::Html, name, tag);
         self.keep(inserted);
         self.note_depth();
     }
@@ -147,7 +168,11 @@ impl TreeBuilder {
     }
 
     /// Inserts characters.
-    pub fn put_text(&mut self, text: &str) {
+    pub fn put_text(&mut self, text: &str)
+        ensures limits { RemembersLimits self.old self.new }
+        ensures rule { (c : ℕ) (cs : List ℕ) → text.now ≡ encode_utf8_all (c ∷ cs) →
+            Inserts (c ∷ cs) self.old self.new }
+    {
         let put = self.tree.put_text(self.placing, text);
         self.keep(put);
     }
@@ -214,7 +239,10 @@ impl TreeBuilder {
 
     /// Runs the adoption agency algorithm for a tag. If no element with its name is in the list,
     /// the tag, even a start tag, is processed like any other end tag.
-    pub fn adopt(&mut self, name: Name, tag: &Tag) {
+    pub fn adopt(&mut self, name: Name, tag: &Tag)
+        ensures limits { RemembersLimits self.old self.new }
+        ensures rule { is_name name Other ≡ false → AdoptsFor name self.old self.new }
+    {
         match self.tree.adopt(name, self.placing.foster) {
             Ok(true) => {}
             Ok(false) => self.tree.close_named(name, tag.name.as_str()),

@@ -15,6 +15,7 @@ mod foreign;
 mod formatting;
 mod growing;
 mod inserting;
+pub mod laws;
 mod modes;
 mod name;
 mod pointers;

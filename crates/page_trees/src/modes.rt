@@ -1,12 +1,22 @@
 //! The insertion modes: which rules process a token (13.2.6.4).
 
-ghost use Rattle.std.specs.Prelude.{◌≡◌, true};
-ghost use Rattle.standard_trees.specs.RuleWords.{Text};
-ghost use Rattle.page_trees.specs.Constructs.{ProcessesTag, RemembersLimits};
+ghost use Rattle.std.specs.Prelude.{IfOk, [], false, string_bytes, true, ◌∷◌, ◌≡◌};
+ghost use Rattle.standard_tokens.specs.Machine.{Tag as StandardTag, token_of};
+ghost use Rattle.standard_trees.specs.RuleWords.{InsertElement, Text, TextState};
+ghost use Rattle.page_tokens.specs.Standard.{IsTag};
+ghost use Rattle.page_trees.specs.Constructs.{Performs, PerformsFor, ProcessesTag, RemembersLimits};
+ghost use Rattle.page_trees.specs.Constructs.{state_for};
+ghost use Rattle.page_trees.specs.CoveredTurns.{DispatchesCovered, ProcessesCovered, ProcessesOnce};
+ghost use Rattle.page_trees.specs.CoveredTurns.{ProcessesToken, TakesTokens};
+ghost use Rattle.page_trees.specs.HeadSteps.{reading_text};
 ghost use Rattle.page_trees.specs.Modes.{is_start_kind, mode_of, next_of};
-ghost use Rattle.page_trees.specs.TagSteps.{DispatchesInMode, covers, covers_outer};
-ghost use Rattle.page_trees.specs.TokenSteps.{ReturnsPlainly};
+ghost use Rattle.page_trees.specs.Names.{name_of};
+ghost use Rattle.page_trees.specs.Stands.{IsTagName};
+ghost use Rattle.page_trees.specs.TagSteps.{is_outer};
+ghost use Rattle.page_trees.specs.TokenSteps.{ReturnsPlainly, keeps_characters};
 ghost use Rattle.page_trees.specs.declared.builder.Mode.TheVariants.{Text as IsText};
+ghost use Rattle.page_trees.specs.declared.modes.Token.TheVariants.{Tag as TheTag};
+ghost use Rattle.page_trees.specs.declared.builder.Next.TheVariants.{Done as IsDone};
 ghost use Rattle.page_trees.specs.declared.name.Name.{Name as TheName};
 
 mod after;
@@ -27,6 +37,7 @@ use crate::name::Name;
 use dom_nodes::name::LocalName;
 use page_tokens::token::{Tag, TagKind};
 use page_tokens::tokenizer::State;
+use std::alloc::Global;
 
 /// A token as the insertion modes process it.
 #[derive(Clone, Copy, Drop)]
@@ -39,29 +50,71 @@ pub enum Token<'a> {
 
 impl TreeBuilder {
     /// Processes a tag.
-    pub fn tag(&mut self, tag: &Tag) {
+    pub fn tag(&mut self, tag: &Tag)
+        ensures limits { RemembersLimits self.old self.new }
+        ensures rule { (standard : StandardTag) → IsTag standard tag.now →
+            IsTagName standard.name → TakesTokens (token_of standard ∷ []) self.old self.new }
+    {
         self.skip_line_feed = false;
+        self.settle_table_text();
+        self.process_tag(tag);
+    }
+
+    /// Processes the pending table character tokens, because another token comes. Limits that were
+    /// met stay noted.
+    pub fn settle_table_text(&mut self)
+        ensures limits { RemembersLimits self.old self.new }
+        ensures same { keeps_characters self.old.mode ≡ false → self.new ≡ self.old }
+    {
+        let before = self.met();
         self.flush_table_text();
-        match LocalName::new(self.alloc, tag.name.as_str()) {
-            Ok(local) => self.process(Token::Tag(Name::of(&local.by_ref()), tag)),
-            Err(_) => self.keep(Err(PageFault::Memory)),
+        self.note_met(before);
+    }
+
+    /// Processes a tag after its name is looked up.
+    fn process_tag(&mut self, tag: &Tag)
+        ensures limits { RemembersLimits self.old self.new }
+        ensures rule { let name = name_of (string_bytes tag.now.name) in
+            ProcessesToken (TheTag name tag.entry) self.old self.new }
+    {
+        match name_in(self.alloc, tag) {
+            Ok(name) => self.process(Token::Tag(name, tag)),
+            Err(fault) => self.keep(Err(fault)),
         }
     }
 
     /// Processes a token, and reprocesses it as often as the rules ask for. There is a limit that
     /// no stack of open elements reaches; past it, the rules for "in body" process the token.
-    pub fn process(&mut self, token: Token<'_>) {
-        for _ in 0..self.turns() {
-            if self.step(token) == Next::Done {
-                return;
+    pub fn process(&mut self, token: Token<'_>)
+        ensures limits { RemembersLimits self.old self.new }
+        ensures rule { ProcessesToken token.entry self.old self.new }
+    {
+        for turn in 0..self.turns() {
+            match self.step(token) {
+                Next::Done => return,
+                Next::Again => {}
             }
         }
         self.mode = Mode::InBody;
         self.step(token);
     }
 
+    /// Processes a token once by the rules of the current insertion mode. Limits that were met stay
+    /// noted.
+    fn step(&mut self, token: Token<'_>) -> Next
+        ensures limits { RemembersLimits self.old self.new }
+        ensures rule { ProcessesOnce token.entry self.old self.new result }
+    {
+        let before = self.met();
+        let next = self.turn(token);
+        self.note_met(before);
+        next
+    }
+
     /// Processes a token once by the rules of the current insertion mode.
-    fn step(&mut self, token: Token<'_>) -> Next {
+    fn turn(&mut self, token: Token<'_>) -> Next
+        ensures rule { ProcessesOnce token.entry self.old self.new result }
+    {
         match token {
             Token::Tag(name, tag) => self.tag_step(name, tag),
             Token::Run(kind, text) => self.run_step(kind, text),
@@ -79,8 +132,7 @@ impl TreeBuilder {
     }
 
     fn tag_step(&mut self, name: Name, tag: &Tag) -> Next
-        ensures rule { covers self.old.mode ≡ true → ReturnsPlainly self.old →
-            DispatchesInMode name tag.now self.old self.new result }
+        ensures rule { DispatchesCovered name tag.now self.old self.new result }
     {
         if self.is_tag_foreign(tag.kind, name) {
             self.foreign_tag(name, tag)
@@ -91,8 +143,7 @@ impl TreeBuilder {
 
     /// Processes a tag by the rules for the current insertion mode.
     pub fn html_tag(&mut self, name: Name, tag: &Tag) -> Next
-        ensures rule { covers self.old.mode ≡ true → ReturnsPlainly self.old →
-            ProcessesTag (mode_of self.old.mode) name tag.now self.old self.new result }
+        ensures rule { ProcessesCovered (mode_of self.old.mode) name tag.now self.old self.new result }
     {
         match self.mode {
             Mode::InBody => self.body_tag(name, tag),
@@ -110,8 +161,8 @@ impl TreeBuilder {
 
     /// Processes a tag in a mode before or after the body.
     fn outer_tag(&mut self, name: Name, tag: &Tag) -> Next
-        ensures rule { covers_outer self.old.mode ≡ true →
-            ProcessesTag (mode_of self.old.mode) name tag.now self.old self.new result }
+        ensures rule { is_outer self.old.mode ≡ true →
+            ProcessesCovered (mode_of self.old.mode) name tag.now self.old self.new result }
     {
         match self.mode {
             Mode::BeforeHtml => self.before_html_tag(name, tag),
@@ -141,11 +192,36 @@ impl TreeBuilder {
     }
 
     /// Inserts an element whose content is text up to its end tag (13.2.6.2).
-    pub fn insert_text_element(&mut self, name: Name, tag: &Tag, state: State) -> Next {
+    pub fn insert_text_element(&mut self, name: Name, tag: &Tag, state: State) -> Next
+        ensures next { result ≡ IsDone }
+        ensures limits { RemembersLimits self.old self.new }
+        ensures rule { (s : TextState) → state ≡ state_for s →
+            PerformsFor name tag.now (InsertElement ∷ reading_text s) self.old self.new }
+    {
         self.insert(name, tag);
+        self.read_text(state)
+    }
+
+    /// Switches the tokenizer, and the mode, for the text of an element.
+    pub fn read_text(&mut self, state: State) -> Next
+        ensures next { result ≡ IsDone }
+        ensures limits { RemembersLimits self.old self.new }
+        ensures rule { (s : TextState) → state ≡ state_for s →
+            Performs (reading_text s) self.old self.new }
+    {
         self.switch = Some(state);
         self.original = self.mode;
         self.done_in(Mode::Text)
+    }
+}
+
+/// Returns the name of a tag. Fails only when memory runs out.
+fn name_in(alloc: Global, tag: &Tag) -> Result<Name, PageFault>
+    ensures { IfOk result (λ name. name ≡ name_of (string_bytes tag.now.name)) }
+{
+    match LocalName::new(alloc, tag.name.as_str()) {
+        Ok(local) => Ok(Name::of(&local.by_ref())),
+        Err(_) => Err(PageFault::Memory),
     }
 }
 

@@ -1,7 +1,7 @@
 //! Parsing a page or a fragment, whole or in pieces: tokens go to tree construction. Start at
 //! `PageReader`.
 
-ghost use Rattle.std.specs.Prelude.{◌≡◌, if◌then◌else◌};
+ghost use Rattle.std.specs.Prelude.{◌≡◌, ◌++◌, None, false, if◌then◌else◌};
 ghost use Rattle.standard_trees.specs.Parsing.{state_among};
 ghost use Rattle.standard_trees.specs.TreeRules.{first_states};
 ghost use Rattle.page_tokens.specs.StandardStates.{state_of};
@@ -11,13 +11,15 @@ ghost use Rattle.page_trees.specs.Names.{text_of as local_name};
 use crate::builder::{Mode, TreeBuilder};
 use crate::fault::PageFault;
 use crate::growing::{BuiltTree, GrowingTree};
+use crate::laws::covered_pages_are_parsed;
 use crate::name::Name;
 use crate::stack::ElementNamespace;
 use dom_nodes::name::LocalName;
+use page_tokens::laws::{names, pages};
 use page_tokens::parse_error::{ErrorAt, ParseError};
 use page_tokens::token::TokenKind;
 use page_tokens::tokenizer::{State, Tokenizer};
-use std::alloc::Global;
+use std::alloc::{AllocError, Global};
 
 /// How a page is parsed. By default scripting is off, depth is not limited and errors are not
 /// collected. No limit on depth is needed: parsing, traversal and serialization use no recursion.
@@ -58,11 +60,33 @@ pub enum Context<'a> {
 pub struct PageReader {
     builder: TreeBuilder,
     tokens: Tokenizer,
+    options: Options,
 }
 
 impl PageReader {
+    ghost use Rattle.std.specs.Prelude.{[], ◌∷◌, IfOk, List, OnOk, Some, encode_utf8_all};
+    ghost use Rattle.std.specs.Prelude.{Bool, map, true, unwrap_or, ℕ};
+    ghost use Rattle.standard_tokens.specs.Tokens.{AChar, Token as StandardToken};
+    ghost use Rattle.standard_trees.specs.Building.{empty_tree, start};
+    ghost use Rattle.page_tokens.specs.PlainNames.{has_plain_names};
+    ghost use Rattle.page_tokens.specs.Reading.{text_of};
+    ghost use Rattle.page_tokens.specs.Standard.{Told};
+    ghost use Rattle.page_tokens.specs.StandardPages.{BeginsPage};
+    ghost use Rattle.page_trees.specs.Constructs.{Constructs, RemembersLimits};
+    ghost use Rattle.page_trees.specs.CoveredTurns.{TakesTokens};
+    ghost use Rattle.page_trees.specs.PagesRead.{HasBuilt, ReadsEnd, ReadsQuietly, ReadsRest};
+    ghost use Rattle.page_trees.specs.PagesRead.{ReadsSome, TellsAll, TellsLast, TellsRead};
+    ghost use Rattle.page_trees.specs.StandardDocuments.{FinishesPage};
+    ghost use Rattle.page_trees.specs.Stands.{Builds};
+
     /// Returns a parser for a page. Fails only when memory runs out.
-    pub fn page(alloc: Global, options: Options) -> Result<PageReader, PageFault> {
+    pub fn page(alloc: Global, options: Options) -> Result<PageReader, PageFault>
+        ensures options { IfOk result (λ reader. reader.options ≡ options) }
+        ensures begins { options.errors ≡ false →
+            IfOk result (λ reader. HasBuilt options.scripting [] reader) }
+    {
+        // A law, called for its contract alone.
+        pages();
         let tree = GrowingTree::page(alloc)?;
         Ok(PageReader::new(alloc, tree, options))
     }
@@ -80,12 +104,20 @@ impl PageReader {
         Ok(reader)
     }
 
-    fn new(alloc: Global, tree: GrowingTree, options: Options) -> PageReader {
+    fn new(alloc: Global, tree: GrowingTree, options: Options) -> PageReader
+        ensures options { result.options ≡ options }
+        ensures switch { result.builder.switch ≡ None }
+        ensures stands { Builds tree empty_tree →
+            Constructs result.builder (start options.scripting) }
+        ensures tokens { BeginsPage result.tokens }
+        ensures empty { text_of result.tokens ≡ [] }
+    {
         let mut tokens = Tokenizer::new(alloc);
         tokens.report_errors(options.errors);
         PageReader {
             builder: TreeBuilder::new(alloc, tree, options),
             tokens,
+            options,
         }
     }
 
@@ -98,8 +130,12 @@ impl PageReader {
     }
 
     /// Parses a piece of the text. Fails with the first fault: memory or node ids ran out.
-    pub fn feed(&mut self, piece: &str) -> Result<(), PageFault> {
-        self.settled()?;
+    pub fn feed(&mut self, piece: &str) -> Result<(), PageFault>
+        ensures options { self.new.options ≡ self.old.options }
+        ensures builds { (scripting : Bool) (read : List ℕ) (cs : List ℕ) →
+            piece.now ≡ encode_utf8_all cs →
+            HasBuilt scripting read self.old → HasBuilt scripting (read ++ cs) self.new }
+    {
         self.read(piece);
         self.settled()
     }
@@ -110,78 +146,150 @@ impl PageReader {
     }
 
     /// Fails with the first fault, if there was one.
-    pub fn settled(&self) -> Result<(), PageFault> {
+    pub fn settled(&self) -> Result<(), PageFault>
+        ensures { OnOk result (self.now.builder.fault ≡ None) }
+    {
         self.builder.settled()
     }
 
     /// Returns the tree after the last piece. The tree of a page may not have the shape of a page
     /// yet; see `shape::make_page`. Fails with the first fault: memory or node ids ran out.
-    pub fn finish(self) -> Result<BuiltTree, PageFault> {
+    pub fn finish(self) -> Result<BuiltTree, PageFault>
+        ensures { self.options.max_depth ≡ None → self.options.errors ≡ false →
+            IfOk result (FinishesPage self) }
+    {
+        // A law, called for its contract alone.
+        covered_pages_are_parsed();
         let mut reader = self;
         reader.read_end()?;
-        reader.builder.tree.set_quirks_mode(reader.builder.quirks);
-        reader.builder.tree.into_built()
+        reader.builder.into_built()
     }
 
     /// Processes the end of the text.
-    fn read_end(&mut self) -> Result<(), PageFault> {
+    fn read_end(&mut self) -> Result<(), PageFault>
+        ensures depth { OnOk result (self.old.options.max_depth ≡ None →
+            self.new.builder.too_deep ≡ false) }
+        ensures fault { OnOk result (self.new.builder.fault ≡ None) }
+        ensures ends { OnOk result (self.old.options.errors ≡ false → ReadsEnd self.old self.new) }
+    {
         self.settled()?;
         self.read_last()?;
         self.builder.end();
-        self.builder.note_errors(&self.tokens.take_errors());
+        self.note_errors();
+        self.settled_whole()
+    }
+
+    /// Adds the parse errors to the document, if they are wanted.
+    fn note_errors(&mut self)
+        ensures same { self.old.options.errors ≡ false → self.new ≡ self.old }
+        ensures options { self.new.options ≡ self.old.options }
+    {
+        if self.options.errors {
+            self.builder.note_errors(&self.tokens.take_errors());
+        }
+    }
+
+    /// Fails with the first fault, if there was one. With no limit on depth, no stack is as long as
+    /// one that would meet it.
+    fn settled_whole(&self) -> Result<(), PageFault>
+        ensures fault { OnOk result (self.now.builder.fault ≡ None) }
+        ensures depth { OnOk result (self.now.options.max_depth ≡ None →
+            self.now.builder.too_deep ≡ false) }
+    {
+        if self.builder.too_deep && self.options.max_depth.is_none() {
+            return Err(PageFault::TooManyNodes);
+        }
         self.builder.settled()
     }
 
     /// Processes the token that ends with the text, and the last characters.
-    fn read_last(&mut self) -> Result<(), PageFault> {
-        if let Some(kind) = self.tokens.end_kind()? {
-            self.token(kind);
-        }
-        self.builder.characters(self.tokens.text());
+    fn read_last(&mut self) -> Result<(), PageFault>
+        ensures options { self.new.options ≡ self.old.options }
+        ensures limits { RemembersLimits self.old.builder self.new.builder }
+        ensures ends { OnOk result (ReadsRest self.old self.new) }
+    {
+        // A law, called for its contract alone.
+        pages();
+        let kind = self.tokens.end_kind()?;
+        self.tell_last(kind);
+        self.switch();
         Ok(())
     }
 
-    fn read(&mut self, piece: &str) {
+    /// Processes the last characters, and the token that ends with the text.
+    fn tell_last(&mut self, kind: Option<TokenKind>)
+        ensures only { self.new ≡ record self.old {
+          builder = self.new.builder;
+          tokens = self.new.tokens;
+        } }
+        ensures limits { RemembersLimits self.old.builder self.new.builder }
+        ensures builds { TellsLast kind self.old self.new }
+    {
+        match kind {
+            Some(kind) => self.tell_last_token(kind),
+            None => self.tell_characters(),
+        }
+    }
+
+    /// Processes the last characters and the last token. An unfinished tag is dropped, so that
+    /// token is no tag.
+    fn tell_last_token(&mut self, kind: TokenKind)
+        ensures only { self.new ≡ record self.old {
+          builder = self.new.builder;
+          tokens = self.new.tokens;
+        } }
+        ensures limits { RemembersLimits self.old.builder self.new.builder }
+        ensures builds { TellsLast (Some kind) self.old self.new }
+    {
+        match kind {
+            TokenKind::Comment => self.tell_token(TokenKind::Comment),
+            TokenKind::Doctype => self.tell_token(TokenKind::Doctype),
+            TokenKind::Tag => self.builder.keep(Err(PageFault::Memory)),
+        }
+    }
+
+    /// Reads the text. Each call of `read_token` reads some of it, so that nothing is left.
+    fn read(&mut self, piece: &str)
+        ensures options { self.new.options ≡ self.old.options }
+        ensures limits { RemembersLimits self.old.builder self.new.builder }
+        ensures reads { ReadsSome piece.now [] self.old self.new }
+    {
+        if self.builder.fault.is_some() {
+            return;
+        }
         let mut rest = piece;
         for _ in 0..piece.len() {
             rest = self.read_token(rest);
             if rest.is_empty() {
-                break;
+                return;
             }
+        }
+        if !rest.is_empty() {
+            self.builder.keep(Err(PageFault::Memory));
         }
     }
 
     /// Reads up to the end of a token, and returns the text after it, which is empty after a fault.
-    fn read_token<'a>(&mut self, text: &'a str) -> &'a str {
+    fn read_token<'a>(&mut self, text: &'a str) -> &'a str
+        ensures options { self.new.options ≡ self.old.options }
+        ensures limits { RemembersLimits self.old.builder self.new.builder }
+        ensures reads { ReadsSome text.now result.now self.old self.new }
+    {
+        // A law, called for its contract alone.
+        pages();
         let mut kind = None;
-        let read = self.tokens.read_kind(text, &mut kind);
-        match (read, kind) {
-            (Ok(rest), Some(kind)) => {
-                self.token(kind);
-                if self.builder.fault.is_some() {
-                    ""
-                } else {
-                    rest
-                }
-            }
-            (Ok(rest), None) => self.before_cdata(rest),
-            (Err(_), _) => {
-                self.builder.keep(Err(PageFault::Memory));
-                ""
-            }
-        }
+        let Ok(rest) = self.read_kind(text, &mut kind) else {
+            self.builder.keep(Err(PageFault::Memory));
+            return "";
+        };
+        self.tell(kind);
+        self.left(rest)
     }
 
-    /// Processes the characters before `<![` in foreign content, if that was read, and returns the
-    /// text after it, which is empty after a fault.
-    fn before_cdata<'a>(&mut self, rest: &'a str) -> &'a str {
-        if !self.tokens.wants_characters() {
-            return rest;
-        }
-        self.builder.characters(self.tokens.text());
-        self.tokens.clear_text();
-        self.tokens
-            .set_in_foreign(self.builder.is_current_foreign());
+    /// Returns the text that is left, which is empty after a fault.
+    fn left<'a>(&self, rest: &'a str) -> &'a str
+        ensures { self.now.builder.fault ≡ None → result.now ≡ rest.now }
+    {
         if self.builder.fault.is_some() {
             ""
         } else {
@@ -189,20 +297,127 @@ impl PageReader {
         }
     }
 
+    /// Has the tokenizer read up to the end of a token. Parse errors are collected only if they are
+    /// wanted.
+    fn read_kind<'a>(
+        &mut self,
+        text: &'a str,
+        kind: &mut Option<TokenKind>,
+    ) -> Result<&'a str, AllocError>
+        ensures only { self.new ≡ record self.old { tokens = self.new.tokens } }
+        ensures reads { self.old.options.errors ≡ false → IfOk result (λ rest.
+            ReadsQuietly self.old.tokens self.new.tokens text.now rest.now kind.old kind.new) }
+    {
+        if self.options.errors {
+            return self.tokens.read_kind(text, kind);
+        }
+        self.tokens.report_errors(false);
+        self.tokens.read_kind(text, kind)
+    }
+
+    /// Tells tree construction what was read: the token that ended, if one did, or else the
+    /// characters before `<![` in foreign content.
+    fn tell(&mut self, kind: Option<TokenKind>)
+        ensures options { self.new.options ≡ self.old.options }
+        ensures limits { RemembersLimits self.old.builder self.new.builder }
+        ensures builds { TellsRead kind self.old self.new }
+    {
+        match kind {
+            Some(kind) => self.token(kind),
+            None => self.before_cdata(),
+        }
+    }
+
+    /// Processes the characters before `<![` in foreign content, if that was read.
+    fn before_cdata(&mut self)
+        ensures options { self.new.options ≡ self.old.options }
+        ensures limits { RemembersLimits self.old.builder self.new.builder }
+        ensures builds { TellsRead None self.old self.new }
+    {
+        // A law, called for its contract alone.
+        pages();
+        if !self.tokens.wants_characters() {
+            return;
+        }
+        self.tell_characters();
+        self.switch();
+        self.set_in_foreign();
+    }
+
+    /// Processes the characters before a token, and then the token, and takes the answer.
+    fn token(&mut self, kind: TokenKind)
+        ensures options { self.new.options ≡ self.old.options }
+        ensures limits { RemembersLimits self.old.builder self.new.builder }
+        ensures builds { TellsRead (Some kind) self.old self.new }
+    {
+        // A law, called for its contract alone.
+        names();
+        self.tell_token(kind);
+        self.switch();
+        self.set_in_foreign();
+    }
+
     /// Processes the characters before a token, and then the token.
-    fn token(&mut self, kind: TokenKind) {
+    fn tell_token(&mut self, kind: TokenKind)
+        ensures only { self.new ≡ record self.old {
+          builder = self.new.builder;
+          tokens = record self.old.tokens { text = self.new.tokens.text };
+        } }
+        ensures empty { text_of self.new.tokens ≡ [] }
+        ensures limits { RemembersLimits self.old.builder self.new.builder }
+        ensures builds { TellsAll (Some kind) self.old self.new }
+    {
+        self.tell_characters();
+        self.build(kind);
+    }
+
+    /// Processes the characters that were read before the next token.
+    fn tell_characters(&mut self)
+        ensures only { self.new ≡ record self.old {
+          builder = self.new.builder;
+          tokens = record self.old.tokens { text = self.new.tokens.text };
+        } }
+        ensures empty { text_of self.new.tokens ≡ [] }
+        ensures limits { RemembersLimits self.old.builder self.new.builder }
+        ensures builds { (cs : List ℕ) → text_of self.old.tokens ≡ encode_utf8_all cs →
+            TakesTokens (map AChar cs) self.old.builder self.new.builder }
+    {
         self.builder.characters(self.tokens.text());
         self.tokens.clear_text();
-        self.build(kind);
-        if let Some(state) = self.builder.switch.take() {
-            self.tokens.switch_to(state);
-        }
+    }
+
+    /// Sets the tokenizer's flag for foreign content, as tree construction answers.
+    fn set_in_foreign(&mut self)
+        ensures { self.new ≡ record self.old {
+          tokens = record self.old.tokens { in_foreign = self.new.tokens.in_foreign };
+        } }
+    {
         self.tokens
             .set_in_foreign(self.builder.is_current_foreign());
     }
 
+    /// Switches the tokenizer, if tree construction asks for it.
+    fn switch(&mut self)
+        ensures { self.new ≡ record self.old {
+          builder = record self.old.builder { switch = None };
+          tokens = record self.old.tokens {
+            state = unwrap_or self.old.builder.switch self.old.tokens.state;
+          };
+        } }
+    {
+        if let Some(state) = self.builder.switch.take() {
+            self.tokens.switch_to(state);
+        }
+    }
+
     /// Passes a token to tree construction.
-    fn build(&mut self, kind: TokenKind) {
+    fn build(&mut self, kind: TokenKind)
+        ensures only { self.new ≡ record self.old { builder = self.new.builder } }
+        ensures limits { RemembersLimits self.old.builder self.new.builder }
+        ensures builds { (token : StandardToken) → Told (Some kind) self.old.tokens (token ∷ []) →
+            has_plain_names token ≡ true →
+            TakesTokens (token ∷ []) self.old.builder self.new.builder }
+    {
         match kind {
             TokenKind::Tag => self.build_tag(),
             TokenKind::Comment => self.builder.comment(self.tokens.comment()),
@@ -211,7 +426,14 @@ impl PageReader {
     }
 
     /// Passes a tag to tree construction.
-    fn build_tag(&mut self) {
+    fn build_tag(&mut self)
+        ensures only { self.new ≡ record self.old { builder = self.new.builder } }
+        ensures limits { RemembersLimits self.old.builder self.new.builder }
+        ensures builds { (token : StandardToken) →
+            Told (Some TokenKind.Tag) self.old.tokens (token ∷ []) →
+            has_plain_names token ≡ true →
+            TakesTokens (token ∷ []) self.old.builder self.new.builder }
+    {
         if let Some(tag) = self.tokens.tag() {
             self.builder.tag(tag);
         }
@@ -245,6 +467,12 @@ fn state_in_noscript(scripting: bool) -> State
 }
 
 impl TreeBuilder {
+    ghost use Rattle.std.specs.Prelude.{IfErr, IfOk};
+    ghost use Rattle.standard_trees.specs.Building.{Building};
+    ghost use Rattle.page_trees.specs.Constructs.{Constructs};
+    ghost use Rattle.page_trees.specs.DocumentTrees.{IsTreeOf};
+    ghost use Rattle.page_trees.specs.declared.fault.PageFault.TheVariants.{Memory as NoMemory};
+
     /// Returns the tokenizer's state for the content of the context element.
     fn first_state(&self) -> State {
         let Some(context) = self.tree.context() else {
@@ -254,6 +482,17 @@ impl TreeBuilder {
             ElementNamespace::Html => state_in(context.name, self.scripting),
             _ => State::Data,
         }
+    }
+
+    /// Returns the finished tree, in its quirks mode. Fails only when memory runs out.
+    fn into_built(self) -> Result<BuiltTree, PageFault>
+        ensures rule { IfOk result (λ built. (b : Building) → Constructs self b →
+            IsTreeOf b built.tree built.quirks_mode) }
+        ensures err { IfErr result (λ fault. fault ≡ NoMemory) }
+    {
+        let mut tree = self.tree;
+        tree.set_quirks_mode(self.quirks);
+        tree.into_built()
     }
 
     /// Adds the parse errors to the document.

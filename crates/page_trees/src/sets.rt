@@ -6,6 +6,7 @@ ghost use Rattle.page_trees.specs.Sets.{ends_context, ends_scope, is_a_heading, 
 ghost use Rattle.page_trees.specs.Names.{text_of};
 ghost use Rattle.page_trees.specs.Scopes.{is_implied_but};
 ghost use Rattle.page_trees.specs.Sets.{is_implied, is_special_element};
+ghost use Rattle.page_trees.specs.TableSteps.{is_a_cell};
 ghost use Rattle.standard_trees.specs.GrowingTree.{is_among};
 ghost use Rattle.standard_trees.specs.NameLists.{special};
 
@@ -29,6 +30,13 @@ pub fn is_heading(element: &Open) -> bool
             element.name,
             Name::H1 | Name::H2 | Name::H3 | Name::H4 | Name::H5 | Name::H6
         )
+}
+
+/// Returns whether the element is a cell of a table.
+pub fn is_cell_element(element: &Open) -> bool
+    ensures { result ≡ is_a_cell element.now }
+{
+    element.ns == ElementNamespace::Html && matches!(element.name, Name::Td | Name::Th)
 }
 
 pub fn ends_default_scope(element: &Open) -> bool

@@ -6,6 +6,8 @@ ghost use Rattle.std.specs.Prelude.{◌+◌, ◌-◌, ◌<◌, ◌≤◌, ◌↔
 ghost use Rattle.std.specs.Prelude.{◌&&◌, eqb, length, not, remove, reverse, slice_get, slice_set};
 ghost use Rattle.std.specs.Prelude.{take};
 ghost use Rattle.std.specs.Option.{option_map_or, option_to_list};
+ghost use Rattle.std.specs.Prelude.{true};
+ghost use Rattle.page_trees.specs.Closing.{IsFoundAt, IsPlaceFrom, item_names};
 ghost use Rattle.page_trees.specs.Popping.{first_from, up_to_last};
 ghost use Rattle.standard_trees.specs.GrowingTree.{GrowingTree as StandardTree};
 ghost use Rattle.standard_trees.specs.GrowingTree.{beyond, has_in_scope, in_scope, is_foreign};
@@ -13,11 +15,12 @@ ghost use Rattle.standard_trees.specs.GrowingTree.{implied_of, popped_up_to, wit
 ghost use Rattle.standard_trees.specs.NameLists.{implied};
 ghost use Rattle.page_trees.specs.Names.{text_of};
 ghost use Rattle.page_trees.specs.Reopening.{index_at, is_this};
-ghost use Rattle.page_trees.specs.Scopes.{ends_in, has_name, is_among, is_name, is_named};
+ghost use Rattle.page_trees.specs.Scopes.{ends_in, ends_items, has_name, is_among, is_name};
+ghost use Rattle.page_trees.specs.Scopes.{is_named};
 ghost use Rattle.page_trees.specs.Scopes.{is_implied_but, is_named_like, last_place};
 ghost use Rattle.page_trees.specs.SearchIndex.{IsIndex, IsIndexed, is_sought};
 ghost use Rattle.page_trees.specs.Sets.{context_names, ends_context, ends_scope};
-ghost use Rattle.page_trees.specs.Sets.{has_html_content};
+ghost use Rattle.page_trees.specs.Sets.{has_html_content, is_a_heading};
 ghost use Rattle.page_trees.specs.Sets.{is_in_html, is_special_element};
 ghost use Rattle.page_trees.specs.LateMerges.{is_open};
 ghost use Rattle.page_trees.specs.Stands.{IsStackOf, scope_kind, text_list};
@@ -30,7 +33,7 @@ mod others;
 
 use crate::fault::PageFault;
 use crate::name::Name;
-use crate::sets::{Scope, TableContext, has_implied_end_but, is_special};
+use crate::sets::{Scope, TableContext, has_implied_end_but, is_heading, is_special};
 use dom_nodes::node_id::NodeId;
 use marks::{Marks, Sought, key_for, key_of};
 use others::OtherNames;
@@ -157,6 +160,17 @@ impl OpenElements {
     {
         match self.current() {
             Some(open) => open.is_html(name),
+            None => false,
+        }
+    }
+
+    /// Returns whether the current node is a heading.
+    pub fn current_is_heading(&self) -> bool
+        ensures { let elements = self.now.elements.items in
+            result ≡ option_map_or is_a_heading (slice_get elements (length elements - 1)) false }
+    {
+        match self.current() {
+            Some(open) => is_heading(&open),
             None => false,
         }
     }
@@ -512,7 +526,10 @@ impl OpenElements {
     }
 
     /// Returns the index of the last HTML element with one of these names.
-    pub fn topmost(&self, names: &[Name]) -> Option<usize> {
+    pub fn topmost(&self, names: &[Name]) -> Option<usize>
+        ensures { IsIndexed self.now →
+            result ≡ index_at (last_place (is_among names.now) self.now.elements.items) }
+    {
         self.top_among(names).checked_sub(1)
     }
 
@@ -569,48 +586,64 @@ impl OpenElements {
         self.last(Sought::ScopeEnd) <= place.saturating_add(1)
     }
 
-    /// Returns the name of the element at index `top` - 1, unless it comes before the end of a
-    /// search.
-    fn name_from(&self, end: usize, top: usize) -> Option<Name> {
-        if top < end {
-            return None;
-        }
-        let open = self.get(top.checked_sub(1)?)?;
-        Some(open.name)
+    /// Returns the index of the last heading, if it is in scope.
+    pub fn heading_in_scope(&self) -> Option<usize>
+        ensures { IsIndexed self.now →
+            IsFoundAt is_a_heading ends_scope self.now.elements.items result }
+    {
+        place_from(self.last(Sought::ScopeEnd), self.top_among(&HEADINGS))
     }
 
-    /// Returns the name of the last heading, if it is in scope.
-    pub fn heading_in_scope(&self) -> Option<Name> {
-        self.name_from(self.last(Sought::ScopeEnd), self.top_among(&HEADINGS))
+    /// Returns the index of the open list item that a new one with that name closes.
+    pub fn item_before(&self, name: Name) -> Option<usize>
+        ensures { let wanted = is_among (item_names name) in IsIndexed self.now →
+            IsFoundAt wanted ends_items self.now.elements.items result }
+    {
+        place_from(self.last(Sought::ItemEnd), self.top_item(name))
     }
 
-    /// Returns the name of the open list item that a new one with that name closes.
-    pub fn item_before(&self, name: Name) -> Option<Name> {
-        let top = match name {
-            Name::Li => self.top(Name::Li),
+    /// Returns one more than the index of the last list item that a new one with that name closes,
+    /// or 0.
+    fn top_item(&self, name: Name) -> usize
+        ensures { IsIndexed self.now →
+            result ≡ last_place (is_among (item_names name)) self.now.elements.items }
+    {
+        match name {
+            Name::Li => self.top_among(&[Name::Li]),
             _ => self.top_among(&[Name::Dd, Name::Dt]),
-        };
-        self.name_from(self.last(Sought::ItemEnd), top)
+        }
     }
 
     /// Returns one more than the index of the last element with that name, or 0. It is an HTML
     /// element or a foreign one.
-    fn top_written(&self, is_html: bool, name: Name, written: &str) -> usize {
-        match (name, self.others.get(written)) {
-            (Name::Other, Some(number)) => self.last(Sought::Key(key_for(is_html, name, number))),
-            (Name::Other, None) => 0,
-            _ => self.last(Sought::Key(key_for(is_html, name, 0))),
+    fn top_written(&self, is_html: bool, name: Name, written: &str) -> usize
+        ensures { is_html ≡ true → is_name name Other ≡ false → IsIndexed self.now →
+            result ≡ last_place (is_named name) self.now.elements.items }
+    {
+        if name == Name::Other {
+            return self.top_other(is_html, written);
+        }
+        self.last(Sought::Key(key_for(is_html, name, 0)))
+    }
+
+    /// Returns the same for a name that is not in `Name`.
+    fn top_other(&self, is_html: bool, written: &str) -> usize {
+        match self.others.get(written) {
+            Some(number) => self.last(Sought::Key(key_for(is_html, Name::Other, number))),
+            None => 0,
         }
     }
 
     /// Returns the index of the last HTML element with that name, unless a special element comes
     /// after it.
-    pub fn last_named(&self, name: Name, written: &str) -> Option<usize> {
-        let top = self.top_written(true, name, written);
-        if top < self.last(Sought::Special) {
-            return None;
-        }
-        top.checked_sub(1)
+    pub fn last_named(&self, name: Name, written: &str) -> Option<usize>
+        ensures { is_name name Other ≡ false → IsIndexed self.now →
+            IsFoundAt (is_named name) is_special_element self.now.elements.items result }
+    {
+        place_from(
+            self.last(Sought::Special),
+            self.top_written(true, name, written),
+        )
     }
 
     /// Returns one more than the index of the last foreign element with that name, or 0.
@@ -646,4 +679,14 @@ impl OpenElements {
         }
         None
     }
+}
+
+/// Returns `top` - 1, unless `top` is 0 or comes before the end of a search.
+fn place_from(end: usize, top: usize) -> Option<usize>
+    ensures { IsPlaceFrom end top result }
+{
+    if top < end {
+        return None;
+    }
+    top.checked_sub(1)
 }

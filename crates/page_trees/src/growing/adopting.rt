@@ -1,13 +1,16 @@
 //! Reconstructing the active formatting elements (13.2.4.3), and the adoption agency algorithm
 //! (13.2.6.4.7). A call that returns a `Result` fails only when memory or node ids run out.
 
-ghost use Rattle.std.specs.Prelude.{◌≡◌, ◌+◌, ◌^◌, ◌<◌, ◌≤◌, OnErr, OnOk, false, insert, true};
+ghost use Rattle.std.specs.Prelude.{◌≡◌, ◌+◌, ◌^◌, ◌<◌, ◌≤◌, IfOk, OnErr, OnOk, false, insert};
+ghost use Rattle.std.specs.Prelude.{true};
 ghost use Rattle.standard_trees.specs.Formatting.{reconstructed};
 ghost use Rattle.page_trees.specs.Elements.{IsElement};
+ghost use Rattle.page_trees.specs.Listing.{Adopts, RoundEnds, TellsBare};
 ghost use Rattle.page_trees.specs.Reopening.{is_closed, stays};
-ghost use Rattle.page_trees.specs.Scopes.{last_place};
+ghost use Rattle.page_trees.specs.Scopes.{is_name, last_place};
 ghost use Rattle.page_trees.specs.Stands.{DoesIn};
 ghost use Rattle.page_trees.specs.declared.formatting.Entry.TheVariants.{Element as AnEntry};
+ghost use Rattle.page_trees.specs.declared.name.Name.TheVariants.{Other};
 
 use super::GrowingTree;
 use super::edits::{is_forest, move_to, put_children_into_copy, put_into_copy};
@@ -97,34 +100,66 @@ impl GrowingTree {
 
     /// Runs the adoption agency algorithm for a tag. Returns `false` if the tag is to be processed
     /// like any other end tag.
-    pub fn adopt(&mut self, name: Name, foster: bool) -> Result<bool, PageFault> {
-        if let Some(current) = self.stack.current()
-            && current.is_html(name)
-            && self.formatting.index_of(current.id).is_none()
-        {
+    pub fn adopt(&mut self, name: Name, foster: bool) -> Result<bool, PageFault>
+        ensures { is_name name Other ≡ false → IfOk result (Adopts name self.old self.new) }
+    {
+        if self.has_unlisted(name) {
             self.pop();
             return Ok(true);
         }
-        for _ in 0..8 {
-            let Some(formatting) = self.formatting.named(name) else {
-                return Ok(false);
-            };
-            let Some(place) = self.stack.place_of(&formatting) else {
-                self.remove_formatting(formatting.id);
-                return Ok(true);
-            };
-            if !self.stack.is_in_scope(place) {
-                return Ok(true);
+        let end = self.adopt_round(name, foster)?;
+        let Some(done) = end else {
+            return self.adopt_again(name, foster);
+        };
+        Ok(done)
+    }
+
+    /// Runs the outer loop up to seven times more.
+    fn adopt_again(&mut self, name: Name, foster: bool) -> Result<bool, PageFault> {
+        for _ in 1..8 {
+            if let Some(done) = self.adopt_round(name, foster)? {
+                return Ok(done);
             }
-            let Some(furthest) = self.stack.furthest_block(place) else {
-                self.truncate(place);
-                self.remove_formatting(formatting.id);
-                return Ok(true);
-            };
-            let bookmark = self.bookmark_at(formatting.id);
-            self.adopt_once(place, furthest, bookmark, foster)?;
         }
         Ok(true)
+    }
+
+    /// Returns whether the current node is an HTML element with that name that is not in the list.
+    fn has_unlisted(&self, name: Name) -> bool
+        ensures { is_name name Other ≡ false → TellsBare name self.now result }
+    {
+        let Some(current) = self.stack.current() else {
+            return false;
+        };
+        if !current.is_html(name) {
+            return false;
+        }
+        self.formatting.index_of(current.id).is_none()
+    }
+
+    /// Runs the outer loop once. Returns `Some` if the algorithm is at its end; `Some(false)` if the
+    /// tag is to be processed like any other end tag.
+    fn adopt_round(&mut self, name: Name, foster: bool) -> Result<Option<bool>, PageFault>
+        ensures { is_name name Other ≡ false → IfOk result (RoundEnds name self.old self.new) }
+    {
+        let Some(formatting) = self.formatting.named(name) else {
+            return Ok(Some(false));
+        };
+        let Some(place) = self.stack.place_among(formatting.name, formatting.id) else {
+            self.remove_formatting(formatting.id);
+            return Ok(Some(true));
+        };
+        if !self.stack.is_in_scope(place) {
+            return Ok(Some(true));
+        }
+        let Some(furthest) = self.stack.furthest_block(place) else {
+            self.truncate(place);
+            self.remove_formatting(formatting.id);
+            return Ok(Some(true));
+        };
+        let bookmark = self.bookmark_at(formatting.id);
+        self.adopt_once(place, furthest, bookmark, foster)?;
+        Ok(None)
     }
 
     /// Returns the bookmark at the entry of an element.

@@ -1,12 +1,16 @@
 //! Attributes that later tags add to `html` and to `body`.
 
-ghost use Rattle.std.specs.Prelude.{◌≡◌, ◌==◌, [], ◌∷◌, ◌++◌, IfOk, List, OnOk, Some, position};
-ghost use Rattle.std.specs.Prelude.{slice_get};
+ghost use Rattle.std.specs.Prelude.{◌≡◌, ◌==◌, [], ◌∷◌, ◌++◌, IfErr, IfOk, List, OnOk, Some};
+ghost use Rattle.std.specs.Prelude.{position, slice_get};
+ghost use Rattle.std.specs.List.{list_any};
+ghost use Rattle.dom_nodes.specs.Changes.{with_attrs as with_changed, with_missing};
+ghost use Rattle.dom_links.specs.Contents.{with_content};
 ghost use Rattle.dom_trees.specs.Views.{node_attrs};
 ghost use Rattle.page_tokens.specs.Attributes.{Gains};
 ghost use Rattle.page_trees.specs.LateAttrs.{AddsAbsent, HasNames, Knows};
 ghost use Rattle.page_trees.specs.LateMerges.{AddsAt, AddsTo, KnowsAt};
-ghost use Rattle.page_trees.specs.TreeState.{late_of};
+ghost use Rattle.page_trees.specs.TreeState.{completed, late_of, with_attrs};
+ghost use Rattle.page_trees.specs.declared.fault.PageFault.TheVariants.{Memory as NoMemory};
 ghost use Rattle.page_trees.specs.declared.growing.late.LateAttrs.{LateAttrs as AnElement};
 
 use crate::attributes::attr_of;
@@ -84,15 +88,17 @@ impl LateAttrs {
 
     /// Adds the collected attributes to the element, after its own. Fails only when memory runs
     /// out.
-    pub fn put_into(self, tree: &mut Tree) -> Result<(), PageFault> {
-        let mut attrs = attrs_at(tree, self.id)?;
-        for attr in self.added {
-            attrs.push(attr)?;
-        }
-        match replace_attrs(tree, self.id, attrs) {
-            true => Ok(()),
-            false => Err(PageFault::Memory),
-        }
+    pub fn put_into(self, tree: &mut Tree) -> Result<(), PageFault>
+        ensures ok { OnOk result
+            (tree.new ≡ with_content self.id (with_attrs self.added.items) tree.old) }
+        ensures err { IfErr result (λ fault. fault ≡ NoMemory) }
+    {
+        let id = self.id;
+        let mut attrs = attrs_at(tree, id)?;
+        append(&mut attrs, self.added)?;
+        remove_attrs(tree, id)?;
+        add_attrs(tree, id, attrs)?;
+        Ok(())
     }
 }
 
@@ -160,27 +166,69 @@ impl LateTags {
             .position(|late| late.is_of(id))
     }
 
-    /// Adds the collected attributes to their elements, after those that the elements have. Fails
-    /// only when memory runs out.
-    pub fn put_into(self, tree: &mut Tree) -> Result<(), PageFault> {
-        for late in self.elements {
-            late.put_into(tree)?;
+    /// Returns whether the list has attributes for an element.
+    fn has(&self, id: NodeId) -> bool
+        ensures { result ≡ list_any (λ late. late.id == id) self.now.elements.items }
+    {
+        self.elements.as_slice().iter().any(|late| late.is_of(id))
+    }
+
+    /// Adds the collected attributes to their elements, after those that the elements have. If an
+    /// element stood in the list twice, the first of them would count. Fails only when memory runs
+    /// out.
+    pub fn put_into(self, tree: &mut Tree) -> Result<(), PageFault>
+        ensures ok { OnOk result (tree.new ≡ completed (late_of self.elements.items) tree.old) }
+        ensures err { IfErr result (λ fault. fault ≡ NoMemory) }
+    {
+        let mut left = self;
+        while let Some(late) = left.elements.pop() {
+            if !left.has(late.id) {
+                late.put_into(tree)?;
+            }
         }
         Ok(())
     }
 }
 
-/// Gives an element these attributes in place of its own. Returns false where memory is refused.
-fn replace_attrs(tree: &mut Tree, id: NodeId, attrs: Attrs) -> bool {
-    if tree.try_change_of(&id, Change::RemoveAllAttrs).is_err() {
-        return false;
+/// Removes the attributes of an element. Fails only when memory runs out.
+fn remove_attrs(tree: &mut Tree, id: NodeId) -> Result<(), PageFault>
+    ensures ok { OnOk result (tree.new ≡ with_content id (with_changed (λ _. [])) tree.old) }
+    ensures err { IfErr result (λ fault. fault ≡ NoMemory) }
+{
+    match tree.try_change_of(&id, Change::RemoveAllAttrs) {
+        Ok(()) => Ok(()),
+        Err(_) => Err(PageFault::Memory),
     }
-    tree.add_missing_attrs_of(&id, attrs).is_ok()
+}
+
+/// Gives an element those of the attributes whose names it doesn't have. Fails only when memory
+/// runs out.
+fn add_attrs(tree: &mut Tree, id: NodeId, attrs: Attrs) -> Result<(), PageFault>
+    ensures ok { OnOk result
+        (tree.new ≡ with_content id (with_changed (with_missing attrs)) tree.old) }
+    ensures err { IfErr result (λ fault. fault ≡ NoMemory) }
+{
+    match tree.add_missing_attrs_of(&id, attrs) {
+        Ok(()) => Ok(()),
+        Err(_) => Err(PageFault::Memory),
+    }
+}
+
+/// Appends attributes. Fails only when memory runs out.
+fn append(attrs: &mut Attrs, added: Vec<Attr>) -> Result<(), PageFault>
+    ensures ok { OnOk result (attrs.new ≡ attrs.old ++ added.items) }
+    ensures err { IfErr result (λ fault. fault ≡ NoMemory) }
+{
+    for attr in added {
+        attrs.push(attr)?;
+    }
+    Ok(())
 }
 
 /// Returns a copy of the attributes of an element.
 fn attrs_at(tree: &Tree, id: NodeId) -> Result<Attrs, PageFault>
-    ensures { IfOk result (λ attrs. attrs ≡ node_attrs tree.now id) }
+    ensures ok { IfOk result (λ attrs. attrs ≡ node_attrs tree.now id) }
+    ensures err { IfErr result (λ fault. fault ≡ NoMemory) }
 {
     match NodeRef::new(id, tree).element_ref() {
         Some(element) => Ok(element.attrs().try_clone()?),

@@ -1,26 +1,32 @@
 //! Removing elements from the stack of open elements and from the list of active formatting
 //! elements. A call that returns a `Result` fails only when memory runs out.
 
-ghost use Rattle.std.specs.Prelude.{◌≡◌, ◌++◌, [], ◌∷◌, IfNone, IfSome, OnOk, false, remove};
-ghost use Rattle.std.specs.Prelude.{take};
-ghost use Rattle.std.specs.Option.{option_to_list};
+ghost use Rattle.std.specs.Prelude.{IfNone, IfSome, OnOk, [], codes, false, length, remove};
+ghost use Rattle.std.specs.Prelude.{slice_get, take, true, ◌++◌, ◌-◌, ◌∷◌, ◌≡◌};
+ghost use Rattle.std.specs.Option.{option_map, option_to_list};
 ghost use Rattle.standard_trees.specs.GrowingTree.{has_in_scope, implied_of};
 ghost use Rattle.standard_trees.specs.GrowingTree.{popped_until, popped_up_to};
-ghost use Rattle.standard_trees.specs.NameLists.{implied};
-ghost use Rattle.page_trees.specs.Formatting.{IsWithout};
+ghost use Rattle.standard_trees.specs.NameLists.{headings, implied};
+ghost use Rattle.page_trees.specs.Formatting.{IsWithout, are_few, with_room};
+ghost use Rattle.page_trees.specs.Listing.{Enlists, Unlists};
+ghost use Rattle.standard_trees.specs.RuleWords.{Scope as DefaultScope};
+ghost use Rattle.page_trees.specs.Closing.{closed_before, ends_items_node, is_special_node};
+ghost use Rattle.page_trees.specs.Closing.{item_texts};
 ghost use Rattle.page_trees.specs.Names.{text_of};
 ghost use Rattle.page_trees.specs.Popping.{before_last, is_a_marker};
 ghost use Rattle.page_trees.specs.Scopes.{has_name, is_name};
 ghost use Rattle.page_trees.specs.Sets.{context_names};
 ghost use Rattle.page_trees.specs.Stands.{Does, Tells, closed_in, popped, popped_if, scope_kind};
 ghost use Rattle.page_trees.specs.Stands.{text_list, with_marker, without_foreign, without_marker};
+ghost use Rattle.page_trees.specs.declared.formatting.Entry.TheVariants.{Element as AnEntry};
+ghost use Rattle.page_trees.specs.TableSteps.{is_a_cell};
 ghost use Rattle.page_trees.specs.declared.name.Name.TheVariants.{Other};
 
 use super::GrowingTree;
 use crate::fault::PageFault;
 use crate::formatting::Entry;
 use crate::name::Name;
-use crate::sets::{Scope, TableContext};
+use crate::sets::{Scope, TableContext, is_cell_element};
 use crate::stack::Open;
 use dom_nodes::node_id::NodeId;
 
@@ -125,6 +131,25 @@ impl GrowingTree {
         }
     }
 
+    /// Pops elements until a cell of a table has been popped.
+    pub fn pop_to_cell(&mut self)
+        ensures { Does (popped_until (codes "td" ∷ codes "th" ∷ [])) self.old self.new }
+    {
+        self.take_to_cell();
+    }
+
+    /// Pops elements up to and including the last cell of a table.
+    fn take_to_cell(&mut self)
+        ensures { let kept = before_last is_a_cell self.old.stack in
+            self.new ≡ record self.old { stack = kept } }
+    {
+        while let Some(open) = self.take() {
+            if is_cell_element(&open) {
+                return;
+            }
+        }
+    }
+
     /// If an element with that name is in scope, pops elements up to and including it. Returns
     /// whether one was.
     pub fn close(&mut self, name: Name, scope: Scope) -> bool
@@ -142,8 +167,39 @@ impl GrowingTree {
 
     /// Processes any other end tag: pops elements up to and including the last with that name,
     /// unless a special element comes first.
-    pub fn close_named(&mut self, name: Name, written: &str) {
+    pub fn close_named(&mut self, name: Name, written: &str)
+        ensures rule { is_name name Other ≡ false →
+            Does (closed_before is_special_node (text_of name ∷ [])) self.old self.new }
+    {
         if let Some(place) = self.stack.last_named(name, written) {
+            self.truncate(place);
+        }
+    }
+
+    /// Pops the current node, if it is a heading.
+    pub fn pop_heading(&mut self)
+        ensures { Does (popped_if headings) self.old self.new }
+    {
+        if self.stack.current_is_heading() {
+            self.pop();
+        }
+    }
+
+    /// If a heading is in scope, pops elements up to and including the last one.
+    pub fn close_heading(&mut self)
+        ensures { Does (closed_in DefaultScope headings) self.old self.new }
+    {
+        if let Some(place) = self.stack.heading_in_scope() {
+            self.truncate(place);
+        }
+    }
+
+    /// Pops elements up to and including the open list item that a new one with that name closes.
+    pub fn close_item(&mut self, name: Name)
+        ensures { let names = item_texts name in
+            Does (closed_before ends_items_node names) self.old self.new }
+    {
+        if let Some(place) = self.stack.item_before(name) {
             self.truncate(place);
         }
     }
@@ -175,17 +231,22 @@ impl GrowingTree {
 
     /// Appends the current node to the list of active formatting elements. If three with the same
     /// name and attributes follow the last marker, the earliest is removed.
-    pub fn push_formatting(&mut self) -> Result<(), PageFault> {
+    pub fn push_formatting(&mut self) -> Result<(), PageFault>
+        ensures { OnOk result (Enlists self.old self.new) }
+    {
         let Some(open) = self.stack.current() else {
             return Ok(());
         };
         let likeness = self.likeness_of(open.id);
         self.make_room(open.id, likeness);
-        self.push_current(likeness)
+        self.push_current(likeness)?;
+        Ok(())
     }
 
     /// Makes room in the list for an element of that likeness (the Noah's Ark clause).
     fn make_room(&mut self, id: NodeId, likeness: u32)
+        ensures ark { let old = self.old.formatting in are_few old ≡ true →
+            self.new.formatting ≡ with_room self.old.forest id old }
         ensures one { IsWithout self.old.formatting self.new.formatting }
         ensures rest { self.new ≡ record self.old { formatting = self.new.formatting } }
     {
@@ -200,7 +261,12 @@ impl GrowingTree {
     }
 
     /// Appends the current node, of that likeness, to the list.
-    fn push_current(&mut self, likeness: u32) -> Result<(), PageFault> {
+    fn push_current(&mut self, likeness: u32) -> Result<(), PageFault>
+        ensures { let current = slice_get self.old.stack (length self.old.stack - 1) in
+            OnOk result (self.new ≡ record self.old {
+              formatting = self.old.formatting ++ option_to_list (option_map AnEntry current);
+            }) }
+    {
         let Some(open) = self.stack.current() else {
             return Ok(());
         };
@@ -233,7 +299,10 @@ impl GrowingTree {
     }
 
     /// Removes an element's entry from the list.
-    pub fn remove_formatting(&mut self, id: NodeId) {
+    pub fn remove_formatting(&mut self, id: NodeId)
+        ensures rule { Unlists id self.old self.new }
+        ensures rest { self.new ≡ record self.old { formatting = self.new.formatting } }
+    {
         if let Some(index) = self.formatting.index_of(id) {
             self.remove_entry(index);
         }

@@ -1,15 +1,27 @@
 //! The modes before the body.
 
-ghost use Rattle.std.specs.Prelude.{◌≡◌, [], ◌∷◌, codes, true};
-ghost use Rattle.standard_trees.specs.RuleWords.{BeforeHead, BeforeHtml, InBody, InHead};
+ghost use Rattle.std.specs.Prelude.{◌≡◌, [], ◌∷◌, codes, false, true};
+ghost use Rattle.standard_trees.specs.Building.{Building};
+ghost use Rattle.standard_trees.specs.RuleWords.{AfterHead, BeforeHead, BeforeHtml, InBody, InHead};
+ghost use Rattle.standard_trees.specs.RuleWords.{InHeadNoscript};
 ghost use Rattle.standard_trees.specs.RuleWords.{InsertElement, InsertNamed, InsertRootNamed};
-ghost use Rattle.standard_trees.specs.RuleWords.{Pop, SetHeadPointer, SetQuirks, SwitchTo};
-ghost use Rattle.page_trees.specs.Constructs.{Performs, PerformsFor, ProcessesTag};
+ghost use Rattle.standard_trees.specs.RuleWords.{Pop, PopTemplateMode, PushTemplateMode};
+ghost use Rattle.standard_trees.specs.RuleWords.{SetHeadPointer, SetQuirks, SwitchTo};
+ghost use Rattle.page_tokens.specs.declared.token.Tag.{Tag as TheTag};
+ghost use Rattle.page_trees.specs.Constructs.{Constructs, Performs, PerformsFor, ProcessesTag};
 ghost use Rattle.page_trees.specs.Constructs.{RemembersLimits, is_entered_plainly};
-ghost use Rattle.page_trees.specs.LateMerges.{ProcessesHtmlTag, ProcessesTagInHtml};
-ghost use Rattle.page_trees.specs.Modes.{is_early_end_name, mode_of};
+ghost use Rattle.page_trees.specs.Groups.{is_metadata_name};
+ghost use Rattle.page_trees.specs.HeadSteps.{after_element, before_element};
+ghost use Rattle.page_trees.specs.HeadSteps.{ProcessesTagBehindHead, closing_template};
+ghost use Rattle.page_trees.specs.HeadSteps.{is_noscript_name, is_outer_name};
+ghost use Rattle.page_trees.specs.HeadSteps.{starting_template};
+ghost use Rattle.page_trees.specs.LateMerges.{ProcessesHtmlTag, ProcessesTagInHtml, is_open};
+ghost use Rattle.page_trees.specs.Modes.{is_early_end_name, is_start_kind, mode_of};
 ghost use Rattle.page_trees.specs.declared.builder.Next.TheVariants.{Again, Done as IsDone};
+ghost use Rattle.page_trees.specs.declared.name.Name.TheVariants.{Body as BodyName};
 ghost use Rattle.page_trees.specs.declared.name.Name.TheVariants.{Head as HeadName};
+ghost use Rattle.page_trees.specs.declared.name.Name.TheVariants.{Noscript as NoscriptName};
+ghost use Rattle.page_trees.specs.declared.name.Name.TheVariants.{Template as TemplateName};
 
 use super::groups::is_metadata;
 use super::is_start;
@@ -25,6 +37,27 @@ fn is_early_end(name: Name) -> bool
     ensures { result ≡ is_early_end_name name }
 {
     matches!(name, Name::Head | Name::Body | Name::Html | Name::Br)
+}
+
+/// Returns whether the end tag with that name closes the head, which is left then.
+fn is_outer(name: Name) -> bool
+    ensures { result ≡ is_outer_name name }
+{
+    match name {
+        Name::Body | Name::Html | Name::Br => true,
+        _ => false,
+    }
+}
+
+/// Returns whether "in head noscript" uses the rules for "in head" for a start tag with that name.
+fn is_in_noscript(name: Name) -> bool
+    ensures { result ≡ is_noscript_name name }
+{
+    match name {
+        Name::Basefont | Name::Bgsound | Name::Link => true,
+        Name::Meta | Name::Noframes | Name::Style => true,
+        _ => false,
+    }
 }
 
 impl TreeBuilder {
@@ -140,88 +173,185 @@ impl TreeBuilder {
     }
 
     /// Processes the start tag of an element of the head, wherever it is.
-    pub fn head_element(&mut self, name: Name, tag: &Tag) -> Next {
-        match name {
-            Name::Title => self.insert_text_element(name, tag, State::Rcdata),
-            Name::Noframes | Name::Style | Name::Noscript => {
-                self.insert_text_element(name, tag, State::Rawtext)
-            }
-            Name::Script => self.insert_text_element(name, tag, State::Script),
-            Name::Template => self.start_template(tag),
-            _ => self.insert_void(name, tag),
+    pub fn head_element(&mut self, name: Name, tag: &Tag) -> Next
+        ensures next { result ≡ IsDone }
+        ensures limits { RemembersLimits self.old self.new }
+        ensures rule { is_metadata_name name ≡ true → is_start_kind tag.now.kind ≡ true →
+            ProcessesTag InHead name tag.now self.old self.new result }
+    {
+        self.before_head_element(name);
+        self.insert(name, tag);
+        self.after_head_element(name)
+    }
+
+    /// Does what comes before an element of the head is inserted.
+    fn before_head_element(&mut self, name: Name)
+        ensures limits { RemembersLimits self.old self.new }
+        ensures rule { Performs (before_element name) self.old self.new }
+    {
+        if name == Name::Template {
+            return self.start_template();
         }
     }
 
-    fn start_template(&mut self, tag: &Tag) -> Next {
-        self.insert(Name::Template, tag);
+    fn start_template(&mut self)
+        ensures limits { RemembersLimits self.old self.new }
+        ensures rule { Performs starting_template self.old self.new }
+    {
         self.push_marker();
         self.frameset_ok = false;
         self.push_template_mode(Mode::InTemplate);
-        self.done_in(Mode::InTemplate)
+        self.mode = Mode::InTemplate;
     }
 
-    pub fn push_template_mode(&mut self, mode: Mode) {
-        if self.template_modes.push(mode).is_err() {
-            self.keep(Err(PageFault::Memory));
+    /// Does what comes after an element of the head is inserted.
+    fn after_head_element(&mut self, name: Name) -> Next
+        ensures next { result ≡ IsDone }
+        ensures limits { RemembersLimits self.old self.new }
+        ensures rule { Performs (after_element name) self.old self.new }
+    {
+        match name {
+            Name::Title => self.read_text(State::Rcdata),
+            Name::Noframes | Name::Style => self.read_text(State::Rawtext),
+            Name::Noscript => self.read_text(State::Rawtext),
+            Name::Script => self.read_text(State::Script),
+            Name::Template => Next::Done,
+            _ => self.close_element(),
         }
+    }
+
+    fn close_element(&mut self) -> Next
+        ensures next { result ≡ IsDone }
+        ensures limits { RemembersLimits self.old self.new }
+        ensures rule { Performs (Pop ∷ []) self.old self.new }
+    {
+        self.tree.pop();
+        Next::Done
+    }
+
+    pub fn push_template_mode(&mut self, mode: Mode)
+        ensures limits { RemembersLimits self.old self.new }
+        ensures rule { is_entered_plainly mode ≡ true →
+            Performs (PushTemplateMode (mode_of mode) ∷ []) self.old self.new }
+    {
+        match self.template_modes.push(mode) {
+            Ok(_) => {}
+            Err(_) => self.keep(Err(PageFault::Memory)),
+        }
+    }
+
+    pub fn pop_template_mode(&mut self)
+        ensures limits { RemembersLimits self.old self.new }
+        ensures rule { Performs (PopTemplateMode ∷ []) self.old self.new }
+    {
+        let _ = self.template_modes.pop();
     }
 
     /// Closes a template, if one is open, and returns whether one was.
-    pub fn close_template(&mut self) -> bool {
+    pub fn close_template(&mut self) -> bool
+        ensures limits { RemembersLimits self.old self.new }
+        ensures found { (b : Building) → Constructs self.old b →
+            result ≡ is_open (codes "template") b.tree }
+        ensures kept { result ≡ false → self.new ≡ self.old }
+        ensures rule { result ≡ true → Performs closing_template self.old self.new }
+    {
         if !self.tree.open().has(Name::Template) {
             return false;
         }
-        self.tree.pop_to(Name::Template);
-        self.tree.clear_to_marker();
-        let _ = self.template_modes.pop();
-        self.reset_mode();
+        self.leave_template();
         true
     }
 
-    pub fn end_template(&mut self) -> Next {
+    fn leave_template(&mut self)
+        ensures limits { RemembersLimits self.old self.new }
+        ensures rule { Performs closing_template self.old self.new }
+    {
+        self.tree.pop_to(Name::Template);
+        self.tree.clear_to_marker();
+        self.pop_template_mode();
+        self.reset_mode();
+    }
+
+    pub fn end_template(&mut self) -> Next
+        ensures next { result ≡ IsDone }
+        ensures limits { RemembersLimits self.old self.new }
+        ensures rule { (tag : TheTag) → is_start_kind tag.kind ≡ false →
+            ProcessesTag InHead TemplateName tag self.old self.new result }
+    {
         self.close_template();
         Next::Done
     }
 
-    pub fn head_tag(&mut self, name: Name, tag: &Tag) -> Next {
+    pub fn head_tag(&mut self, name: Name, tag: &Tag) -> Next
+        ensures limits { RemembersLimits self.old self.new }
+        ensures rule { ProcessesTagInHtml InHead name tag.now self.old self.new result }
+    {
         if is_start(tag) {
-            return match name {
-                Name::Html => self.add_html_attrs(tag),
-                Name::Noscript if !self.scripting => {
-                    self.insert_then(name, tag, Mode::InHeadNoscript)
-                }
-                Name::Noscript => self.head_element(name, tag),
-                _ if is_metadata(name) => self.head_element(name, tag),
-                Name::Head => Next::Done,
-                _ => self.leave_for(Mode::AfterHead),
-            };
+            return self.start_in_head(name, tag);
+        }
+        if is_outer(name) {
+            return self.leave_for(Mode::AfterHead);
         }
         match name {
             Name::Head => self.end_in_mode(Mode::AfterHead),
-            Name::Body | Name::Html | Name::Br => self.leave_for(Mode::AfterHead),
             Name::Template => self.end_template(),
             _ => Next::Done,
         }
     }
 
-    pub fn noscript_tag(&mut self, name: Name, tag: &Tag) -> Next {
+    fn start_in_head(&mut self, name: Name, tag: &Tag) -> Next
+        ensures limits { RemembersLimits self.old self.new }
+        ensures rule { is_start_kind tag.now.kind ≡ true →
+            ProcessesTagInHtml InHead name tag.now self.old self.new result }
+    {
+        if is_metadata(name) {
+            return self.head_element(name, tag);
+        }
+        match name {
+            Name::Html => self.add_html_attrs(tag),
+            Name::Noscript => self.start_head_noscript(tag),
+            Name::Head => Next::Done,
+            _ => self.leave_for(Mode::AfterHead),
+        }
+    }
+
+    fn start_head_noscript(&mut self, tag: &Tag) -> Next
+        ensures limits { RemembersLimits self.old self.new }
+        ensures rule { is_start_kind tag.now.kind ≡ true →
+            ProcessesTag InHead NoscriptName tag.now self.old self.new result }
+    {
+        if self.scripting {
+            return self.insert_text_element(Name::Noscript, tag, State::Rawtext);
+        }
+        self.insert_then(Name::Noscript, tag, Mode::InHeadNoscript)
+    }
+
+    pub fn noscript_tag(&mut self, name: Name, tag: &Tag) -> Next
+        ensures limits { RemembersLimits self.old self.new }
+        ensures rule { ProcessesTagInHtml InHeadNoscript name tag.now self.old self.new result }
+    {
         if is_start(tag) {
-            return match name {
-                Name::Html => self.add_html_attrs(tag),
-                Name::Basefont
-                | Name::Bgsound
-                | Name::Link
-                | Name::Meta
-                | Name::Noframes
-                | Name::Style => self.head_element(name, tag),
-                Name::Head | Name::Noscript => Next::Done,
-                _ => self.leave_for(Mode::InHead),
-            };
+            return self.start_in_noscript(name, tag);
         }
         match name {
             Name::Noscript => self.end_in_mode(Mode::InHead),
             Name::Br => self.leave_for(Mode::InHead),
             _ => Next::Done,
+        }
+    }
+
+    fn start_in_noscript(&mut self, name: Name, tag: &Tag) -> Next
+        ensures limits { RemembersLimits self.old self.new }
+        ensures rule { is_start_kind tag.now.kind ≡ true →
+            ProcessesTagInHtml InHeadNoscript name tag.now self.old self.new result }
+    {
+        if is_in_noscript(name) {
+            return self.head_element(name, tag);
+        }
+        match name {
+            Name::Html => self.add_html_attrs(tag),
+            Name::Head | Name::Noscript => Next::Done,
+            _ => self.leave_for(Mode::InHead),
         }
     }
 
@@ -234,36 +364,59 @@ impl TreeBuilder {
         self.imply(Name::Body, "body", Mode::InBody)
     }
 
-    pub fn after_head_tag(&mut self, name: Name, tag: &Tag) -> Next {
+    pub fn after_head_tag(&mut self, name: Name, tag: &Tag) -> Next
+        ensures limits { RemembersLimits self.old self.new }
+        ensures rule { ProcessesTagBehindHead AfterHead name tag.now self.old self.new result }
+    {
         if is_start(tag) {
-            return match name {
-                Name::Html => self.add_html_attrs(tag),
-                Name::Body => {
-                    self.frameset_ok = false;
-                    self.insert_then(name, tag, Mode::InBody)
-                }
-                Name::Frameset => self.insert_then(name, tag, Mode::InFrameset),
-                _ if is_metadata(name) => self.in_head_again(name, tag),
-                Name::Head => Next::Done,
-                _ => self.imply_body(),
-            };
+            return self.start_after_head(name, tag);
+        }
+        if is_outer(name) {
+            return self.imply_body();
+        }
+        if name == Name::Template {
+            return self.end_template();
+        }
+        Next::Done
+    }
+
+    fn start_after_head(&mut self, name: Name, tag: &Tag) -> Next
+        ensures limits { RemembersLimits self.old self.new }
+        ensures rule { is_start_kind tag.now.kind ≡ true →
+            ProcessesTagBehindHead AfterHead name tag.now self.old self.new result }
+    {
+        if is_metadata(name) {
+            return self.in_head_again(name, tag);
         }
         match name {
-            Name::Template => self.end_template(),
-            Name::Body | Name::Html | Name::Br => self.imply_body(),
-            _ => Next::Done,
+            Name::Html => self.add_html_attrs(tag),
+            Name::Body => self.start_body_after_head(tag),
+            Name::Frameset => self.insert_then(name, tag, Mode::InFrameset),
+            Name::Head => Next::Done,
+            _ => self.imply_body(),
         }
+    }
+
+    fn start_body_after_head(&mut self, tag: &Tag) -> Next
+        ensures next { result ≡ IsDone }
+        ensures limits { RemembersLimits self.old self.new }
+        ensures rule { is_start_kind tag.now.kind ≡ true →
+            ProcessesTag AfterHead BodyName tag.now self.old self.new result }
+    {
+        self.frameset_ok = false;
+        self.insert_then(Name::Body, tag, Mode::InBody)
     }
 
     /// Processes the start tag of an element of the head after the head is closed; the element is
     /// inserted into the head.
-    fn in_head_again(&mut self, name: Name, tag: &Tag) -> Next {
-        if !self.tree.has_head() {
-            return Next::Done;
-        }
-        self.placing.in_head = true;
-        let next = self.head_element(name, tag);
-        self.placing.in_head = false;
-        next
+    fn in_head_again(&mut self, name: Name, tag: &Tag) -> Next
+        ensures next { result ≡ IsDone }
+        ensures limits { RemembersLimits self.old self.new }
+        ensures rule { is_metadata_name name ≡ true → is_start_kind tag.now.kind ≡ true →
+            ProcessesTagBehindHead AfterHead name tag.now self.old self.new result }
+    {
+        self.before_head_element(name);
+        self.insert_into_head(name, tag);
+        self.after_head_element(name)
     }
 }

@@ -2,12 +2,14 @@
 
 ghost use Rattle.std.specs.Prelude.{◌≡◌, [], ◌∷◌, List, encode_utf8_all, false, string_bytes, ℕ};
 ghost use Rattle.std.specs.Option.{option_map_or};
-ghost use Rattle.standard_tokens.specs.Tokens.{ADoctype, AnEof};
+ghost use Rattle.standard_tokens.specs.Tokens.{AComment, ADoctype, AnEof};
 ghost use Rattle.standard_tokens.specs.Tokens.{Doctype as StandardDoctype};
 ghost use Rattle.standard_trees.specs.RuleWords.{AppendDoctype, BeforeHtml, Dispatcher};
+ghost use Rattle.standard_trees.specs.RuleWords.{InBody, InTemplate};
 ghost use Rattle.standard_trees.specs.RuleWords.{SetQuirksByDoctype, SwitchTo};
 ghost use Rattle.page_tokens.specs.Standard.{IsDoctype};
 ghost use Rattle.page_trees.specs.Constructs.{RemembersLimits};
+ghost use Rattle.page_trees.specs.CoveredTurns.{TakesTokens};
 ghost use Rattle.page_trees.specs.TokenSteps.{EndsPlainly, PerformsOn, Processes, ProcessesBy};
 ghost use Rattle.page_trees.specs.TokenSteps.{ProcessesComment, TakesComment};
 ghost use Rattle.page_trees.specs.TokenSteps.{at_end, comment_place, is_initial};
@@ -15,7 +17,6 @@ ghost use Rattle.page_trees.specs.TokenSteps.{keeps_characters};
 ghost use Rattle.page_trees.specs.declared.builder.Mode.TheVariants.{Initial as IsInitial};
 ghost use Rattle.page_trees.specs.declared.builder.Next.TheVariants.{Done as IsDone};
 
-use super::next_if;
 use crate::builder::{Mode, Next, TreeBuilder};
 use crate::modes::Token;
 use page_tokens::token::Doctype;
@@ -75,14 +76,15 @@ fn at_end(mode: Mode) -> AtEnd
 
 impl TreeBuilder {
     pub fn comment(&mut self, text: &str)
-        ensures limits { keeps_characters self.old.mode ≡ false →
-            RemembersLimits self.old self.new }
+        ensures limits { RemembersLimits self.old self.new }
+        ensures tokens { (cs : List ℕ) → text.now ≡ encode_utf8_all cs →
+            TakesTokens (AComment cs ∷ []) self.old self.new }
         ensures rule { (cs : List ℕ) → text.now ≡ encode_utf8_all cs →
             keeps_characters self.old.mode ≡ false →
             ProcessesComment cs self.old self.new }
     {
         self.skip_line_feed = false;
-        self.flush_table_text();
+        self.settle_table_text();
         self.insert_comment(text);
     }
 
@@ -105,14 +107,15 @@ impl TreeBuilder {
     }
 
     pub fn doctype(&mut self, doctype: &Doctype)
-        ensures limits { keeps_characters self.old.mode ≡ false →
-            RemembersLimits self.old self.new }
+        ensures limits { RemembersLimits self.old self.new }
+        ensures tokens { (d : StandardDoctype) → IsDoctype doctype.now d →
+            TakesTokens (ADoctype d ∷ []) self.old self.new }
         ensures rule { (d : StandardDoctype) → IsDoctype doctype.now d →
             keeps_characters self.old.mode ≡ false →
             Processes (ADoctype d) self.old self.new }
     {
         self.skip_line_feed = false;
-        self.flush_table_text();
+        self.settle_table_text();
         self.take_doctype(doctype);
     }
 
@@ -149,8 +152,12 @@ impl TreeBuilder {
     }
 
     /// Processes the end of the page.
-    pub fn end(&mut self) {
-        self.flush_table_text();
+    pub fn end(&mut self)
+        ensures limits { RemembersLimits self.old self.new }
+        ensures tokens { TakesTokens (AnEof ∷ []) self.old self.new }
+    {
+        self.skip_line_feed = false;
+        self.settle_table_text();
         self.process(Token::End);
     }
 
@@ -162,21 +169,32 @@ impl TreeBuilder {
         match at_end(self.mode) {
             AtEnd::Leave => self.leave_mode(),
             AtEnd::EndText => self.leave_for(self.original),
-            AtEnd::EndTemplate => next_if(self.close_template()),
+            AtEnd::EndTemplate => self.end_in_template(),
             AtEnd::EndContent => self.end_content(),
             AtEnd::Stop => Next::Done,
         }
     }
 
-    /// Closes a template in whose content the page ends.
+    /// Closes a template in which the page ends.
+    fn end_in_template(&mut self) -> Next
+        ensures limits { RemembersLimits self.old self.new }
+        ensures rule { ProcessesBy InTemplate AnEof self.old self.new result }
+    {
+        if self.close_template() {
+            return Next::Again;
+        }
+        Next::Done
+    }
+
+    /// Processes the end of the page in content, which may be that of a template.
     fn end_content(&mut self) -> Next
-        ensures plain { self.old.template_modes.items ≡ [] → self.new ≡ self.old }
-        ensures done { self.old.template_modes.items ≡ [] → result ≡ IsDone }
+        ensures limits { RemembersLimits self.old self.new }
+        ensures rule { ProcessesBy InBody AnEof self.old self.new result }
     {
         if self.template_modes.is_empty() {
             return Next::Done;
         }
-        next_if(self.close_template())
+        self.end_in_template()
     }
 }
 

@@ -1,7 +1,12 @@
 //! Resetting the insertion mode appropriately (13.2.4.1).
 
-ghost use Rattle.std.specs.Prelude.{◌≡◌, None, Some, if◌then◌else◌};
-ghost use Rattle.std.specs.Option.{option_map};
+ghost use Rattle.std.specs.Prelude.{◌≡◌, [], ◌∷◌, None, Some, if◌then◌else◌};
+ghost use Rattle.std.specs.Option.{option_and_then, option_map};
+ghost use Rattle.standard_trees.specs.Building.{Building, reset_from};
+ghost use Rattle.standard_trees.specs.RuleWords.{ResetMode};
+ghost use Rattle.page_trees.specs.Constructs.{Constructs, Performs, RemembersLimits};
+ghost use Rattle.page_trees.specs.Resetting.{last_mode, setting_at};
+ghost use Rattle.page_trees.specs.TreeState.{adjusted_at};
 ghost use Rattle.page_trees.specs.Modes.{mode_of, reset_for, reset_named};
 ghost use Rattle.page_trees.specs.Names.{text_of};
 ghost use Rattle.page_trees.specs.declared.builder.Mode.TheVariants.{AfterHead, BeforeHead};
@@ -30,11 +35,17 @@ const ASKING: [Name; 14] = [
 
 impl TreeBuilder {
     /// Sets the insertion mode that the stack of open elements determines.
-    pub fn reset_mode(&mut self) {
+    pub fn reset_mode(&mut self)
+        ensures limits { RemembersLimits self.old self.new }
+        ensures rule { Performs (ResetMode ∷ []) self.old self.new }
+    {
         self.mode = self.mode_of_stack();
     }
 
-    fn mode_of_stack(&self) -> Mode {
+    fn mode_of_stack(&self) -> Mode
+        ensures { (b : Building) → Constructs self.now b →
+            mode_of result ≡ reset_from b.tree b.template_modes b.tree.stack }
+    {
         if self.tree.open().len() == 0 {
             return Mode::InBody;
         }
@@ -43,7 +54,10 @@ impl TreeBuilder {
     }
 
     /// Returns the mode that the element at an index of the stack determines, if any.
-    fn mode_at(&self, place: usize) -> Option<Mode> {
+    fn mode_at(&self, place: usize) -> Option<Mode>
+        ensures { let setting = setting_at self.now place in option_map mode_of result ≡
+            option_and_then (reset_for setting) (adjusted_at self.now.tree place) }
+    {
         let element = self.tree.adjusted_current_node(place)?;
         let setting = Setting {
             is_last: place == 0,
@@ -54,10 +68,12 @@ impl TreeBuilder {
     }
 
     /// Returns the current template insertion mode.
-    fn template_mode(&self) -> Mode {
+    fn template_mode(&self) -> Mode
+        ensures { result ≡ last_mode self.now.template_modes.items }
+    {
         match self.template_modes.last().copied() {
             Some(mode) => mode,
-            None => Mode::InTemplate,
+            None => Mode::InBody,
         }
     }
 }

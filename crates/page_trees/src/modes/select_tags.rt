@@ -1,6 +1,18 @@
 //! Start tags of `select` and of what closes elements in it, by the rules for "in body"
 //! (13.2.6.4.7).
 
+ghost use Rattle.std.specs.Prelude.{◌≡◌, [], ◌∷◌, IfSome, codes, false};
+ghost use Rattle.standard_trees.specs.GrowingTree.{has_in_scope};
+ghost use Rattle.standard_trees.specs.RuleWords.{InsertElement, Pop, ReconstructFormatting};
+ghost use Rattle.standard_trees.specs.RuleWords.{Scope as DefaultScope};
+ghost use Rattle.page_trees.specs.BodyTags.{ChangesThen, ChangesTree, implied_in, option_ended};
+ghost use Rattle.page_trees.specs.Constructs.{RemembersLimits};
+ghost use Rattle.page_trees.specs.Names.{text_of};
+ghost use Rattle.page_trees.specs.Scopes.{is_name};
+ghost use Rattle.page_trees.specs.Stands.{Tells, text_list};
+ghost use Rattle.page_trees.specs.declared.builder.Next.TheVariants.{Done as IsDone};
+ghost use Rattle.page_trees.specs.declared.name.Name.TheVariants.{Hr as TheHr, Other};
+
 use crate::attributes::is_hidden;
 use crate::builder::{Next, TreeBuilder};
 use crate::name::Name;
@@ -31,15 +43,36 @@ impl TreeBuilder {
     }
 
     /// Inserts an `option` or an `optgroup`, and closes the `option` before it.
-    pub fn start_option(&mut self, name: Name, tag: &Tag, except: Option<Name>) -> Next {
-        if !self.imply_ends_in_select(except) {
-            self.tree.pop_if(Name::Option);
-        }
+    pub fn start_option(&mut self, name: Name, tag: &Tag, except: Option<Name>) -> Next
+        ensures next { result ≡ IsDone }
+        ensures limits { RemembersLimits self.old self.new }
+        ensures rule { let end = option_ended (text_list except) in
+            let insert = ReconstructFormatting ∷ InsertElement ∷ [] in
+            IfSome except (λ one. is_name one Other ≡ false) →
+            ChangesThen end insert name tag.now self.old self.new }
+    {
+        self.end_option(except);
         self.insert_inline(name, tag)
     }
 
-    pub fn start_hr(&mut self, tag: &Tag) -> Next {
-        self.imply_ends_in_select(None);
+    fn end_option(&mut self, except: Option<Name>)
+        ensures limits { RemembersLimits self.old self.new }
+        ensures rule { IfSome except (λ one. is_name one Other ≡ false) →
+            ChangesTree (option_ended (text_list except)) self.old self.new }
+    {
+        if !self.imply_ends_in(Name::Select, except) {
+            self.tree.pop_if(Name::Option);
+        }
+    }
+
+    pub fn start_hr(&mut self, tag: &Tag) -> Next
+        ensures next { result ≡ IsDone }
+        ensures limits { RemembersLimits self.old self.new }
+        ensures rule { let imply = implied_in (codes "select" ∷ []) [] in
+            let insert = InsertElement ∷ Pop ∷ [] in
+            ChangesThen imply insert TheHr tag.now self.old self.new }
+    {
+        self.imply_ends_in(Name::Select, None);
         self.insert_void(Name::Hr, tag)
     }
 
@@ -48,13 +81,21 @@ impl TreeBuilder {
         self.tree.close(Name::Select, Scope::Default)
     }
 
-    /// If a `select` is in scope, generates implied end tags, except for elements with that name.
-    /// Returns whether one is.
-    fn imply_ends_in_select(&mut self, except: Option<Name>) -> bool {
-        let is_in_select = self.tree.open().in_scope(Name::Select, Scope::Default);
-        if is_in_select {
-            self.tree.generate_implied_end_tags(except);
+    /// If an element with that name is in scope, generates implied end tags, except for elements
+    /// with the other name. Returns whether one is.
+    pub fn imply_ends_in(&mut self, outer: Name, except: Option<Name>) -> bool
+        ensures limits { RemembersLimits self.old self.new }
+        ensures found { is_name outer Other ≡ false →
+            Tells (has_in_scope DefaultScope (text_of outer ∷ [])) self.old.tree result }
+        ensures kept { result ≡ false → self.new ≡ self.old }
+        ensures rule { let imply = implied_in (text_of outer ∷ []) (text_list except) in
+            is_name outer Other ≡ false → IfSome except (λ one. is_name one Other ≡ false) →
+            ChangesTree imply self.old self.new }
+    {
+        if !self.tree.open().in_scope(outer, Scope::Default) {
+            return false;
         }
-        is_in_select
+        self.tree.generate_implied_end_tags(except);
+        true
     }
 }

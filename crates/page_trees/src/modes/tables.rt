@@ -1,8 +1,33 @@
 //! The insertion modes of tables.
 
-ghost use Rattle.std.specs.Prelude.{◌≡◌};
+ghost use Rattle.std.specs.Prelude.{◌≡◌, [], ◌∷◌, codes, false, true};
+ghost use Rattle.standard_trees.specs.RuleWords.{ClearListToMarker, InsertElement, InsertNamed};
+ghost use Rattle.standard_trees.specs.RuleWords.{ListMarker, Pop, PopUntil, SetFormPointer};
+ghost use Rattle.standard_trees.specs.RuleWords.{SwitchTo, These};
+ghost use Rattle.standard_trees.specs.RuleWords.{InCaption, InCell, InColumnGroup, InRow, InTable};
+ghost use Rattle.standard_trees.specs.RuleWords.{InTableBody};
+ghost use Rattle.page_tokens.specs.declared.token.Tag.{Tag as TheTag};
+ghost use Rattle.page_trees.specs.Constructs.{Performs, PerformsFor, ProcessesTag};
+ghost use Rattle.page_trees.specs.Constructs.{RemembersLimits, is_entered_plainly};
 ghost use Rattle.page_trees.specs.Groups.{is_cell_name, is_dropped_end_name, is_part_name};
 ghost use Rattle.page_trees.specs.Groups.{is_section_name};
+ghost use Rattle.page_trees.specs.LateMerges.{ProcessesTagInHtml};
+ghost use Rattle.page_trees.specs.Modes.{is_start_kind, mode_of};
+ghost use Rattle.page_trees.specs.Names.{text_of};
+ghost use Rattle.page_trees.specs.Scopes.{is_name};
+ghost use Rattle.page_trees.specs.Stands.{Tells};
+ghost use Rattle.page_trees.specs.TableSteps.{cell_names, clearing_to, closing_caption};
+ghost use Rattle.page_trees.specs.TableSteps.{closing_cell, closing_group, closing_row};
+ghost use Rattle.page_trees.specs.TableSteps.{closing_section, closing_table, covers_other};
+ghost use Rattle.page_trees.specs.TableSteps.{if_found, is_again, is_hidden_content_name};
+ghost use Rattle.page_trees.specs.TableSteps.{ends_cell_name, is_ignored_end_name};
+ghost use Rattle.page_trees.specs.TableSteps.{is_in_group, is_in_table};
+ghost use Rattle.page_trees.specs.TableSteps.{covers_caption, covers_cell, covers_group};
+ghost use Rattle.page_trees.specs.TableSteps.{covers_row, covers_table, covers_table_body};
+ghost use Rattle.page_trees.specs.TableSteps.{section_names};
+ghost use Rattle.page_trees.specs.declared.builder.Next.TheVariants.{Again, Done as IsDone};
+ghost use Rattle.page_trees.specs.declared.name.Name.TheVariants.{Form as FormName, Other};
+ghost use Rattle.page_trees.specs.declared.sets.TableContext.TheVariants.{Row, Section};
 
 use super::{Token, is_start, next_if};
 use crate::attributes::is_hidden;
@@ -45,30 +70,125 @@ fn is_dropped_end(name: Name) -> bool
     )
 }
 
+/// Returns whether the name is of an element that may be in a table and isn't shown.
+fn is_hidden_content(name: Name) -> bool
+    ensures { result ≡ is_hidden_content_name name }
+{
+    matches!(name, Name::Style | Name::Script | Name::Template)
+}
+
+/// Returns whether a cell is closed at an end tag with that name, which is reprocessed then.
+fn ends_cell(name: Name) -> bool
+    ensures { result ≡ ends_cell_name name }
+{
+    matches!(
+        name,
+        Name::Table | Name::Tbody | Name::Tfoot | Name::Thead | Name::Tr
+    )
+}
+
+/// Returns whether an end tag with that name is ignored where it closes no open element.
+fn is_ignored_end(name: Name) -> bool
+    ensures { result ≡ is_ignored_end_name name }
+{
+    if is_dropped_end(name) {
+        return true;
+    }
+    is_table_part(name)
+}
+
 impl TreeBuilder {
+    /// Clears the stack back to a context: pops elements up to one of it, which stays.
+    fn clear_stack_to(&mut self, context: TableContext)
+        ensures limits { RemembersLimits self.old self.new }
+        ensures rule { Performs (clearing_to context ∷ []) self.old self.new }
+    {
+        self.tree.clear_to(context);
+    }
+
+    /// Returns whether an element with that name is in table scope.
+    fn has_in_table(&self, name: Name) -> bool
+        ensures { is_name name Other ≡ false →
+            Tells (is_in_table (text_of name ∷ [])) self.now.tree result }
+    {
+        self.tree.open().in_scope(name, Scope::Table)
+    }
+
+    /// If an element with that name is in table scope, pops elements until one with that name has
+    /// been popped. Returns whether there was one.
+    fn close_in_table(&mut self, name: Name) -> bool
+        ensures limits { RemembersLimits self.old self.new }
+        ensures found { is_name name Other ≡ false →
+            Tells (is_in_table (text_of name ∷ [])) self.old.tree result }
+        ensures rule { let pop = PopUntil (These (text_of name ∷ [])) in
+            is_name name Other ≡ false → Performs (if_found result (pop ∷ [])) self.old self.new }
+    {
+        self.tree.close(name, Scope::Table)
+    }
+
+    /// Clears the list of active formatting elements up to the last marker, and switches to that
+    /// mode.
+    fn leave_marker(&mut self, mode: Mode)
+        ensures limits { RemembersLimits self.old self.new }
+        ensures rule { is_entered_plainly mode ≡ true →
+            Performs (ClearListToMarker ∷ SwitchTo (mode_of mode) ∷ []) self.old self.new }
+    {
+        self.tree.clear_to_marker();
+        self.mode = mode;
+    }
+
     /// Processes a tag by the rules for "in table".
-    pub fn table_tag(&mut self, name: Name, tag: &Tag) -> Next {
+    pub fn table_tag(&mut self, name: Name, tag: &Tag) -> Next
+        ensures rule { covers_table (is_start_kind tag.now.kind) name ≡ true →
+            ProcessesTagInHtml InTable name tag.now self.old self.new result }
+    {
         if is_start(tag) {
-            return self.table_start(name, tag);
+            return self.start_in_table(name, tag);
         }
-        match name {
-            Name::Table => {
-                self.end_table();
-                Next::Done
-            }
-            Name::Template => self.end_template(),
-            _ if is_dropped_end(name) || is_table_part(name) => Next::Done,
-            _ => self.fostered(Token::Tag(name, tag)),
+        self.end_in_table(name, tag)
+    }
+
+    fn start_in_table(&mut self, name: Name, tag: &Tag) -> Next
+        ensures rule { covers_table true name ≡ true → is_start_kind tag.now.kind ≡ true →
+            ProcessesTagInHtml InTable name tag.now self.old self.new result }
+    {
+        if is_table_part(name) {
+            return self.start_table_part(name, tag);
         }
+        if name == Name::Form {
+            return self.start_table_form(tag);
+        }
+        self.start_other_in_table(name, tag)
+    }
+
+    fn end_in_table(&mut self, name: Name, tag: &Tag) -> Next
+        ensures rule { covers_table false name ≡ true → is_start_kind tag.now.kind ≡ false →
+            ProcessesTagInHtml InTable name tag.now self.old self.new result }
+    {
+        if is_ignored_end(name) {
+            return Next::Done;
+        }
+        if name == Name::Table {
+            self.end_table();
+            return Next::Done;
+        }
+        if name == Name::Template {
+            return self.end_template();
+        }
+        self.fostered(Token::Tag(name, tag))
     }
 
     /// Closes the open table, and returns whether there was one.
-    fn end_table(&mut self) -> bool {
-        let ended = self.tree.close(Name::Table, Scope::Table);
-        if ended {
+    fn end_table(&mut self) -> bool
+        ensures limits { RemembersLimits self.old self.new }
+        ensures found { Tells (is_in_table (codes "table" ∷ [])) self.old.tree result }
+        ensures rule { Performs (if_found result closing_table) self.old self.new }
+    {
+        if self.close_in_table(Name::Table) {
             self.reset_mode();
+            return true;
         }
-        ended
+        false
     }
 
     /// Processes a token that can't be in a table by the rules for "in body", with foster
@@ -80,31 +200,52 @@ impl TreeBuilder {
         step
     }
 
-    fn table_start(&mut self, name: Name, tag: &Tag) -> Next {
-        if is_table_part(name) {
-            return self.start_table_part(name, tag);
+    /// Processes start tags of elements that are no part of a table.
+    fn start_other_in_table(&mut self, name: Name, tag: &Tag) -> Next
+        ensures rule { covers_other name ≡ true → is_start_kind tag.now.kind ≡ true →
+            ProcessesTag InTable name tag.now self.old self.new result }
+    {
+        if name == Name::Table {
+            return next_if(self.end_table());
         }
-        match name {
-            Name::Table => next_if(self.end_table()),
-            Name::Style | Name::Script | Name::Template => self.head_element(name, tag),
-            Name::Input => self.start_table_input(name, tag),
-            Name::Form => self.start_table_form(tag),
-            _ => self.fostered(Token::Tag(name, tag)),
+        if is_hidden_content(name) {
+            return self.head_element(name, tag);
         }
+        if name == Name::Input {
+            return self.start_table_input(name, tag);
+        }
+        self.fostered(Token::Tag(name, tag))
     }
 
-    fn start_table_part(&mut self, name: Name, tag: &Tag) -> Next {
-        self.tree.clear_to(TableContext::Table);
-        match name {
-            Name::Caption => {
-                self.push_marker();
-                self.insert_then(name, tag, Mode::InCaption)
-            }
-            Name::Colgroup => self.insert_then(name, tag, Mode::InColumnGroup),
-            Name::Col => self.imply(Name::Colgroup, "colgroup", Mode::InColumnGroup),
-            Name::Td | Name::Th | Name::Tr => self.imply(Name::Tbody, "tbody", Mode::InTableBody),
-            _ => self.insert_then(name, tag, Mode::InTableBody),
+    fn start_table_part(&mut self, name: Name, tag: &Tag) -> Next
+        ensures limits { RemembersLimits self.old self.new }
+        ensures rule { is_part_name name ≡ true → is_start_kind tag.now.kind ≡ true →
+            ProcessesTag InTable name tag.now self.old self.new result }
+    {
+        self.clear_stack_to(TableContext::Table);
+        if name == Name::Caption {
+            return self.start_caption(name, tag);
         }
+        if name == Name::Colgroup {
+            return self.insert_then(name, tag, Mode::InColumnGroup);
+        }
+        if name == Name::Col {
+            return self.imply(Name::Colgroup, "colgroup", Mode::InColumnGroup);
+        }
+        if is_section(name) {
+            return self.insert_then(name, tag, Mode::InTableBody);
+        }
+        self.imply(Name::Tbody, "tbody", Mode::InTableBody)
+    }
+
+    fn start_caption(&mut self, name: Name, tag: &Tag) -> Next
+        ensures next { result ≡ IsDone }
+        ensures limits { RemembersLimits self.old self.new }
+        ensures rule { let insert = InsertElement ∷ SwitchTo InCaption ∷ [] in
+            PerformsFor name tag.now (ListMarker ∷ insert) self.old self.new }
+    {
+        self.push_marker();
+        self.insert_then(name, tag, Mode::InCaption)
     }
 
     fn start_table_input(&mut self, name: Name, tag: &Tag) -> Next {
@@ -114,159 +255,281 @@ impl TreeBuilder {
         self.fostered(Token::Tag(name, tag))
     }
 
-    fn start_table_form(&mut self, tag: &Tag) -> Next {
-        if !self.tree.ignores_form() {
-            self.insert(Name::Form, tag);
-            self.tree.set_form();
-            self.tree.pop();
+    fn start_table_form(&mut self, tag: &Tag) -> Next
+        ensures next { result ≡ IsDone }
+        ensures limits { RemembersLimits self.old self.new }
+        ensures rule { is_start_kind tag.now.kind ≡ true →
+            ProcessesTag InTable FormName tag.now self.old self.new result }
+    {
+        if self.tree.ignores_form() {
+            return Next::Done;
         }
+        self.insert_table_form(tag)
+    }
+
+    /// Inserts a form in a table, which is closed at once.
+    fn insert_table_form(&mut self, tag: &Tag) -> Next
+        ensures next { result ≡ IsDone }
+        ensures limits { RemembersLimits self.old self.new }
+        ensures rule { let rest = SetFormPointer ∷ Pop ∷ [] in
+            PerformsFor FormName tag.now (InsertElement ∷ rest) self.old self.new }
+    {
+        self.insert(Name::Form, tag);
+        self.tree.set_form();
+        self.tree.pop();
         Next::Done
     }
 
     /// Closes the open caption, and returns whether there was one.
-    fn end_caption(&mut self) -> bool {
-        if !self.tree.close(Name::Caption, Scope::Table) {
-            return false;
+    fn end_caption(&mut self) -> bool
+        ensures limits { RemembersLimits self.old self.new }
+        ensures found { Tells (is_in_table (codes "caption" ∷ [])) self.old.tree result }
+        ensures rule { Performs (if_found result closing_caption) self.old self.new }
+    {
+        if self.close_in_table(Name::Caption) {
+            self.leave_marker(Mode::InTable);
+            return true;
         }
-        self.tree.clear_to_marker();
-        self.mode = Mode::InTable;
-        true
+        false
     }
 
-    pub fn caption_tag(&mut self, name: Name, tag: &Tag) -> Next {
+    pub fn caption_tag(&mut self, name: Name, tag: &Tag) -> Next
+        ensures rule { covers_caption (is_start_kind tag.now.kind) name ≡ true →
+            ProcessesTagInHtml InCaption name tag.now self.old self.new result }
+    {
         if is_start(tag) {
-            if is_table_part(name) {
-                return next_if(self.end_caption());
-            }
-            return self.body_tag(name, tag);
+            return self.start_in_caption(name, tag);
         }
-        match name {
-            Name::Caption => {
-                self.end_caption();
-                Next::Done
-            }
-            Name::Table => next_if(self.end_caption()),
-            _ if is_dropped_end(name) || is_table_part(name) => Next::Done,
-            _ => self.body_tag(name, tag),
+        self.end_in_caption(name, tag)
+    }
+
+    fn start_in_caption(&mut self, name: Name, tag: &Tag) -> Next
+        ensures rule { covers_caption true name ≡ true → is_start_kind tag.now.kind ≡ true →
+            ProcessesTagInHtml InCaption name tag.now self.old self.new result }
+    {
+        if is_table_part(name) {
+            return next_if(self.end_caption());
         }
+        self.body_tag(name, tag)
+    }
+
+    fn end_in_caption(&mut self, name: Name, tag: &Tag) -> Next
+        ensures rule { covers_caption false name ≡ true → is_start_kind tag.now.kind ≡ false →
+            ProcessesTagInHtml InCaption name tag.now self.old self.new result }
+    {
+        if name == Name::Table {
+            return next_if(self.end_caption());
+        }
+        if name == Name::Caption {
+            self.end_caption();
+            return Next::Done;
+        }
+        if is_ignored_end(name) {
+            return Next::Done;
+        }
+        self.body_tag(name, tag)
     }
 
     /// Closes the column group if it is the current node, and reprocesses the token.
-    pub fn leave_column_group(&mut self) -> Next {
-        if !self.tree.open().current_is(Name::Colgroup) {
+    pub fn leave_column_group(&mut self) -> Next
+        ensures limits { RemembersLimits self.old self.new }
+        ensures found { Tells is_in_group self.old.tree (is_again result) }
+        ensures rule { Performs (if_found (is_again result) closing_group) self.old self.new }
+    {
+        if self.tree.open().current_is(Name::Colgroup) {
+            return self.leave_for(Mode::InTable);
+        }
+        Next::Done
+    }
+
+    pub fn column_group_tag(&mut self, name: Name, tag: &Tag) -> Next
+        ensures rule { covers_group name ≡ true →
+            ProcessesTagInHtml InColumnGroup name tag.now self.old self.new result }
+    {
+        if is_start(tag) {
+            return self.start_in_group(name, tag);
+        }
+        self.end_in_group(name)
+    }
+
+    fn start_in_group(&mut self, name: Name, tag: &Tag) -> Next
+        ensures rule { is_start_kind tag.now.kind ≡ true →
+            ProcessesTagInHtml InColumnGroup name tag.now self.old self.new result }
+    {
+        if name == Name::Html {
+            return self.add_html_attrs(tag);
+        }
+        if name == Name::Col {
+            return self.insert_void(name, tag);
+        }
+        if name == Name::Template {
+            return self.head_element(name, tag);
+        }
+        self.leave_column_group()
+    }
+
+    fn end_in_group(&mut self, name: Name) -> Next
+        ensures rule { (tag : TheTag) → is_start_kind tag.kind ≡ false →
+            ProcessesTagInHtml InColumnGroup name tag self.old self.new result }
+    {
+        if name == Name::Colgroup {
+            self.leave_column_group();
             return Next::Done;
         }
-        self.tree.pop();
-        self.mode = Mode::InTable;
-        Next::Again
-    }
-
-    pub fn column_group_tag(&mut self, name: Name, tag: &Tag) -> Next {
-        if is_start(tag) {
-            return match name {
-                Name::Html => self.add_html_attrs(tag),
-                Name::Col => self.insert_void(name, tag),
-                Name::Template => self.head_element(name, tag),
-                _ => self.leave_column_group(),
-            };
+        if name == Name::Col {
+            return Next::Done;
         }
-        match name {
-            Name::Colgroup => {
-                self.leave_column_group();
-                Next::Done
-            }
-            Name::Col => Next::Done,
-            Name::Template => self.end_template(),
-            _ => self.leave_column_group(),
+        if name == Name::Template {
+            return self.end_template();
         }
+        self.leave_column_group()
     }
 
-    fn has_section_in_scope(&self) -> bool {
-        self.tree.open().in_scope(Name::Tbody, Scope::Table)
-            || self.tree.open().in_scope(Name::Thead, Scope::Table)
-            || self.tree.open().in_scope(Name::Tfoot, Scope::Table)
+    fn has_section(&self) -> bool
+        ensures { Tells (is_in_table section_names) self.now.tree result }
+    {
+        if self.has_in_table(Name::Tbody) {
+            return true;
+        }
+        if self.has_in_table(Name::Thead) {
+            return true;
+        }
+        self.has_in_table(Name::Tfoot)
     }
 
-    fn end_section(&mut self) {
-        self.tree.clear_to(TableContext::Section);
-        self.tree.pop();
-        self.mode = Mode::InTable;
+    fn end_section(&mut self) -> Next
+        ensures next { result ≡ IsDone }
+        ensures limits { RemembersLimits self.old self.new }
+        ensures rule { Performs closing_section self.old self.new }
+    {
+        self.clear_stack_to(TableContext::Section);
+        self.end_in_mode(Mode::InTable)
     }
 
     /// Closes the `tbody`, `thead` or `tfoot` in scope, if there is one, and reprocesses the token.
-    fn leave_section(&mut self) -> Next {
-        if !self.has_section_in_scope() {
+    fn leave_section(&mut self) -> Next
+        ensures limits { RemembersLimits self.old self.new }
+        ensures found { Tells (is_in_table section_names) self.old.tree (is_again result) }
+        ensures rule { Performs (if_found (is_again result) closing_section) self.old self.new }
+    {
+        if self.has_section() {
+            self.end_section();
+            return Next::Again;
+        }
+        Next::Done
+    }
+
+    pub fn table_body_tag(&mut self, name: Name, tag: &Tag) -> Next
+        ensures rule { covers_table_body (is_start_kind tag.now.kind) name ≡ true →
+            ProcessesTagInHtml InTableBody name tag.now self.old self.new result }
+    {
+        if is_start(tag) {
+            return self.start_in_table_body(name, tag);
+        }
+        self.end_in_table_body(name, tag)
+    }
+
+    fn start_in_table_body(&mut self, name: Name, tag: &Tag) -> Next
+        ensures rule { covers_table_body true name ≡ true → is_start_kind tag.now.kind ≡ true →
+            ProcessesTagInHtml InTableBody name tag.now self.old self.new result }
+    {
+        if name == Name::Tr {
+            return self.start_row(name, tag);
+        }
+        if is_cell(name) {
+            return self.imply_row();
+        }
+        if is_table_part(name) {
+            return self.leave_section();
+        }
+        self.table_tag(name, tag)
+    }
+
+    fn end_in_table_body(&mut self, name: Name, tag: &Tag) -> Next
+        ensures rule { covers_table_body false name ≡ true → is_start_kind tag.now.kind ≡ false →
+            ProcessesTagInHtml InTableBody name tag.now self.old self.new result }
+    {
+        if is_section(name) {
+            return self.close_section(name);
+        }
+        if name == Name::Table {
+            return self.leave_section();
+        }
+        if is_ignored_end(name) {
             return Next::Done;
         }
-        self.end_section();
-        Next::Again
+        self.table_tag(name, tag)
     }
 
-    pub fn table_body_tag(&mut self, name: Name, tag: &Tag) -> Next {
-        if is_start(tag) {
-            return self.table_body_start(name, tag);
+    /// Closes the section with that name, if it is in scope.
+    fn close_section(&mut self, name: Name) -> Next
+        ensures next { result ≡ IsDone }
+        ensures limits { RemembersLimits self.old self.new }
+        ensures rule { (tag : TheTag) → is_section_name name ≡ true →
+            is_start_kind tag.kind ≡ false →
+            ProcessesTag InTableBody name tag self.old self.new result }
+    {
+        if self.has_in_table(name) {
+            return self.end_section();
         }
-        match name {
-            Name::Table => self.leave_section(),
-            _ if is_section(name) => {
-                if self.tree.open().in_scope(name, Scope::Table) {
-                    self.end_section();
-                }
-                Next::Done
-            }
-            _ if is_dropped_end(name) || is_table_part(name) => Next::Done,
-            _ => self.table_tag(name, tag),
-        }
+        Next::Done
     }
 
-    fn table_body_start(&mut self, name: Name, tag: &Tag) -> Next {
-        match name {
-            Name::Tr => {
-                self.tree.clear_to(TableContext::Section);
-                self.insert_then(name, tag, Mode::InRow)
-            }
-            Name::Th | Name::Td => {
-                self.tree.clear_to(TableContext::Section);
-                self.imply(Name::Tr, "tr", Mode::InRow)
-            }
-            _ if is_table_part(name) => self.leave_section(),
-            _ => self.table_tag(name, tag),
-        }
+    fn start_row(&mut self, name: Name, tag: &Tag) -> Next
+        ensures next { result ≡ IsDone }
+        ensures limits { RemembersLimits self.old self.new }
+        ensures rule { let insert = InsertElement ∷ SwitchTo InRow ∷ [] in
+            PerformsFor name tag.now (clearing_to Section ∷ insert) self.old self.new }
+    {
+        self.clear_stack_to(TableContext::Section);
+        self.insert_then(name, tag, Mode::InRow)
+    }
+
+    fn imply_row(&mut self) -> Next
+        ensures next { result ≡ Again }
+        ensures limits { RemembersLimits self.old self.new }
+        ensures rule { let insert = InsertNamed (codes "tr") ∷ SwitchTo InRow ∷ [] in
+            Performs (clearing_to Section ∷ insert) self.old self.new }
+    {
+        self.clear_stack_to(TableContext::Section);
+        self.imply(Name::Tr, "tr", Mode::InRow)
     }
 
     /// Closes the row in scope, if there is one, and reprocesses the token.
-    fn leave_row(&mut self) -> Next {
-        if !self.tree.open().in_scope(Name::Tr, Scope::Table) {
-            return Next::Done;
+    fn leave_row(&mut self) -> Next
+        ensures limits { RemembersLimits self.old self.new }
+        ensures found { Tells (is_in_table (codes "tr" ∷ [])) self.old.tree (is_again result) }
+        ensures rule { Performs (if_found (is_again result) closing_row) self.old self.new }
+    {
+        if self.has_in_table(Name::Tr) {
+            return self.end_row();
         }
-        self.tree.clear_to(TableContext::Row);
-        self.tree.pop();
-        self.mode = Mode::InTableBody;
-        Next::Again
+        Next::Done
     }
 
-    pub fn row_tag(&mut self, name: Name, tag: &Tag) -> Next {
+    fn end_row(&mut self) -> Next
+        ensures next { result ≡ Again }
+        ensures limits { RemembersLimits self.old self.new }
+        ensures rule { Performs closing_row self.old self.new }
+    {
+        self.clear_stack_to(TableContext::Row);
+        self.leave_for(Mode::InTableBody)
+    }
+
+    pub fn row_tag(&mut self, name: Name, tag: &Tag) -> Next
+        ensures rule { covers_row (is_start_kind tag.now.kind) name ≡ true →
+            ProcessesTagInHtml InRow name tag.now self.old self.new result }
+    {
         if is_start(tag) {
-            return self.row_start(name, tag);
+            return self.start_in_row(name, tag);
         }
-        match name {
-            Name::Tr => {
-                self.leave_row();
-                Next::Done
-            }
-            Name::Table => self.leave_row(),
-            _ if is_section(name) => {
-                if self.tree.open().in_scope(name, Scope::Table) {
-                    return self.leave_row();
-                }
-                Next::Done
-            }
-            _ if is_dropped_end(name) || is_cell(name) => Next::Done,
-            _ => self.table_tag(name, tag),
-        }
+        self.end_in_row(name, tag)
     }
 
-    fn row_start(&mut self, name: Name, tag: &Tag) -> Next {
+    fn start_in_row(&mut self, name: Name, tag: &Tag) -> Next
+        ensures rule { covers_row true name ≡ true → is_start_kind tag.now.kind ≡ true →
+            ProcessesTagInHtml InRow name tag.now self.old self.new result }
+    {
         if is_cell(name) {
             return self.start_cell(name, tag);
         }
@@ -276,55 +539,146 @@ impl TreeBuilder {
         self.table_tag(name, tag)
     }
 
-    fn start_cell(&mut self, name: Name, tag: &Tag) -> Next {
-        self.tree.clear_to(TableContext::Row);
-        self.insert(name, tag);
+    fn end_in_row(&mut self, name: Name, tag: &Tag) -> Next
+        ensures rule { covers_row false name ≡ true → is_start_kind tag.now.kind ≡ false →
+            ProcessesTagInHtml InRow name tag.now self.old self.new result }
+    {
+        if name == Name::Tr {
+            self.leave_row();
+            return Next::Done;
+        }
+        if name == Name::Table {
+            return self.leave_row();
+        }
+        if is_section(name) {
+            return self.leave_row_in(name);
+        }
+        if is_ignored_end(name) {
+            return Next::Done;
+        }
+        self.table_tag(name, tag)
+    }
+
+    /// Closes the row in scope, and reprocesses the token, if a section with that name is in scope.
+    fn leave_row_in(&mut self, name: Name) -> Next
+        ensures limits { RemembersLimits self.old self.new }
+        ensures rule { (tag : TheTag) → is_section_name name ≡ true →
+            is_start_kind tag.kind ≡ false →
+            ProcessesTag InRow name tag self.old self.new result }
+    {
+        if self.has_in_table(name) {
+            return self.leave_row();
+        }
+        Next::Done
+    }
+
+    fn start_cell(&mut self, name: Name, tag: &Tag) -> Next
+        ensures next { result ≡ IsDone }
+        ensures limits { RemembersLimits self.old self.new }
+        ensures rule { let insert = InsertElement ∷ SwitchTo InCell ∷ ListMarker ∷ [] in
+            PerformsFor name tag.now (clearing_to Row ∷ insert) self.old self.new }
+    {
+        self.clear_stack_to(TableContext::Row);
+        self.insert_then(name, tag, Mode::InCell);
         self.push_marker();
-        self.done_in(Mode::InCell)
+        Next::Done
     }
 
     /// Closes the cell with that name, and returns whether there was one in scope.
-    fn end_cell(&mut self, name: Name) -> bool {
-        if !self.tree.close(name, Scope::Table) {
-            return false;
+    fn end_cell(&mut self, name: Name) -> bool
+        ensures limits { RemembersLimits self.old self.new }
+        ensures found { is_name name Other ≡ false →
+            Tells (is_in_table (text_of name ∷ [])) self.old.tree result }
+        ensures rule { let cell = text_of name ∷ [] in is_cell_name name ≡ true →
+            Performs (if_found result (closing_cell cell)) self.old self.new }
+    {
+        if self.close_in_table(name) {
+            self.leave_marker(Mode::InRow);
+            return true;
         }
-        self.tree.clear_to_marker();
-        self.mode = Mode::InRow;
-        true
+        false
+    }
+
+    fn has_cell(&self) -> bool
+        ensures { Tells (is_in_table cell_names) self.now.tree result }
+    {
+        if self.has_in_table(Name::Td) {
+            return true;
+        }
+        self.has_in_table(Name::Th)
+    }
+
+    /// Closes the innermost open cell, and reprocesses the token.
+    fn close_cell(&mut self) -> Next
+        ensures next { result ≡ Again }
+        ensures limits { RemembersLimits self.old self.new }
+        ensures rule { Performs (closing_cell cell_names) self.old self.new }
+    {
+        self.tree.pop_to_cell();
+        self.leave_marker(Mode::InRow);
+        Next::Again
     }
 
     /// Closes the open cell, if there is one, and reprocesses the token.
-    fn leave_cell(&mut self) -> Next {
-        next_if(self.end_cell(Name::Td) || self.end_cell(Name::Th))
+    fn leave_cell(&mut self) -> Next
+        ensures limits { RemembersLimits self.old self.new }
+        ensures found { Tells (is_in_table cell_names) self.old.tree (is_again result) }
+        ensures rule { let cell = closing_cell cell_names in
+            Performs (if_found (is_again result) cell) self.old self.new }
+    {
+        if self.has_cell() {
+            return self.close_cell();
+        }
+        Next::Done
     }
 
-    pub fn cell_tag(&mut self, name: Name, tag: &Tag) -> Next {
+    pub fn cell_tag(&mut self, name: Name, tag: &Tag) -> Next
+        ensures rule { covers_cell (is_start_kind tag.now.kind) name ≡ true →
+            ProcessesTagInHtml InCell name tag.now self.old self.new result }
+    {
         if is_start(tag) {
-            return self.cell_start(name, tag);
+            return self.start_in_cell(name, tag);
         }
-        match name {
-            Name::Table | Name::Tr => self.leave_cell_in(name),
-            _ if is_section(name) => self.leave_cell_in(name),
-            _ if is_cell(name) => {
-                self.end_cell(name);
-                Next::Done
-            }
-            _ if is_dropped_end(name) => Next::Done,
-            _ => self.body_tag(name, tag),
-        }
+        self.end_in_cell(name, tag)
     }
 
-    fn cell_start(&mut self, name: Name, tag: &Tag) -> Next {
+    fn start_in_cell(&mut self, name: Name, tag: &Tag) -> Next
+        ensures rule { covers_cell true name ≡ true → is_start_kind tag.now.kind ≡ true →
+            ProcessesTagInHtml InCell name tag.now self.old self.new result }
+    {
         if is_table_part(name) {
             return self.leave_cell();
         }
         self.body_tag(name, tag)
     }
 
+    fn end_in_cell(&mut self, name: Name, tag: &Tag) -> Next
+        ensures rule { covers_cell false name ≡ true → is_start_kind tag.now.kind ≡ false →
+            ProcessesTagInHtml InCell name tag.now self.old self.new result }
+    {
+        if is_cell(name) {
+            self.end_cell(name);
+            return Next::Done;
+        }
+        if is_dropped_end(name) {
+            return Next::Done;
+        }
+        if ends_cell(name) {
+            return self.leave_cell_in(name);
+        }
+        self.body_tag(name, tag)
+    }
+
     /// Closes the open cell and reprocesses the token, if an element with that name is in scope.
-    fn leave_cell_in(&mut self, name: Name) -> Next {
-        if self.tree.open().in_scope(name, Scope::Table) {
-            return self.leave_cell();
+    fn leave_cell_in(&mut self, name: Name) -> Next
+        ensures limits { RemembersLimits self.old self.new }
+        ensures found { is_name name Other ≡ false →
+            Tells (is_in_table (text_of name ∷ [])) self.old.tree (is_again result) }
+        ensures rule { let cell = closing_cell cell_names in is_name name Other ≡ false →
+            Performs (if_found (is_again result) cell) self.old self.new }
+    {
+        if self.has_in_table(name) {
+            return self.close_cell();
         }
         Next::Done
     }

@@ -1,45 +1,43 @@
-use Rattle.std.proofs.Common.{inl, inr, refl, sym, subst, ap}
-use Rattle.standard_trees.specs.RuleWords.{Mode as StandardMode}
-use Rattle.page_trees.specs.Constructs.{ProcessesTag}
-use Rattle.page_trees.specs.Modes.{mode_of}
+use Rattle.std.proofs.Common.{inl, inr, refl}
 use Rattle.page_trees.specs.declared.builder.Mode.{Mode}
-use Rattle.page_trees.proofs.TextTags.{covered, outer_of}
+use Rattle.page_trees.specs.TableSteps.{covers_caption, covers_cell, covers_group, covers_row, covers_table, covers_table_body}
+use Rattle.page_trees.proofs.CoveredTags.{always, not_covered, outer_of, text_covered, under_body, under_test}
 use Rattle.page_trees.proofs.builder.TreeBuilder.html_tag.Goals as goal
 
 pub returns-in-Text : goal.returns-in-Text
-returns-in-Text c = record {
-  rule = λ stated plain. subst (λ (m : StandardMode). ProcessesTag m c.args.name c.args.tag.now c.args.self.now c.text_tag.new.self c.text_tag.result)
-      (sym (ap mode_of c.in-Text.is)) (c.text_tag.ensures.rule c.args.name c.in-Text.is plain);
-}
+returns-in-Text c = record { rule = text_covered _ _ _ _ _ c.in-Text.is (c.text_tag.ensures.rule c.args.name c.in-Text.is) }
 
 pub returns-in_default : goal.returns-in_default
-returns-in_default c = record { rule = λ stated plain. c.outer_tag.ensures.rule (outer_of c.args.self.now.mode c.in_default.not-Text stated) }
+returns-in_default c = record {
+  rule = c.outer_tag.ensures.rule (outer_of c.args.self.now.mode c.in_default.not-InBody c.in_default.not-Text c.in_default.not-InTable c.in_default.not-InTableText
+      c.in_default.not-InCaption c.in_default.not-InColumnGroup c.in_default.not-InTableBody c.in_default.not-InRow c.in_default.not-InCell c.in_default.not-InTemplate);
+}
 
 pub returns-in-InTable : goal.returns-in-InTable
 returns-in-InTable c = record {
-  rule = λ stated plain. absurd (elim c.in-InTable.is [
-    | inl e ↦ covered c.args.self.now.mode Mode.InTable e refl stated
-    | inr e ↦ covered c.args.self.now.mode Mode.InTableText e refl stated
-  ]);
+  rule = elim c.in-InTable.is [
+    | inl e ↦ under_test _ Mode.InTable _ _ _ _ _ e covers_table (λ b. refl) c.table_tag.ensures.rule
+    | inr e ↦ not_covered _ Mode.InTableText _ _ _ _ _ e (λ b. refl)
+  ];
 }
 
 pub returns-in-InBody : goal.returns-in-InBody
-returns-in-InBody c = record { rule = λ stated plain. absurd (covered c.args.self.now.mode Mode.InBody c.in-InBody.is refl stated) }
+returns-in-InBody c = record { rule = under_body _ _ _ _ _ _ c.in-InBody.is c.body_tag.ensures.rule }
 
 pub returns-in-InCaption : goal.returns-in-InCaption
-returns-in-InCaption c = record { rule = λ stated plain. absurd (covered c.args.self.now.mode Mode.InCaption c.in-InCaption.is refl stated) }
+returns-in-InCaption c = record { rule = under_test _ Mode.InCaption _ _ _ _ _ c.in-InCaption.is covers_caption (λ b. refl) c.caption_tag.ensures.rule }
 
 pub returns-in-InColumnGroup : goal.returns-in-InColumnGroup
-returns-in-InColumnGroup c = record { rule = λ stated plain. absurd (covered c.args.self.now.mode Mode.InColumnGroup c.in-InColumnGroup.is refl stated) }
+returns-in-InColumnGroup c = record { rule = under_test _ Mode.InColumnGroup _ _ _ _ _ c.in-InColumnGroup.is (λ start name. covers_group name) (λ b. refl) c.column_group_tag.ensures.rule }
 
 pub returns-in-InTableBody : goal.returns-in-InTableBody
-returns-in-InTableBody c = record { rule = λ stated plain. absurd (covered c.args.self.now.mode Mode.InTableBody c.in-InTableBody.is refl stated) }
+returns-in-InTableBody c = record { rule = under_test _ Mode.InTableBody _ _ _ _ _ c.in-InTableBody.is covers_table_body (λ b. refl) c.table_body_tag.ensures.rule }
 
 pub returns-in-InRow : goal.returns-in-InRow
-returns-in-InRow c = record { rule = λ stated plain. absurd (covered c.args.self.now.mode Mode.InRow c.in-InRow.is refl stated) }
+returns-in-InRow c = record { rule = under_test _ Mode.InRow _ _ _ _ _ c.in-InRow.is covers_row (λ b. refl) c.row_tag.ensures.rule }
 
 pub returns-in-InCell : goal.returns-in-InCell
-returns-in-InCell c = record { rule = λ stated plain. absurd (covered c.args.self.now.mode Mode.InCell c.in-InCell.is refl stated) }
+returns-in-InCell c = record { rule = under_test _ Mode.InCell _ _ _ _ _ c.in-InCell.is covers_cell (λ b. refl) c.cell_tag.ensures.rule }
 
 pub returns-in-InTemplate : goal.returns-in-InTemplate
-returns-in-InTemplate c = record { rule = λ stated plain. absurd (covered c.args.self.now.mode Mode.InTemplate c.in-InTemplate.is refl stated) }
+returns-in-InTemplate c = record { rule = always _ Mode.InTemplate _ _ _ _ _ c.in-InTemplate.is c.template_tag.ensures.rule }

@@ -1,15 +1,16 @@
-use Rattle.std.proofs.Common.{ap, refl, sym, ◌∙◌}
-use Rattle.standard_trees.specs.RuleWords.{goes}
-use Rattle.page_trees.specs.TagSteps.{way_for}
-use Rattle.page_trees.proofs.TextTags.{not_both, tag_in_mode}
+use Rattle.std.proofs.Common.{refl}
+use Rattle.page_trees.proofs.CoveredTags.{foreign_not_covered, mode_dispatched}
 use Rattle.page_trees.proofs.builder.TreeBuilder.tag_step.Goals as goal
 
 pub returns-then-is_tag_foreign : goal.returns-then-is_tag_foreign
 returns-then-is_tag_foreign c = record {
-  rule = λ covered plain within b current stands mode. absurd (not_both _ _ c.if-is_tag_foreign.true (c.is_tag_foreign.ensures c.args.tag.now refl b current stands.tree) mode);
+  rule = λ within b current covered stands.
+      absurd (foreign_not_covered b _ c.if-is_tag_foreign.true (c.is_tag_foreign.ensures c.args.tag.now refl b current stands.tree) covered);
 }
 
 pub returns-else-is_tag_foreign : goal.returns-else-is_tag_foreign
 returns-else-is_tag_foreign c = record {
-  rule = λ covered plain within b current stands mode. tag_in_mode c.args.self.now.mode b _ _ mode stands.mode (c.html_tag.ensures.rule covered plain within b current stands);
+  rule = λ within b current covered stands.
+      mode_dispatched c.args.self.now.mode b _ _ _ c.if-is_tag_foreign.false (c.is_tag_foreign.ensures c.args.tag.now refl b current stands.tree) stands.mode covered
+      (λ here. c.html_tag.ensures.rule within b current here stands);
 }

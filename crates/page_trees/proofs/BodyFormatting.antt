@@ -1,0 +1,47 @@
+-- What the rules for "in body" make of the tags of formatting elements, among the tags of the other groups.
+use Rattle.std.proofs.Common.{◌≡◌, Bool, true, false, refl, sym, ap, subst, ◌∙◌, true≢false}
+use Rattle.standard_trees.specs.Building.{Building}
+use Rattle.standard_trees.specs.RuleWords.{InBody}
+use Rattle.page_tokens.specs.declared.token.Tag.{Tag}
+use Rattle.page_trees.specs.BodyTags.{Continues, EndsInBody, IsContinued, ends_in}
+use Rattle.page_trees.specs.Constructs.{RemembersLimits}
+use Rattle.page_trees.specs.Groups.{group_named}
+use Rattle.page_trees.specs.Listing.{ProcessesEndWhere, ProcessesStartWhere, ends_adoption, formats, lists_few, lists_no_a}
+use Rattle.page_trees.specs.declared.builder.Next.{Next}
+use Rattle.page_trees.specs.declared.builder.TreeBuilder.{TreeBuilder}
+use Rattle.page_trees.specs.declared.modes.groups.Group.{Group}
+use Rattle.page_trees.specs.declared.name.Name.{Name}
+
+pub a_named : (name : Name) → group_named name ≡ Group.A → name ≡ Name.A
+a_named Name.A e = refl
+a_named _ e = absurd (cc)
+
+pub a_continued : (tag : Tag) (old new : TreeBuilder) (next : Next) → RemembersLimits old new → ProcessesStartWhere lists_no_a InBody Name.A tag old new next →
+    Continues Group.A Name.A tag old new next
+a_continued tag old new next remembers rule covers named = record {
+  limits = remembers;
+  rule = λ starts within b current html stands test. rule starts within b test current stands;
+}
+
+formatting_rest : (name : Name) (tag : Tag) (old new : TreeBuilder) (next : Next) → RemembersLimits old new → ProcessesStartWhere lists_few InBody name tag old new next →
+    IsContinued Group.Formatting name tag old new next
+formatting_rest name tag old new next remembers rule = record {
+  limits = remembers;
+  rule = λ starts within b current html stands test. rule starts within b test current stands;
+}
+
+pub formatting_continued : (group : Group) (name : Name) (tag : Tag) (old new : TreeBuilder) (next : Next) → group ≡ Group.Formatting → RemembersLimits old new →
+    (group_named name ≡ Group.Formatting → ProcessesStartWhere lists_few InBody name tag old new next) → Continues group name tag old new next
+formatting_continued group name tag old new next e remembers rule covers named =
+    subst (λ g. IsContinued g name tag old new next) (sym e) (formatting_rest name tag old new next remembers (rule (named ∙ e)))
+
+in_agency : (group : Group) (b : Building) → formats group ≡ true → ends_in group b ≡ true → ends_adoption b ≡ true
+in_agency Group.A b h test = test
+in_agency Group.Formatting b h test = test
+in_agency Group.Nobr b h test = test
+in_agency _ b h test = absurd (true≢false (sym h))
+
+pub formatting_closed : (group : Group) (name : Name) (tag : Tag) (old new : TreeBuilder) (next : Next) → group_named name ≡ group → formats group ≡ true →
+    (formats (group_named name) ≡ true → ProcessesEndWhere ends_adoption InBody name tag old new next) → EndsInBody name tag old new next
+formatting_closed group name tag old new next e h rule covers ends within b current stands test =
+    rule (ap formats e ∙ h) ends within b (in_agency (group_named name) b (ap formats e ∙ h) test) current stands

@@ -1,0 +1,9 @@
+use Rattle.std.proofs.Common.{refl, [], ◌∷◌, codes}
+use Rattle.page_trees.proofs.TableRules.{found_first, found_rest}
+use Rattle.page_trees.proofs.builder.TreeBuilder.has_cell.Goals as goal
+
+pub returns-then-has_in_table : goal.returns-then-has_in_table
+returns-then-has_in_table c t b = found_first (codes "td") (codes "th" ∷ []) t _ (c.has_in_table.ensures refl t b) c.if-has_in_table.true
+
+pub returns : goal.returns
+returns c t b = found_rest (codes "td") (codes "th" ∷ []) t _ _ (c.has_in_table.ensures refl t b) c.if-has_in_table.false (c.has_in_table-2.ensures refl t b)

@@ -1,0 +1,5 @@
+use Rattle.page_trees.proofs.FoundEntries.{finds}
+use Rattle.page_trees.proofs.growing.GrowingTree.formatting_named.Goals as goal
+
+pub returns : goal.returns
+returns c known = finds _ c.args.self.now c.args.name c.named.result c.self.view_is known c.named.ensures

@@ -1,0 +1,48 @@
+-- The texts between two tokens, as the characters for which they stand: each character is a token (13.2.6).
+use Rattle.std.specs.Prelude.{◌≡◌, ◌∷◌, ◌==◌, ◌&&◌, ◌||◌, Bool, List, Some, [], encode_utf8_all, false, if◌then◌else◌, map, true, ℕ}
+use Rattle.standard_tokens.specs.Tokens.{AChar}
+use Rattle.standard_trees.specs.Building.{Building, is_empty, is_space}
+use Rattle.page_trees.specs.CharacterSteps.{fits_mode, has_begun, is_run}
+use Rattle.page_trees.specs.Constructs.{Constructs, WithinLimits}
+use Rattle.page_trees.specs.CoveredTurns.{FewTurns, covered_turn}
+use Rattle.page_trees.specs.Turns.{tree_steps_while}
+use Rattle.page_trees.specs.declared.builder.Mode.{Mode}
+use Rattle.page_trees.specs.declared.builder.TreeBuilder.{TreeBuilder}
+use Rattle.page_trees.specs.declared.chars.Run.{Run}
+
+-- the white space at the beginning, and what comes after it
+abbrev pub front_spaces : List ℕ → List ℕ
+front_spaces [] = []
+front_spaces (c ∷ cs) = if is_space c then c ∷ front_spaces cs else []
+
+abbrev pub past_spaces : List ℕ → List ℕ
+past_spaces [] = []
+past_spaces (c ∷ cs) = if is_space c then past_spaces cs else c ∷ cs
+
+-- a line feed at the beginning is ignored, if that was asked for
+abbrev pub unskipped : Bool → List ℕ → List ℕ
+unskipped true (c ∷ cs) = if c == 10 then cs else c ∷ cs
+unskipped _ cs = cs
+
+-- the mode in which the text of an element is read
+abbrev pub is_text : Mode → Bool
+is_text Mode.Text = true
+is_text _ = false
+
+-- Within the limits, these characters are processed one after the other. None is to be skipped, and the tokenizer is not switched.
+abbrev pub TakesCharacters : List ℕ → TreeBuilder → TreeBuilder → Type 0
+TakesCharacters cs old new =
+    WithinLimits new → (b : Building) → has_begun b ≡ true → Constructs old b → (depth : ℕ) → FewTurns depth → (c : Building) →
+    tree_steps_while covered_turn depth b (map (λ x. AChar x) cs) ≡ Some c → Constructs new c
+
+-- the same of a text
+abbrev pub TakesText : List ℕ → TreeBuilder → TreeBuilder → Type 0
+TakesText text old new = (cs : List ℕ) → text ≡ encode_utf8_all cs → TakesCharacters cs old new
+
+-- the same of a text that is empty, or a run of this kind that fits the mode
+abbrev pub fits_piece : Mode → Run → List ℕ → Bool
+fits_piece mode kind cs = is_empty cs || (is_run kind cs && fits_mode mode kind cs)
+
+abbrev pub TakesPiece : Run → List ℕ → TreeBuilder → TreeBuilder → Type 0
+TakesPiece kind text old new =
+    (cs : List ℕ) → text ≡ encode_utf8_all cs → fits_piece old.mode kind cs ≡ true → TakesCharacters cs old new

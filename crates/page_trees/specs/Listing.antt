@@ -1,0 +1,156 @@
+-- What is done to the list of active formatting elements (13.2.4.3) as the definition does it, where the list has fewer entries than are
+-- searched by an index.
+use Rattle.std.specs.Prelude.{◌≡◌, Bool, None, Option, Some, [], ◌∷◌, List, codes, false, not, true, ℕ, ◌&&◌, ◌||◌, nat_eq}
+use Rattle.std.specs.List.{list_any}
+use Rattle.std.specs.Option.{option_map}
+use Rattle.standard_trees.specs.Building.{Building, holds, is_present, own_name, perform}
+use Rattle.standard_trees.specs.Formatting.{adopted_for, adoption, before_in, enlisted, is_entry, is_listed, last_listed, last_special}
+use Rattle.standard_trees.specs.Formatting.{unlisted}
+use Rattle.standard_trees.specs.GrowingTree.{Entry as StandardEntry, Formatting, GrowingTree, Marker, current, ends_scope, in_scope}
+use Rattle.standard_trees.specs.GrowingTree.{is_among}
+use Rattle.standard_trees.specs.GrowingTree.{is_one as is_one_of}
+use Rattle.standard_trees.specs.RuleWords.{Action, AdoptionAgency, Listed, Mode as StandardMode, Scope, These}
+use Rattle.standard_trees.specs.TreeStore.{is_member}
+use Rattle.page_tokens.specs.declared.token.Tag.{Tag}
+use Rattle.page_trees.specs.Constructs.{Constructs, IsCurrentTag, Outcome, WithinLimits, all_performed}
+use Rattle.page_trees.specs.Formatting.{are_few}
+use Rattle.page_trees.specs.Modes.{is_start_kind}
+use Rattle.page_trees.specs.Names.{text_of}
+use Rattle.page_trees.specs.Stands.{Builds, formatting_names}
+use Rattle.page_trees.specs.TreeState.{TreeState}
+use Rattle.page_trees.specs.declared.builder.Next.{Next}
+use Rattle.page_trees.specs.declared.builder.TreeBuilder.{TreeBuilder}
+use Rattle.page_trees.specs.declared.modes.groups.Group.{Group}
+use Rattle.page_trees.specs.declared.name.Name.{Name}
+use Rattle.page_trees.specs.declared.stack.Open.{Open}
+
+-- ---- the tree
+
+-- the list is short
+abbrev pub has_few : GrowingTree → Bool
+has_few t = are_few t.listed
+
+-- "push onto the list of active formatting elements that element": the current node, which is one of those that the rules add
+abbrev pub Enlists : TreeState → TreeState → Type 0
+Enlists old new =
+    (t : GrowingTree) → has_few t ≡ true → is_one_of t formatting_names (current t) ≡ true → Builds old t → Builds new (enlisted t)
+
+-- the last element of that name after the last marker
+abbrev pub FindsListed : Name → TreeState → Option Open → Type 0
+FindsListed name state found =
+    (t : GrowingTree) → has_few t ≡ true → Builds state t →
+    option_map (λ o. o.id) found ≡ last_listed t (text_of name ∷ []) t.listed
+
+-- no element is in the list twice
+abbrev pub lists_once : List StandardEntry → Bool
+lists_once [] = true
+lists_once (Marker ∷ es) = lists_once es
+lists_once (Formatting n ∷ es) = not (list_any (is_entry n) es) && lists_once es
+
+-- "remove the element from the list of active formatting elements"
+abbrev pub Unlists : ℕ → TreeState → TreeState → Type 0
+Unlists n old new =
+    (t : GrowingTree) → has_few t ≡ true → lists_once t.listed ≡ true → Builds old t → Builds new (unlisted n t)
+
+-- ---- the adoption agency algorithm
+
+-- there is a formatting element, and the algorithm ends without a furthest block
+abbrev pub ends_simply : Option ℕ → GrowingTree → Bool
+ends_simply None t = false
+ends_simply (Some n) t =
+    not (is_member n t.stack) || (not (in_scope (nat_eq n) (ends_scope Scope t) t.stack)
+    || not (is_present (last_special t None (before_in n t.stack))))
+
+abbrev pub listed_named : List ℕ → GrowingTree → Option ℕ
+listed_named name t = last_listed t (name ∷ []) t.listed
+
+-- the outer loop comes to its end in this round, whatever another round would do
+pub record IsRoundDone (name : List ℕ) (t : GrowingTree) (new : TreeState) : Type 0 where
+  pub after : GrowingTree
+  pub built : Builds new after
+  pub fosters : after.fostering ≡ t.fostering
+  pub result : (again : GrowingTree → GrowingTree) → adopted_for (listed_named name t) name again t ≡ after
+
+-- what the outer loop does once: the algorithm is done, or the tag is to be processed like any other end tag, or there is a furthest block
+abbrev pub RoundEnd : List ℕ → GrowingTree → TreeState → Option Bool → Type 0
+RoundEnd name t new (Some true) = IsRoundDone name t new
+RoundEnd name t new (Some false) = listed_named name t ≡ None
+RoundEnd name t new None = ends_simply (listed_named name t) t ≡ false
+
+abbrev pub RoundEnds : Name → TreeState → TreeState → Option Bool → Type 0
+RoundEnds name old new end =
+    (t : GrowingTree) → has_few t ≡ true → lists_once t.listed ≡ true → Builds old t → RoundEnd (text_of name) t new end
+
+-- the algorithm ends in its first round
+abbrev pub agency_ends : List ℕ → GrowingTree → Bool
+agency_ends name t =
+    has_few t && (lists_once t.listed && ((is_one_of t (name ∷ []) (current t) && not (is_listed t (current t))) ||
+    ends_simply (listed_named name t) t))
+
+-- the algorithm was run for an element of that name, and the tag needs no more
+pub record IsAdopted (name : List ℕ) (t : GrowingTree) (new : TreeState) (handled : Bool) : Type 0 where
+  pub done : handled ≡ true
+  pub built : Builds new (adoption name t)
+  pub fosters : (adoption name t).fostering ≡ t.fostering
+
+abbrev pub Adopts : Name → TreeState → TreeState → Bool → Type 0
+Adopts name old new handled =
+    (t : GrowingTree) → agency_ends (text_of name) t ≡ true → Builds old t → IsAdopted (text_of name) t new handled
+
+-- the current node has the name, and is not in the list
+abbrev pub TellsBare : Name → TreeState → Bool → Type 0
+TellsBare name state bare =
+    (t : GrowingTree) → has_few t ≡ true → Builds state t →
+    bare ≡ (is_one_of t (text_of name ∷ []) (current t) && not (is_listed t (current t)))
+
+-- ---- the builder
+
+-- the name is of an element that the rules add to the list
+abbrev pub is_formatting_name : Name → Bool
+is_formatting_name name = is_among (text_of name) formatting_names
+
+abbrev pub lists_few : Building → Bool
+lists_few b = has_few b.tree
+
+-- no `a` is in the list
+abbrev pub lists_no_a : Building → Bool
+lists_no_a b = lists_few b && not (holds (Listed (These (codes "a" ∷ []))) b)
+
+-- nothing is done, where the old state passes a test
+abbrev pub StaysWhere : (Building → Bool) → TreeBuilder → TreeBuilder → Type 0
+StaysWhere test old new = (b : Building) → test b ≡ true → Constructs old b → new ≡ old
+
+-- within the limits, these actions for a start tag lead from an old state that passes a test to the new one
+abbrev pub PerformsWhere : (Building → Bool) → Name → Tag → List Action → TreeBuilder → TreeBuilder → Type 0
+PerformsWhere test name tag actions old new =
+    is_start_kind tag.kind ≡ true → WithinLimits new → (b : Building) → test b ≡ true → IsCurrentTag name tag b → Constructs old b →
+    Constructs new (all_performed actions b)
+
+-- the adoption agency algorithm ends in its first round for the current token
+abbrev pub ends_adoption : Building → Bool
+ends_adoption b = agency_ends (own_name b.token) b.tree
+
+-- within the limits, the adoption agency algorithm is run for a tag, where it ends in its first round
+abbrev pub AdoptsFor : Name → TreeBuilder → TreeBuilder → Type 0
+AdoptsFor name old new =
+    WithinLimits new → (b : Building) → agency_ends (text_of name) b.tree ≡ true → own_name b.token ≡ text_of name → Constructs old b →
+    Constructs new (perform AdoptionAgency b)
+
+-- within the limits, a start tag is processed by the rules for a mode, if the old state passes a test
+abbrev pub ProcessesStartWhere : (Building → Bool) → StandardMode → Name → Tag → TreeBuilder → TreeBuilder → Next → Type 0
+ProcessesStartWhere test mode name tag old new next =
+    is_start_kind tag.kind ≡ true → WithinLimits new → (b : Building) → test b ≡ true → IsCurrentTag name tag b → Constructs old b →
+    Outcome mode b new next
+
+-- the same of an end tag
+abbrev pub ProcessesEndWhere : (Building → Bool) → StandardMode → Name → Tag → TreeBuilder → TreeBuilder → Next → Type 0
+ProcessesEndWhere test mode name tag old new next =
+    is_start_kind tag.kind ≡ false → WithinLimits new → (b : Building) → test b ≡ true → IsCurrentTag name tag b → Constructs old b →
+    Outcome mode b new next
+
+-- the groups of formatting elements
+abbrev pub formats : Group → Bool
+formats Group.A = true
+formats Group.Formatting = true
+formats Group.Nobr = true
+formats _ = false
