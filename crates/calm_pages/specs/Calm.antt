@@ -177,6 +177,13 @@ pub record IsCalmPage (text : List ℕ) (trees : ValueTrees) : Type 0 where
   pub bytes : is_calm_text text ≡ true
   pub document : IsCalmDocument trees
 
+-- the text is markup, and its bytes are calm: a page that may be read as it is written
+pub record IsCalmMarkup (text : List ℕ) : Type 0 where
+  pub trees : ValueTrees
+  pub spelled : Spells text trees
+  pub framed : IsFramed text
+  pub bytes : is_calm_text text ≡ true
+
 -- the options under which calm pages are parsed as explicit markup: no limit on depth, and no errors collected
 abbrev pub ReadsCalm : Options → Type 0
 ReadsCalm options = (options.max_depth ≡ None) × (options.errors ≡ false)

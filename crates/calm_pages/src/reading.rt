@@ -1,7 +1,8 @@
 //! Reading calm pages as explicit markup, without tree construction.
 
-ghost use Rattle.std.specs.Prelude.{◌≡◌, IfErr, IfOk, IfSome, MatchOption, MatchResult, true};
-ghost use Rattle.calm_pages.specs.Calm.{IsCalmDocument, IsCalmPage, are_calm, top};
+ghost use Rattle.std.specs.Prelude.{◌≡◌, IfErr, IfOk, IfSome, MatchOption, MatchResult, None};
+ghost use Rattle.std.specs.Prelude.{true};
+ghost use Rattle.calm_pages.specs.Calm.{IsCalmDocument, IsCalmMarkup, IsCalmPage, are_calm, top};
 ghost use Rattle.calm_pages.specs.Calm.{has_elements_at_ends, is_element_at};
 ghost use Rattle.dom_links.specs.Forest.{children_of};
 ghost use Rattle.dom_links.specs.Lists.{first, last};
@@ -27,6 +28,7 @@ pub fn read_calm(alloc: Global, source: &str) -> Result<Option<Document>, PageFa
     ensures page { IfOk result (λ found. IfSome found (λ document. IsPage document.tree)) }
     ensures calm { (trees : ValueTrees) → IsCalmPage source.now trees → IfOk result (λ found.
         MatchOption found ⊥ (λ document. document.tree ≡ document_of trees)) }
+    ensures other { (IsCalmMarkup source.now → ⊥) → IfOk result (λ found. found ≡ None) }
 {
     if !is_framed(source) {
         return Ok(None);

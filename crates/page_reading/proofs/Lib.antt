@@ -1,2 +1,3 @@
 mod PageLemmas
 mod PartLemmas
+pub mod StandardLemmas

@@ -1,2 +1,3 @@
 pub mod Parsers
 pub mod Pages
+pub mod StandardPages

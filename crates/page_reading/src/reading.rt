@@ -1,13 +1,18 @@
 //! Parsing a page or a fragment, whole or in pieces. Start at `parse_page`; `PageParser` takes
 //! pieces.
 
-ghost use Rattle.std.specs.Prelude.{◌≡◌, ◌↔◌, IfOk, IsTrue, IsUtf8};
+ghost use Rattle.std.specs.Prelude.{[], ◌≡◌, ◌↔◌, IfOk, IsTrue, IsUtf8, List, OnOk};
+ghost use Rattle.std.specs.Prelude.{encode_utf8_all, false, ℕ};
+ghost use Rattle.std.specs.Str.{chars};
 ghost use Rattle.dom_links.specs.Forest.{Forest};
 ghost use Rattle.dom_markup.specs.Numbered.{document_of};
 ghost use Rattle.dom_markup.specs.ValueTrees.{ValueTrees};
 ghost use Rattle.dom_trees.specs.SameTree.{SameTree};
-ghost use Rattle.calm_pages.specs.Calm.{IsCalmPage, ReadsCalm, SpellsCalmPage};
+ghost use Rattle.calm_pages.specs.Calm.{IsCalmMarkup, IsCalmPage, ReadsCalm, SpellsCalmPage};
 ghost use Rattle.page_reading.specs.Parsers.{ReadsPage};
+ghost use Rattle.page_reading.specs.StandardPages.{HasParsed, IsCoveredPage, IsStandardPage};
+ghost use Rattle.page_reading.specs.StandardPages.{KeepsParsed, ParsesCovered, ParsesOn};
+ghost use Rattle.page_reading.specs.StandardPages.{ParsesWhole};
 ghost use Rattle.page_trees.specs.Shape.{IsPage};
 ghost use Rattle.standard_laws.specs.Pages.{IsParsedPage, IsWrittenPage};
 
@@ -33,7 +38,8 @@ pub struct PageParser {
 ///
 /// A calm page, which is explicit markup that tree construction would leave as it is, is parsed as
 /// `Document::parse` does, if depth is not limited and errors are not collected. If it is written
-/// as `html` or `clean_page` writes it, this is the tree that the HTML Standard gives.
+/// as `html` or `clean_page` writes it, this is the tree that the HTML Standard gives. So is the
+/// tree of any other page, as far as the code is proved to read it by the rules (`other`).
 pub fn parse_page(alloc: Global, source: &str, options: Options) -> Result<Document, PageFault>
     ensures page { IfOk result (λ document. IsPage document.tree) }
     ensures calm { (trees : ValueTrees) → IsCalmPage source.now trees → ReadsCalm options
@@ -42,6 +48,8 @@ pub fn parse_page(alloc: Global, source: &str, options: Options) -> Result<Docum
         → IfOk result (λ document. SameTree forest 0 document.tree 0) }
     ensures standard { IsWrittenPage source.now → ReadsCalm options
         → IfOk result (λ document. IsParsedPage source.now document.tree) }
+    ensures other { (IsCalmMarkup source.now → ⊥) → IsCoveredPage options (chars source.now)
+        → IfOk result (IsStandardPage options (chars source.now)) }
 {
     // A law, called for its contract alone.
     written_pages_are_parsed();
@@ -53,6 +61,8 @@ fn parse_text(alloc: Global, source: &str, options: Options) -> Result<Document,
     ensures page { IfOk result (λ document. IsPage document.tree) }
     ensures calm { (trees : ValueTrees) → IsCalmPage source.now trees → ReadsCalm options
         → IfOk result (λ document. document.tree ≡ document_of trees) }
+    ensures other { (IsCalmMarkup source.now → ⊥) → IsCoveredPage options (chars source.now)
+        → IfOk result (IsStandardPage options (chars source.now)) }
 {
     if !reads_calm(options) {
         return parse_any_page(alloc, source, options);
@@ -72,7 +82,9 @@ fn reads_calm(options: Options) -> bool
 
 /// Parses a page by tree construction and returns its document.
 fn parse_any_page(alloc: Global, source: &str, options: Options) -> Result<Document, PageFault>
-    ensures { IfOk result (λ document. IsPage document.tree) }
+    ensures page { IfOk result (λ document. IsPage document.tree) }
+    ensures standard { IsCoveredPage options (chars source.now)
+        → IfOk result (IsStandardPage options (chars source.now)) }
 {
     let parser = PageParser::new(alloc, options)?;
     parser.read_whole(source)
@@ -116,7 +128,10 @@ pub fn parse_page_fragment(
 }
 
 /// Returns the document of a tree.
-fn document_of(built: BuiltTree) -> Document {
+fn document_of(built: BuiltTree) -> Document
+    ensures tree { result.tree ≡ built.tree }
+    ensures quirks { result.quirks_mode ≡ built.quirks_mode }
+{
     Document {
         tree: built.tree,
         errors: built.errors,
@@ -126,7 +141,9 @@ fn document_of(built: BuiltTree) -> Document {
 
 /// Returns the document of a tree, in the shape of a page.
 pub(crate) fn page_of(built: BuiltTree) -> Result<Document, PageFault>
-    ensures { IfOk result (λ page. IsPage page.tree) }
+    ensures page { IfOk result (λ page. IsPage page.tree) }
+    ensures same { IfOk result (λ page. IsPage built.tree → page.tree ≡ built.tree) }
+    ensures quirks { IfOk result (λ page. page.quirks_mode ≡ built.quirks_mode) }
 {
     let mut page = document_of(built);
     make_page(&mut page.tree)?;
@@ -136,10 +153,12 @@ pub(crate) fn page_of(built: BuiltTree) -> Result<Document, PageFault>
 impl PageParser {
     /// Returns a parser for a page. Fails only when memory runs out.
     pub fn new(alloc: Global, options: Options) -> Result<PageParser, PageFault>
-        ensures { IfOk result ReadsPage }
+        ensures page { IfOk result ReadsPage }
+        ensures begins { options.errors ≡ false → IfOk result (HasParsed options []) }
     {
+        let reader = PageReader::page(alloc, options)?;
         Ok(PageParser {
-            reader: PageReader::page(alloc, options)?,
+            reader,
             is_fragment: false,
             bytes: Utf8Pieces::new(alloc),
         })
@@ -161,7 +180,8 @@ impl PageParser {
 
     /// Parses a text in one piece and returns its document.
     fn read_whole(self, source: &str) -> Result<Document, PageFault>
-        ensures { ReadsPage self → IfOk result (λ document. IsPage document.tree) }
+        ensures page { ReadsPage self → IfOk result (λ document. IsPage document.tree) }
+        ensures standard { IfOk result (ParsesWhole self (chars source.now)) }
     {
         let mut parser = self;
         parser.feed(source)?;
@@ -172,7 +192,9 @@ impl PageParser {
     /// or `TooManyNodes`; then nothing more is parsed, and each further call returns the same
     /// error.
     pub fn feed(&mut self, piece: &str) -> Result<(), PageFault>
-        ensures { ReadsPage self.old → ReadsPage self.new }
+        ensures page { ReadsPage self.old → ReadsPage self.new }
+        ensures parses { (cs : List ℕ) → piece.now ≡ encode_utf8_all cs →
+            OnOk result (ParsesOn cs self.old self.new) }
     {
         self.end_bytes()?;
         self.reader.feed(piece)
@@ -190,33 +212,39 @@ impl PageParser {
                 let text = self.bytes.without_mark(text.as_str());
                 self.reader.feed(text)
             }
-            Err(_) => self.fail_for_memory(),
+            Err(_) => Err(self.fail_for_memory()),
         }
     }
 
     /// Parses what is left of bytes, where they end within a character.
     fn end_bytes(&mut self) -> Result<(), PageFault>
-        ensures { ReadsPage self.old → ReadsPage self.new }
+        ensures page { ReadsPage self.old → ReadsPage self.new }
+        ensures parses { OnOk result (KeepsParsed self.old self.new) }
     {
         match self.bytes.finish() {
             Ok(left) => self.reader.feed(left.text.as_str()),
-            Err(_) => self.fail_for_memory(),
+            Err(_) => Err(self.fail_for_memory()),
         }
     }
 
-    /// Parses nothing more, since memory ran out. Fails with the error of an earlier call, or with
+    /// Parses nothing more, since memory ran out. Returns the error of an earlier call, or
     /// `Memory`.
-    fn fail_for_memory(&mut self) -> Result<(), PageFault>
+    fn fail_for_memory(&mut self) -> PageFault
         ensures { ReadsPage self.old → ReadsPage self.new }
     {
         self.reader.fail(PageFault::Memory);
-        self.reader.settled()
+        match self.reader.settled() {
+            Ok(()) => PageFault::Memory,
+            Err(fault) => fault,
+        }
     }
 
     /// Returns the document after the last piece. Fails with the error of an earlier call, or with
-    /// `Memory` or `TooManyNodes`.
+    /// `Memory` or `TooManyNodes`. The document of a page that came as text is the one as which the
+    /// HTML Standard parses it, as far as the code is proved to read it by the rules (`standard`).
     pub fn finish(self) -> Result<Document, PageFault>
-        ensures { ReadsPage self → IfOk result (λ document. IsPage document.tree) }
+        ensures page { ReadsPage self → IfOk result (λ document. IsPage document.tree) }
+        ensures standard { IfOk result (ParsesCovered self) }
     {
         let mut parser = self;
         parser.end_bytes()?;

@@ -1,7 +1,8 @@
 //! Bytes in UTF-8, whole or in pieces.
 
-ghost use Rattle.std.specs.Prelude.{◌≡◌, drop, take};
+ghost use Rattle.std.specs.Prelude.{[], ◌≡◌, IfOk, drop, string_bytes, take};
 ghost use Rattle.page_trees.specs.Framed.{IsFramed, byte_order_mark};
+ghost use Rattle.text_decoding.specs.Decoding.{characters_behind};
 
 use std::alloc::{AllocError, Global};
 use std::mem;
@@ -19,7 +20,9 @@ pub(crate) struct Utf8Pieces {
 
 impl Utf8Pieces {
     /// A decoder before the first piece.
-    pub(crate) fn new(alloc: Global) -> Utf8Pieces {
+    pub(crate) fn new(alloc: Global) -> Utf8Pieces
+        ensures { characters_behind result.decoder [] ≡ [] }
+    {
         Utf8Pieces {
             alloc,
             decoder: Decoder::new(alloc, Encoding::Utf8),
@@ -46,7 +49,11 @@ impl Utf8Pieces {
 
     /// The text of what is left where the bytes end: U+FFFD for a character that is not whole, or
     /// nothing. Another text may follow.
-    pub(crate) fn finish(&mut self) -> Result<Decoded, AllocError> {
+    pub(crate) fn finish(&mut self) -> Result<Decoded, AllocError>
+        ensures text { characters_behind self.old.decoder [] ≡ [] →
+            IfOk result (λ left. string_bytes left.text ≡ []) }
+        ensures ended { characters_behind self.new.decoder [] ≡ [] }
+    {
         let next = Decoder::new(self.alloc, Encoding::Utf8);
         mem::replace(&mut self.decoder, next).finish()
     }

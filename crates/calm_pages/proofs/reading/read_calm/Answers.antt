@@ -15,3 +15,13 @@ returns-in-Ok-clause-calm c = λ trees page.
     let read = c.in-Ok.ensures.ok.spelled in
     let is : c.in-Ok.document.tree ≡ document_of trees = read.2 ∙ ap document_of (sym (c.one_reading.ensures c.args.source.now trees read.0 page.spelled read.1)) in
     IfOk-weaker c.calm_only.result _ _ (λ found h. found_is found c.in-Ok.document.tree (document_of trees) is h) (c.calm_only.ensures.calm trees is page.document)
+
+pub returns-in-Ok-clause-other : goal.returns-in-Ok-clause-other
+returns-in-Ok-clause-other c = λ none.
+    let read = c.in-Ok.ensures.ok.spelled in
+    absurd (none (record {
+      trees = read.0;
+      spelled = read.1;
+      framed = c.is_framed.ensures.0 c.if-not-is_framed.false;
+      bytes = sym c.is_calm_text.ensures ∙ c.if-not-is_calm_text.false;
+    }))

@@ -1,0 +1,51 @@
+-- What parsing a page by tree construction gives: the Document as which the HTML Standard parses the text.
+use Rattle.std.specs.Prelude.{◌≡◌, ◌++◌, [], List, None, false, true, ℕ}
+use Rattle.standard_tokens.specs.Tokens.{Token}
+use Rattle.standard_trees.specs.Building.{Building}
+use Rattle.dom_markup.specs.declared.document.Document.{Document}
+use Rattle.page_trees.specs.DocumentTrees.{IsParsedAs}
+use Rattle.page_trees.specs.PageShape.{is_page_of}
+use Rattle.page_trees.specs.PagesRead.{HasBuilt, IsCovered}
+use Rattle.page_trees.specs.declared.reading.Options.{Options}
+use Rattle.text_decoding.specs.Decoding.{characters_behind}
+use Rattle.page_reading.specs.Parsers.{ReadsPage}
+use Rattle.page_reading.specs.declared.reading.PageParser.{PageParser}
+
+-- The code is proved to read the page by the rules: each turn of tree construction is one that is covered, and what they come to has the
+-- shape of a page. Depth is not limited, and no errors are collected.
+pub record IsCoveredPage (options : Options) (text : List ℕ) : Type 0 where
+  pub depth : ℕ
+  pub tokens : List Token
+  pub end : Building
+  pub read : IsCovered depth options.scripting text tokens end
+  pub shape : is_page_of end.tree ≡ true
+  pub unlimited : options.max_depth ≡ None
+  pub quiet : options.errors ≡ false
+
+-- the document is the one as which the HTML Standard parses the text
+abbrev pub IsStandardPage : Options → List ℕ → Document → Type 0
+IsStandardPage options text document = IsParsedAs options.scripting text document.tree document.quirks_mode
+
+-- The parser parses a page with these options, and this text came so far, in pieces cut anywhere. No character of bytes has begun.
+pub record HasParsed (options : Options) (text : List ℕ) (parser : PageParser) : Type 0 where
+  pub page : ReadsPage parser
+  pub options_are : parser.reader.options ≡ options
+  pub built : HasBuilt options.scripting text parser.reader
+  pub no_bytes : characters_behind parser.bytes.decoder [] ≡ []
+
+-- the parser has parsed so much more
+abbrev pub ParsesOn : List ℕ → PageParser → PageParser → Type 0
+ParsesOn more old new = (options : Options) (text : List ℕ) → HasParsed options text old → HasParsed options (text ++ more) new
+
+abbrev pub KeepsParsed : PageParser → PageParser → Type 0
+KeepsParsed old new = (options : Options) (text : List ℕ) → HasParsed options text old → HasParsed options text new
+
+-- if the text that came is a whole page that is covered, the document is the one as which it is parsed
+abbrev pub ParsesCovered : PageParser → Document → Type 0
+ParsesCovered parser document =
+    (options : Options) (text : List ℕ) → HasParsed options text parser → IsCoveredPage options text → IsStandardPage options text document
+
+-- the same where the whole text comes in one piece
+abbrev pub ParsesWhole : PageParser → List ℕ → Document → Type 0
+ParsesWhole parser text document =
+    (options : Options) → HasParsed options [] parser → IsCoveredPage options text → IsStandardPage options text document
