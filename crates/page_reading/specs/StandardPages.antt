@@ -45,7 +45,7 @@ abbrev pub ParsesCovered : PageParser → Document → Type 0
 ParsesCovered parser document =
     (options : Options) (text : List ℕ) → HasParsed options text parser → IsCoveredPage options text → IsStandardPage options text document
 
--- the same where the whole text comes in one piece
+-- if the whole text comes in one piece, and is a page that is covered, the document is the one as which it is parsed
 abbrev pub ParsesWhole : PageParser → List ℕ → Document → Type 0
 ParsesWhole parser text document =
     (options : Options) → HasParsed options [] parser → IsCoveredPage options text → IsStandardPage options text document

@@ -153,7 +153,7 @@ IsOfPage false f first text = lacks_cdata text ≡ true
 abbrev pub HasRead : Bool → Feedback → StandardState → List ℕ → List StandardToken → Tokenizer → Type 0
 HasRead cdata f first read told t = (rest : List ℕ) → IsOfPage cdata f first (normalized (read ++ rest)) → IsAt f first read told t rest
 
--- the tokenizer was told the flag
+-- the tokenizer's flag for foreign content is tree construction's answer to the tokens so far
 abbrev pub IsForeignNow : Bool → Feedback → List StandardToken → Bool → Type 0
 IsForeignNow true f told foreign = f.in_foreign told ≡ foreign
 IsForeignNow false f told foreign = Unit {0}

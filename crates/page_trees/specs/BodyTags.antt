@@ -102,7 +102,7 @@ abbrev pub covers_body : TagKind → Name → Bool
 covers_body TagKind.Start name = covers_start (group_named name)
 covers_body TagKind.End name = covers_end name
 
--- the same of a token of the definition
+-- whether the tags of that token of the definition are covered
 abbrev pub covers_in_body : StandardToken → Bool
 covers_in_body (AStart name attrs closing) = covers_start (group_named (name_of name))
 covers_in_body (AnEnd name) = covers_end (name_of name)
@@ -144,7 +144,7 @@ acted (goes way ∷ acts) b = acted acts b
 abbrev pub Acts : List Act → TreeBuilder → TreeBuilder → Type 0
 Acts acts old new = WithinLimits new → (b : Building) → Constructs old b → Constructs new (acted acts b)
 
--- the same where they are for a start tag
+-- within the limits, these acts for a start tag lead from the old state to the new one
 abbrev pub ActsFor : Name → Tag → List Act → TreeBuilder → TreeBuilder → Type 0
 ActsFor name tag acts old new =
     is_start_kind tag.kind ≡ true → WithinLimits new → (b : Building) → IsCurrentTag name tag b → Constructs old b →

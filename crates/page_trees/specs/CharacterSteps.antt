@@ -43,7 +43,7 @@ fits_mode mode Run.Letters (c ∷ cs) =
     (joins_spaces mode || not (is_space c)) && (not (drops_letters mode) || list_all (λ c. not (is_space c)) cs)
 fits_mode mode _ cs = true
 
--- the same of the definition's modes
+-- the definition's modes that process white space like the characters after it, and those that may ignore other characters
 abbrev pub is_joining : StandardMode → Bool
 is_joining InBody = true
 is_joining InCaption = true
@@ -144,13 +144,13 @@ goes_to_mode t = is_empty t.stack || takes_characters (adjusted_current t)
 abbrev pub Inserts : List ℕ → TreeBuilder → TreeBuilder → Type 0
 Inserts cs old new = WithinLimits new → (b : Building) → Constructs old b → Constructs new (with_tree b (with_chars cs b.tree))
 
--- the same of characters that are not white space alone: "set the frameset-ok flag to 'not ok'"
+-- the characters, which are not white space alone, are inserted: "set the frameset-ok flag to 'not ok'"
 abbrev pub InsertsLetters : List ℕ → TreeBuilder → TreeBuilder → Type 0
 InsertsLetters cs old new =
     WithinLimits new → (b : Building) → Constructs old b →
     Constructs new (record b { tree = with_chars cs b.tree; frameset_ok = false })
 
--- the same by the rules for "in body": the active formatting elements are reconstructed first
+-- the characters are inserted by the rules for "in body": the active formatting elements are reconstructed first
 abbrev pub inserted_in_body : Run → List ℕ → Building → Building
 inserted_in_body Run.Nulls cs b = b
 inserted_in_body kind cs b =
@@ -221,13 +221,13 @@ ProcessesRun kind c cs old new next =
     WithinLimits new → (b : Building) → b.token ≡ AChar c → covers_characters b ≡ true → Constructs old b →
     RunOutcome kind c cs b new next
 
--- the same where the dispatcher leaves the character to the current mode
+-- within the limits, a run is processed by the rules for the current mode, to which the dispatcher leaves its first character
 abbrev pub ProcessesRunInMode : Run → ℕ → List ℕ → TreeBuilder → TreeBuilder → Next → Type 0
 ProcessesRunInMode kind c cs old new next =
     WithinLimits new → (b : Building) → b.token ≡ AChar c → goes_to_mode b.tree ≡ true → covers_characters b ≡ true → Constructs old b →
     RunOutcome kind c cs b new next
 
--- the same where the dispatcher has the rules for foreign content process it
+-- within the limits, a run is processed by the rules for foreign content, to which the dispatcher hands its first character
 abbrev pub ProcessesForeignRun : ℕ → List ℕ → TreeBuilder → TreeBuilder → Type 0
 ProcessesForeignRun c cs old new =
     WithinLimits new → (b : Building) → b.token ≡ AChar c → goes_to_mode b.tree ≡ false → has_begun b ≡ true → Constructs old b →

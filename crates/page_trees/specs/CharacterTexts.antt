@@ -35,11 +35,11 @@ TakesCharacters cs old new =
     WithinLimits new → (b : Building) → has_begun b ≡ true → Constructs old b → (depth : ℕ) → FewTurns depth → (c : Building) →
     tree_steps_while covered_turn depth b (map (λ x. AChar x) cs) ≡ Some c → Constructs new c
 
--- the same of a text
+-- the characters of a text are processed, one after the other
 abbrev pub TakesText : List ℕ → TreeBuilder → TreeBuilder → Type 0
 TakesText text old new = (cs : List ℕ) → text ≡ encode_utf8_all cs → TakesCharacters cs old new
 
--- the same of a text that is empty, or a run of this kind that fits the mode
+-- the characters are none, or form a run of this kind that fits the mode; then the text of them is processed
 abbrev pub fits_piece : Mode → Run → List ℕ → Bool
 fits_piece mode kind cs = is_empty cs || (is_run kind cs && fits_mode mode kind cs)
 

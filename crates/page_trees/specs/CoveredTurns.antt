@@ -195,7 +195,7 @@ abbrev pub DispatchesCovered : Name → Tag → TreeBuilder → TreeBuilder → 
 DispatchesCovered name tag old new next =
     WithinLimits new → (b : Building) → IsCurrentTag name tag b → covers_tag b ≡ true → Constructs old b → Outcome Dispatcher b new next
 
--- the same by the rules for a mode
+-- within the limits, a tag is processed by the rules for a mode, if it is covered
 abbrev pub ProcessesCovered : StandardMode → Name → Tag → TreeBuilder → TreeBuilder → Next → Type 0
 ProcessesCovered mode name tag old new next =
     WithinLimits new → (b : Building) → IsCurrentTag name tag b → covers_tag_in mode b ≡ true → Constructs old b → Outcome mode b new next

@@ -31,7 +31,7 @@ abbrev pub before_element : Name → List Action
 before_element Name.Template = starting_template
 before_element _ = []
 
--- the same after the element is inserted
+-- the actions after the element of a start tag is inserted, by its name
 abbrev pub after_element : Name → List Action
 after_element Name.Title = reading_text RcdataText
 after_element Name.Noframes = reading_text RawText

@@ -142,7 +142,7 @@ ProcessesStartWhere test mode name tag old new next =
     is_start_kind tag.kind ≡ true → WithinLimits new → (b : Building) → test b ≡ true → IsCurrentTag name tag b → Constructs old b →
     Outcome mode b new next
 
--- the same of an end tag
+-- within the limits, an end tag is processed by the rules for a mode, if the old state passes a test
 abbrev pub ProcessesEndWhere : (Building → Bool) → StandardMode → Name → Tag → TreeBuilder → TreeBuilder → Next → Type 0
 ProcessesEndWhere test mode name tag old new next =
     is_start_kind tag.kind ≡ false → WithinLimits new → (b : Building) → test b ≡ true → IsCurrentTag name tag b → Constructs old b →

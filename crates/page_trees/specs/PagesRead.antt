@@ -40,7 +40,7 @@ pub record IsCovered (depth : ℕ) (scripting : Bool) (text : List ℕ) (all : L
 abbrev pub answered : Building → Building
 answered b = record b { tokenizer = None }
 
--- Where the reader has come behind the beginning of a page: these tokens were told, and it stands for this state of tree construction. No
+-- Where the reader has come after the beginning of a page: tree construction has taken these tokens, and this is its state. No
 -- parse errors are collected.
 pub record IsBehind (depth : ℕ) (scripting : Bool) (read : List ℕ) (r : PageReader) : Type 0 where
   pub told : List Token
@@ -86,7 +86,7 @@ TellsAll kind old new =
     (cs : List ℕ) → text_of old.tokens ≡ encode_utf8_all cs → (tokens : List Token) → Told kind old.tokens tokens →
     list_all has_plain_names tokens ≡ true → TakesTokens (map AChar cs ++ tokens) old.builder new.builder
 
--- The same where a token ended that tree construction has not been told yet, nor the characters before it.
+-- Where the reader has come when a token has ended that tree construction has not taken yet, nor the characters before it.
 pub record HasEnded (depth : ℕ) (scripting : Bool) (read : List ℕ) (kind : TokenKind) (r : PageReader) : Type 0 where
   pub told : List Token
   pub now : Building
@@ -102,7 +102,7 @@ HasBuiltUpTo (Some kind) scripting read r =
     WithinLimits r.builder → (rest : List ℕ) (depth : ℕ) (all : List Token) (end : Building) →
     IsCovered depth scripting (read ++ rest) all end → HasEnded depth scripting read kind r
 
--- tree construction is told what was read
+-- tree construction takes the characters and the token that were read
 abbrev pub TellsRead : Option TokenKind → PageReader → PageReader → Type 0
 TellsRead kind old new = (scripting : Bool) (read : List ℕ) → HasBuiltUpTo kind scripting read old → HasBuilt scripting read new
 
@@ -114,7 +114,7 @@ TellsLast kind old new =
     (cs : List ℕ) → text_of old.tokens ≡ encode_utf8_all cs → (tokens : List Token) → Told kind old.tokens tokens →
     TakesTokens (map AChar cs ++ tokens) old.builder new.builder
 
--- Where a page has ended, all its tokens are told but the end of the file.
+-- Where a page has ended, tree construction has taken all its tokens but the end of the file.
 pub record IsBeforeEnd (depth : ℕ) (scripting : Bool) (all : List Token) (r : PageReader) : Type 0 where
   pub told : List Token
   pub now : Building

@@ -626,7 +626,8 @@ impl OpenElements {
         self.last(Sought::Key(key_for(is_html, name, 0)))
     }
 
-    /// Returns the same for a name that is not in `Name`.
+    /// Returns one more than the index of the last open element with that name, which is not in
+    /// `Name`, or 0 if there is none.
     fn top_other(&self, is_html: bool, written: &str) -> usize {
         match self.others.get(written) {
             Some(number) => self.last(Sought::Key(key_for(is_html, Name::Other, number))),
