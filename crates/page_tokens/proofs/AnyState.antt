@@ -1,5 +1,5 @@
 -- A character is read as the standard reads it, in a reference or outside of one.
-use Rattle.std.specs.Prelude.{◌≡◌, ℕ, Bool, true, false, List, [], ◌∷◌, ◌++◌, map, Option, None, Some, Result, Ok, Err, IfOk, refl}
+use Rattle.std.specs.Prelude.{◌≡◌, ℕ, Bool, true, false, List, [], ◌∷◌, ◌++◌, map, Option, None, Result, Ok, Err}
 use Rattle.std.proofs.Common.{inl, inr}
 use Rattle.std.specs.Str.{encode_utf8_all}
 use Rattle.std.proofs.lemmas.Bool.{true≢false}
@@ -10,7 +10,7 @@ use Rattle.standard_tokens.specs.Machine.{Machine}
 use Rattle.standard_tokens.specs.Tokens.{Token as StandardToken, AChar}
 use Rattle.page_tokens.specs.Reading.{text_of}
 use Rattle.page_tokens.specs.References.{FollowsInReference, InFront, ReadsReference}
-use Rattle.page_tokens.specs.Standard.{Behind, Follows, FollowsStandard, Goes, Holds, ReferenceHeld, Stands}
+use Rattle.page_tokens.specs.Standard.{Behind, Follows, FollowsStandard, Goes, Holds, ReferenceHeld}
 use Rattle.page_tokens.specs.StandardPages.{FollowsAnywhere, ReadsAnywhere}
 use Rattle.page_tokens.specs.declared.token.TokenKind.{TokenKind}
 use Rattle.page_tokens.specs.declared.tokenizer.Tokenizer.{Tokenizer}

@@ -1,5 +1,5 @@
 -- The tokenizer reads the names and values of attributes as the standard does.
-use Rattle.std.specs.Prelude.{◌≡◌, ℕ, ◌<◌, ◌≤◌, ◌==◌, Bool, true, false, cond, List, [], ◌∷◌, ◌++◌, map, length, reverse, Option, None, Result, Ok, Err, OnOk, string_bytes, refl}
+use Rattle.std.specs.Prelude.{◌≡◌, ℕ, ◌<◌, ◌≤◌, ◌==◌, Bool, false, cond, List, [], ◌∷◌, ◌++◌, map, length, reverse, Option, None, Result, Ok, Err, OnOk, string_bytes, refl}
 use Rattle.std.proofs.Common.{arith}
 use Rattle.std.specs.Char.{encode_utf8, to_ascii_lowercase, len_utf8}
 use Rattle.std.specs.Str.{encode_utf8_all}

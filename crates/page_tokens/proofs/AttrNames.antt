@@ -1,5 +1,5 @@
 -- The states of an attribute's name: what each character does.
-use Rattle.std.specs.Prelude.{◌≡◌, ℕ, ◌<◌, true, false, List, [], ◌∷◌, length, Option, None, Result, Ok, Err, IfOk, OnOk, string_bytes, encode_utf8, refl}
+use Rattle.std.specs.Prelude.{◌≡◌, ℕ, ◌<◌, true, false, [], ◌∷◌, length, Option, None, Result, Ok, Err, IfOk, OnOk, string_bytes, encode_utf8, refl}
 use Rattle.std.proofs.lemmas.Bool.{ne_eqb}
 use mathlib.Core.Path.{sym, subst}
 use Rattle.standard_tokens.specs.Entries.{EmitTag, Reconsume, Stay, Switch}

@@ -1,8 +1,8 @@
 -- The states of an attribute's value, and the end of a tag: what each character does.
-use Rattle.std.specs.Prelude.{◌≡◌, ℕ, ◌<◌, ◌==◌, true, false, List, [], ◌∷◌, length, Option, None, Result, Ok, Err, IfOk, OnOk, string_bytes, encode_utf8, refl}
+use Rattle.std.specs.Prelude.{◌≡◌, ℕ, ◌<◌, ◌==◌, true, false, [], ◌∷◌, length, Option, None, Result, Ok, Err, IfOk, OnOk, string_bytes, encode_utf8, refl}
 use Rattle.std.proofs.lemmas.Bool.{ne_eqb}
 use mathlib.Core.Path.{sym, ap, subst}
-use Rattle.standard_tokens.specs.Entries.{Add, AttrValue, Current, EmitTag, Reconsume, ReturnTo, SelfClosing, Stay, Switch, replacement}
+use Rattle.standard_tokens.specs.Entries.{Add, AttrValue, Current, EmitTag, ReturnTo, SelfClosing, Stay, Switch, replacement}
 use Rattle.standard_tokens.specs.Machine.{Machine, Tag as StandardTag, at_state, taken}
 use Rattle.standard_tokens.specs.States as there
 use Rattle.standard_tokens.specs.Table.{entries}
@@ -21,7 +21,6 @@ use Rattle.page_tokens.specs.declared.tokenizer.state.AttrState.TheVariants as a
 use Rattle.page_tokens.specs.declared.tokenizer.state.Place.TheVariants as place
 use Rattle.page_tokens.specs.declared.tokenizer.state.Quote.{Quote}
 use Rattle.page_tokens.specs.declared.tokenizer.state.Quote.TheVariants as quote
-use Rattle.page_tokens.specs.declared.tokenizer.state.State.{State}
 use Rattle.page_tokens.specs.declared.tokenizer.state.State.TheVariants as state
 use Rattle.page_tokens.specs.declared.tokenizer.state.TagState.TheVariants as tag
 use Rattle.page_tokens.proofs.AttrFollows.{InValue, valued_follows}

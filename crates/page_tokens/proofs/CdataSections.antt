@@ -1,5 +1,5 @@
 -- The tokenizer reads CDATA sections as the standard does.
-use Rattle.std.specs.Prelude.{◌≡◌, ℕ, Bool, true, false, ◌==◌, cond, List, [], ◌∷◌, ◌++◌, codes, Option, None, Some, Result, Ok, Err, IfOk, OnOk, refl}
+use Rattle.std.specs.Prelude.{◌≡◌, ℕ, Bool, false, ◌==◌, cond, List, [], ◌∷◌, ◌++◌, codes, Option, None, Result, Ok, Err, IfOk, OnOk, refl}
 use Rattle.std.specs.Char.{encode_utf8}
 use Rattle.std.specs.Str.{encode_utf8_all}
 use Rattle.std.proofs.lemmas.List.{append-nil}
@@ -9,8 +9,8 @@ use Rattle.standard_tokens.specs.Entries.{Current, Emit, Reconsume, Stay, Switch
 use Rattle.standard_tokens.specs.Machine.{Machine, at_state, taken}
 use Rattle.standard_tokens.specs.States as there
 use Rattle.standard_tokens.specs.Table.{entries}
-use Rattle.page_tokens.specs.Standard.{Follows, FollowsStandard}
-use Rattle.page_tokens.specs.StandardStates.{cdata_state_of, state_of}
+use Rattle.page_tokens.specs.Standard.{Follows}
+use Rattle.page_tokens.specs.StandardStates.{state_of}
 use Rattle.page_tokens.specs.TextStates.{TextGoesOn, brackets_of, cdata_step_of}
 use Rattle.page_tokens.specs.declared.token.TokenKind.{TokenKind}
 use Rattle.page_tokens.specs.declared.tokenizer.Tokenizer.{Tokenizer}

@@ -1,17 +1,15 @@
 -- The end of the page in a comment, or behind `<!`.
-use Rattle.std.specs.Prelude.{◌≡◌, ℕ, zero, suc, ◌<◌, Bool, true, false, List, [], ◌∷◌, ◌++◌, map, length, take, Option, Some, codes, refl}
-use Rattle.std.proofs.Common.{arith}
-use Rattle.std.specs.Char.{to_ascii_lowercase}
+use Rattle.std.specs.Prelude.{◌≡◌, ℕ, Bool, true, List, [], ◌∷◌, Some, refl}
 use Rattle.std.proofs.lemmas.List.{append-nil}
 use mathlib.Core.Path.{◌∙◌, sym, ap, subst}
-use Rattle.standard_tokens.specs.Entries.{NewComment, Reconsume}
-use Rattle.standard_tokens.specs.Machine.{Machine, at_state, step, taken}
+use Rattle.standard_tokens.specs.Entries.{Reconsume}
+use Rattle.standard_tokens.specs.Machine.{Machine, step, taken}
 use Rattle.standard_tokens.specs.States as there
 use Rattle.standard_tokens.specs.Table.{entries}
 use Rattle.standard_tokens.specs.Tokens.{AComment, AnEof}
 use Rattle.page_tokens.specs.Reading.{text_of}
-use Rattle.page_tokens.specs.Standard.{Goes, stays, Held, IsSeen, Spells, Stands, Stops, StopsAsStandard}
-use Rattle.page_tokens.specs.StandardStates.{comment_state_of, state_of}
+use Rattle.page_tokens.specs.Standard.{Goes, stays, Spells, StopsAsStandard}
+use Rattle.page_tokens.specs.StandardStates.{comment_state_of}
 use Rattle.page_tokens.specs.declared.token.TokenKind.TheVariants as token
 use Rattle.page_tokens.specs.declared.tokenizer.Tokenizer.{Tokenizer}
 use Rattle.page_tokens.specs.declared.tokenizer.state.CommentState.{CommentState}

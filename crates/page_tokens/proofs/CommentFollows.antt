@@ -1,6 +1,6 @@
 -- The tokenizer reads comments as the standard does.
-use Rattle.std.specs.Prelude.{◌≡◌, ℕ, Bool, true, false, ◌==◌, cond, List, [], ◌∷◌, ◌++◌, map, codes, Option, None, Some, Result, Ok, Err, IfOk, OnOk, string_bytes, refl}
-use Rattle.std.proofs.Common.{inl, inr}
+use Rattle.std.specs.Prelude.{◌≡◌, ℕ, Bool, true, false, ◌==◌, cond, List, [], ◌∷◌, ◌++◌, Option, None, Some, Result, Ok, Err, IfOk, OnOk, string_bytes, refl}
+use Rattle.std.proofs.Common.{inl}
 use Rattle.std.specs.Char.{encode_utf8}
 use Rattle.std.specs.Str.{encode_utf8_all}
 use Rattle.std.proofs.lemmas.List.{append-nil, append_assoc}
@@ -8,17 +8,15 @@ use Rattle.std.proofs.lemmas.Str.{encodes-append}
 use mathlib.Core.Path.{◌∙◌, sym, ap, subst}
 use Rattle.standard_tokens.specs.Machine.{Machine}
 use Rattle.standard_tokens.specs.States as there
-use Rattle.standard_tokens.specs.Tokens.{Token as StandardToken, AChar, AComment}
+use Rattle.standard_tokens.specs.Tokens.{AComment}
 use Rattle.page_tokens.specs.Changes.{Gains, CommentGoesOn, Remembers}
 use Rattle.page_tokens.specs.Comments.{Came, Finishes, Adds, Appends, Resumes, came, came_of, shown_of, state_again, added_again}
 use Rattle.page_tokens.specs.Reading.{text_of}
-use Rattle.page_tokens.specs.Standard.{Behind, FollowsStandard, Follows, Goes, Held, IsLast, Spells, Stands, Told}
+use Rattle.page_tokens.specs.Standard.{FollowsStandard, Follows, Goes, Held, Spells, Stands}
 use Rattle.page_tokens.specs.StandardStates.{comment_state_of, state_of}
 use Rattle.page_tokens.specs.declared.token.TokenKind.{TokenKind}
 use Rattle.page_tokens.specs.declared.token.TokenKind.TheVariants as token
 use Rattle.page_tokens.specs.declared.tokenizer.Tokenizer.{Tokenizer}
-use Rattle.page_tokens.specs.declared.tokenizer.comments.CommentStep.{CommentStep}
-use Rattle.page_tokens.specs.declared.tokenizer.comments.CommentStep.TheVariants as its
 use Rattle.page_tokens.specs.declared.tokenizer.state.CommentState.{CommentState}
 use Rattle.page_tokens.specs.declared.tokenizer.state.CommentState.TheVariants.{Bogus, Start, StartDash, Comment, LessThan, LessThanBang, LessThanBangDash, LessThanBangDashDash, EndDash, End, EndBang}
 use Rattle.page_tokens.specs.declared.tokenizer.state.Place.TheVariants as place

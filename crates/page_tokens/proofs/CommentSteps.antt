@@ -1,9 +1,9 @@
 -- What a character in a comment does, in the standard.
 use Rattle.std.specs.Prelude.{◌≡◌, ℕ, Bool, true, false, ◌==◌, cond, List, [], ◌∷◌, ◌++◌, codes, refl}
 use Rattle.std.proofs.lemmas.List.{append-nil}
-use mathlib.Core.Path.{◌∙◌, sym, ap, subst}
+use mathlib.Core.Path.{sym, subst}
 use Rattle.standard_tokens.specs.Entries.{EmitComment, Add, Comment as TheComment, Current, These, replacement, Stay, Switch, Reconsume}
-use Rattle.standard_tokens.specs.Machine.{Machine, at_state, taken}
+use Rattle.standard_tokens.specs.Machine.{Machine, taken}
 use Rattle.standard_tokens.specs.States as there
 use Rattle.standard_tokens.specs.States.{State as StandardState}
 use Rattle.standard_tokens.specs.Table.{entries}

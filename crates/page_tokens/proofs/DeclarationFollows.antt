@@ -1,13 +1,13 @@
 -- The tokenizer reads what stands behind `<!` as the standard does.
-use Rattle.std.specs.Prelude.{◌≡◌, ℕ, Bool, true, false, List, [], ◌∷◌, ◌++◌, map, Option, None, Some, Result, Ok, Err, IfOk, OnOk, string_bytes, encode_utf8, refl}
-use Rattle.std.proofs.Common.{inl, inr}
+use Rattle.std.specs.Prelude.{◌≡◌, ℕ, Bool, true, false, List, [], ◌∷◌, ◌++◌, map, Option, None, Result, Ok, Err, IfOk, OnOk, string_bytes, encode_utf8, refl}
+use Rattle.std.proofs.Common.{inl}
 use Rattle.std.specs.Str.{encode_utf8_all}
 use Rattle.std.proofs.lemmas.List.{append-nil, append_assoc}
 use Rattle.std.proofs.lemmas.Str.{encodes-append}
 use mathlib.Core.Path.{◌∙◌, sym, ap, subst}
 use Rattle.standard_tokens.specs.Machine.{Machine, at_state}
 use Rattle.standard_tokens.specs.States as there
-use Rattle.standard_tokens.specs.Tokens.{Token as StandardToken, AChar}
+use Rattle.standard_tokens.specs.Tokens.{AChar}
 use Rattle.page_tokens.specs.Changes.{CommentGoesOn, Remembers}
 use Rattle.page_tokens.specs.Declarations.{declared_of}
 use Rattle.page_tokens.specs.Reading.{text_of}
@@ -21,8 +21,6 @@ use Rattle.page_tokens.specs.declared.tokenizer.state.CdataState.TheVariants as 
 use Rattle.page_tokens.specs.declared.tokenizer.state.CommentState.TheVariants as comment
 use Rattle.page_tokens.specs.declared.tokenizer.state.DoctypeState.TheVariants as doctype
 use Rattle.page_tokens.specs.declared.tokenizer.state.Seen.{Seen}
-use Rattle.page_tokens.specs.declared.tokenizer.state.Seen.TheVariants as seen
-use Rattle.page_tokens.specs.declared.tokenizer.state.State.{State}
 use Rattle.page_tokens.specs.declared.tokenizer.state.State.TheVariants as state
 use Rattle.page_tokens.proofs.CommentSteps.{commenting}
 use Rattle.page_tokens.proofs.DeclarationSteps.{Declares, declares}

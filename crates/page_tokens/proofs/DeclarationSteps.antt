@@ -1,5 +1,5 @@
 -- What a character behind `<!` does, in the standard.
-use Rattle.std.specs.Prelude.{◌≡◌, ℕ, zero, suc, ◌<◌, ◌+◌, Bool, true, false, eqb, ◌==◌, ◌&&◌, ◌||◌, cond, List, [], ◌∷◌, ◌++◌, map, length, take, drop, codes, refl}
+use Rattle.std.specs.Prelude.{◌≡◌, ℕ, zero, suc, ◌<◌, ◌+◌, Bool, true, false, eqb, ◌==◌, ◌||◌, cond, List, [], ◌∷◌, ◌++◌, map, take, codes, refl}
 use Rattle.std.proofs.Common.{arith}
 use Rattle.std.specs.Char.{to_ascii_lowercase}
 use Rattle.std.specs.List.{starts_with}
@@ -19,7 +19,7 @@ use Rattle.page_tokens.specs.declared.tokenizer.state.Seen.{Seen}
 use Rattle.page_tokens.specs.declared.tokenizer.state.Seen.TheVariants as seen
 use Rattle.page_tokens.proofs.CommentSteps.{commenting}
 use Rattle.page_tokens.proofs.StandardSteps.{by_bool, by_entry, by_test, taking, then_on}
-use Rattle.page_tokens.proofs.WordSteps.{Same, begins, extends, fails, map_snoc, taken_word}
+use Rattle.page_tokens.proofs.WordSteps.{begins, extends, fails, map_snoc, taken_word}
 
 abbrev opening : Machine → Machine
 opening m = at_state m there.MarkupDeclarationOpen

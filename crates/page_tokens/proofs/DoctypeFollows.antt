@@ -1,20 +1,20 @@
 -- The tokenizer reads doctypes as the standard does.
 use Rattle.std.specs.Prelude.{◌≡◌, ℕ, Bool, true, false, List, [], ◌∷◌, ◌++◌, Option, None, Some, String, Result, Ok, Err, IfOk, OnOk, string_bytes, refl}
-use Rattle.std.proofs.Common.{inl, inr}
+use Rattle.std.proofs.Common.{inl}
 use Rattle.std.specs.Char.{encode_utf8, to_ascii_lowercase}
 use Rattle.std.specs.Option.{IsSomeAnd}
 use Rattle.std.specs.Str.{encode_utf8_all}
 use Rattle.std.proofs.lemmas.List.{append-nil, append_assoc}
 use mathlib.Core.Path.{◌∙◌, sym, ap, subst}
-use Rattle.standard_tokens.specs.Machine.{Machine, at_state, no_doctype, with_more}
+use Rattle.standard_tokens.specs.Machine.{Machine, no_doctype, with_more}
 use Rattle.standard_tokens.specs.States as there
 use Rattle.standard_tokens.specs.States.{State as StandardState}
-use Rattle.standard_tokens.specs.Tokens.{Doctype as StandardDoctype, Token as StandardToken, ADoctype}
+use Rattle.standard_tokens.specs.Tokens.{Doctype as StandardDoctype, ADoctype}
 use Rattle.page_tokens.specs.Changes.{Remembers}
 use Rattle.page_tokens.specs.Comments.{shown_of}
 use Rattle.page_tokens.specs.DoctypeSteps.{AddsTo, AddsToId, AddsToName, BeginsId, BeginsName, broken, doctype_step_of}
 use Rattle.page_tokens.specs.Reading.{text_of}
-use Rattle.page_tokens.specs.Standard.{DoctypeHeld, Follows, FollowsStandard, Goes, Held, IsDoctype, IsLast, IsNoDoctype, MaySpell, Stands, stays}
+use Rattle.page_tokens.specs.Standard.{DoctypeHeld, Follows, FollowsStandard, Goes, Held, IsDoctype, IsLast, IsNoDoctype, MaySpell, stays}
 use Rattle.page_tokens.specs.StandardStates.{doctype_state_of, state_of}
 use Rattle.page_tokens.specs.declared.token.Doctype.{Doctype}
 use Rattle.page_tokens.specs.declared.token.TokenKind.{TokenKind}
@@ -26,7 +26,6 @@ use Rattle.page_tokens.specs.declared.tokenizer.state.DoctypeState.TheVariants a
 use Rattle.page_tokens.specs.declared.tokenizer.state.Id.{Id}
 use Rattle.page_tokens.specs.declared.tokenizer.state.Id.TheVariants as id
 use Rattle.page_tokens.specs.declared.tokenizer.state.Quote.{Quote}
-use Rattle.page_tokens.specs.declared.tokenizer.state.Quote.TheVariants as quote
 use Rattle.page_tokens.specs.declared.tokenizer.state.State.{State}
 use Rattle.page_tokens.specs.declared.tokenizer.state.State.TheVariants as state
 use Rattle.page_tokens.proofs.DeclarationFollows.{led, one_more}

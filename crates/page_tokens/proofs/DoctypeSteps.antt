@@ -1,5 +1,5 @@
 -- What a character in a doctype does, in the standard.
-use Rattle.std.specs.Prelude.{◌≡◌, ℕ, zero, suc, ◌<◌, ◌+◌, Bool, true, false, ◌==◌, ◌||◌, ◌&&◌, nat_le, cond, List, [], ◌∷◌, ◌++◌, map, length, take, codes, Option, None, Some, refl}
+use Rattle.std.specs.Prelude.{◌≡◌, ℕ, zero, suc, ◌<◌, ◌+◌, Bool, true, false, ◌==◌, ◌||◌, cond, List, [], ◌∷◌, ◌++◌, map, take, codes, Option, Some, refl}
 use Rattle.std.proofs.Common.{arith}
 use Rattle.std.specs.Char.{to_ascii_lowercase}
 use Rattle.std.specs.List.{starts_with}

@@ -1,11 +1,11 @@
 -- What a character in what may be an end tag of raw text does, in the standard.
-use Rattle.std.specs.Prelude.{◌≡◌, ℕ, Bool, true, false, ◌==◌, ◌||◌, ◌&&◌, nat_le, cond, List, [], ◌∷◌, ◌++◌, map, codes, refl}
+use Rattle.std.specs.Prelude.{◌≡◌, ℕ, Bool, true, false, ◌==◌, cond, List, [], ◌∷◌, ◌++◌, map, codes, refl}
 use Rattle.std.proofs.Common.{arith}
 use Rattle.std.specs.Char.{is_ascii_alphabetic, to_ascii_lowercase}
 use Rattle.std.proofs.lemmas.List.{append-nil}
 use mathlib.Core.Path.{◌∙◌, sym, ap, subst}
 use Rattle.standard_tokens.specs.Entries.{Add, Always, Appropriate, Buffer, Current, Else, Emit, EmitTag, Ending, Entry, Lower, NewTag, Next, Reconsume, SetEmpty, Stay, Switch, TheBuffer, These, TheTagName, chars, entry, lower, space, upper}
-use Rattle.standard_tokens.specs.Machine.{Machine, Taken, all_emitted, at_state, is_name_of, step_by, stops, taken}
+use Rattle.standard_tokens.specs.Machine.{Machine, at_state, is_name_of, taken}
 use Rattle.standard_tokens.specs.States as there
 use Rattle.standard_tokens.specs.Table.{entries}
 use Rattle.standard_tokens.specs.Tokens.{AChar}
@@ -22,7 +22,7 @@ use Rattle.page_tokens.specs.declared.tokenizer.state.Raw.{Raw}
 use Rattle.page_tokens.specs.declared.tokenizer.state.Raw.TheVariants as raw
 use Rattle.page_tokens.specs.declared.tokenizer.state.ScriptState.TheVariants as script
 use Rattle.page_tokens.specs.declared.tokenizer.state.State.TheVariants as state
-use Rattle.page_tokens.proofs.ScriptSteps.{IsLetter, ends_cases, ends_none, is_lower, is_lower_of, is_upper, no_lower, no_upper, stays_lower}
+use Rattle.page_tokens.proofs.ScriptSteps.{IsLetter, ends_cases, ends_none, is_lower_of, is_upper, no_lower, no_upper, stays_lower}
 use Rattle.page_tokens.proofs.StandardSteps.{by_entry, by_test, taking, then_on}
 use Rattle.page_tokens.proofs.TagNames.{space_cases}
 use Rattle.page_tokens.proofs.TextFollows.{BackTo, Over}

@@ -7,10 +7,10 @@ use mathlib.Core.Path.{◌∙◌, sym, ap}
 use Rattle.standard_tokens.specs.Entries.{Act, On, Next, Word, AnyCase, Name, Else, Guard, Always, Appropriate, IsScript, InForeign, InAttribute, Historical}
 use Rattle.standard_tokens.specs.Entries.{Then, Entry, entry}
 use Rattle.standard_tokens.specs.Machine.{Machine, Taken, consumed, step, step_by, taken, taken_if}
-use Rattle.standard_tokens.specs.States as there
 use Rattle.standard_tokens.specs.States.{State as StandardState}
 use Rattle.standard_tokens.specs.Table.{entries}
 use Rattle.page_tokens.specs.StandardPages.{lacks_cdata}
+use Rattle.page_tokens.proofs.EveryState.{every_state}
 
 abbrev is_cdata : On → Bool
 is_cdata (Word word) = bytes_eq word (codes "[CDATA[")
@@ -26,86 +26,7 @@ asks_well (entry on guard acts goes) = asks_there guard on
 
 asks_in : (s : StandardState) → list_all asks_well (entries s) ≡ true
 unfolding entries
-asks_in there.Data = refl
-asks_in there.RCDATA = refl
-asks_in there.RAWTEXT = refl
-asks_in there.ScriptData = refl
-asks_in there.PLAINTEXT = refl
-asks_in there.TagOpen = refl
-asks_in there.EndTagOpen = refl
-asks_in there.TagName = refl
-asks_in there.RCDATALessThanSign = refl
-asks_in there.RCDATAEndTagOpen = refl
-asks_in there.RCDATAEndTagName = refl
-asks_in there.RAWTEXTLessThanSign = refl
-asks_in there.RAWTEXTEndTagOpen = refl
-asks_in there.RAWTEXTEndTagName = refl
-asks_in there.ScriptDataLessThanSign = refl
-asks_in there.ScriptDataEndTagOpen = refl
-asks_in there.ScriptDataEndTagName = refl
-asks_in there.ScriptDataEscapeStart = refl
-asks_in there.ScriptDataEscapeStartDash = refl
-asks_in there.ScriptDataEscaped = refl
-asks_in there.ScriptDataEscapedDash = refl
-asks_in there.ScriptDataEscapedDashDash = refl
-asks_in there.ScriptDataEscapedLessThanSign = refl
-asks_in there.ScriptDataEscapedEndTagOpen = refl
-asks_in there.ScriptDataEscapedEndTagName = refl
-asks_in there.ScriptDataDoubleEscapeStart = refl
-asks_in there.ScriptDataDoubleEscaped = refl
-asks_in there.ScriptDataDoubleEscapedDash = refl
-asks_in there.ScriptDataDoubleEscapedDashDash = refl
-asks_in there.ScriptDataDoubleEscapedLessThanSign = refl
-asks_in there.ScriptDataDoubleEscapeEnd = refl
-asks_in there.BeforeAttributeName = refl
-asks_in there.AttributeName = refl
-asks_in there.AfterAttributeName = refl
-asks_in there.BeforeAttributeValue = refl
-asks_in there.AttributeValueDoubleQuoted = refl
-asks_in there.AttributeValueSingleQuoted = refl
-asks_in there.AttributeValueUnquoted = refl
-asks_in there.AfterAttributeValueQuoted = refl
-asks_in there.SelfClosingStartTag = refl
-asks_in there.BogusComment = refl
-asks_in there.MarkupDeclarationOpen = refl
-asks_in there.CommentStart = refl
-asks_in there.CommentStartDash = refl
-asks_in there.CommentState = refl
-asks_in there.CommentLessThanSign = refl
-asks_in there.CommentLessThanSignBang = refl
-asks_in there.CommentLessThanSignBangDash = refl
-asks_in there.CommentLessThanSignBangDashDash = refl
-asks_in there.CommentEndDash = refl
-asks_in there.CommentEnd = refl
-asks_in there.CommentEndBang = refl
-asks_in there.DOCTYPEState = refl
-asks_in there.BeforeDOCTYPEName = refl
-asks_in there.DOCTYPEName = refl
-asks_in there.AfterDOCTYPEName = refl
-asks_in there.AfterDOCTYPEPublicKeyword = refl
-asks_in there.BeforeDOCTYPEPublicIdentifier = refl
-asks_in there.DOCTYPEPublicIdentifierDoubleQuoted = refl
-asks_in there.DOCTYPEPublicIdentifierSingleQuoted = refl
-asks_in there.AfterDOCTYPEPublicIdentifier = refl
-asks_in there.BetweenDOCTYPEPublicAndSystemIdentifiers = refl
-asks_in there.AfterDOCTYPESystemKeyword = refl
-asks_in there.BeforeDOCTYPESystemIdentifier = refl
-asks_in there.DOCTYPESystemIdentifierDoubleQuoted = refl
-asks_in there.DOCTYPESystemIdentifierSingleQuoted = refl
-asks_in there.AfterDOCTYPESystemIdentifier = refl
-asks_in there.BogusDOCTYPE = refl
-asks_in there.CDATASection = refl
-asks_in there.CDATASectionBracket = refl
-asks_in there.CDATASectionEnd = refl
-asks_in there.CharacterReference = refl
-asks_in there.NamedCharacterReference = refl
-asks_in there.AmbiguousAmpersand = refl
-asks_in there.NumericCharacterReference = refl
-asks_in there.HexadecimalCharacterReferenceStart = refl
-asks_in there.DecimalCharacterReferenceStart = refl
-asks_in there.HexadecimalCharacterReference = refl
-asks_in there.DecimalCharacterReference = refl
-asks_in there.NumericCharacterReferenceEnd = refl
+asks_in = every_state (λ s. list_all asks_well (entries s)) refl
 
 abbrev NoCdata : List ℕ → Type 0
 NoCdata text = starts_with eqb text (codes "[CDATA[") ≡ false

@@ -1,14 +1,13 @@
 -- What is read at once at the front of a text, one part after another.
-use Rattle.std.specs.Prelude.{◌≡◌, ℕ, ◌<◌, true, false, not, ◌==◌, List, [], ◌∷◌, ◌++◌, length, Option, None, Some, Result, Ok, Err, IfOk, encode_utf8, refl}
+use Rattle.std.specs.Prelude.{◌≡◌, ℕ, ◌<◌, false, not, ◌==◌, List, [], ◌∷◌, ◌++◌, length, Option, None, Some, Result, Ok, Err, encode_utf8, refl}
 use Rattle.std.proofs.Common.{arith, inl, inr}
 use Rattle.std.specs.Borrow.{Bor}
-use Rattle.std.specs.List.{list_all}
 use Rattle.std.specs.Str.{encode_utf8_all}
 use Rattle.std.proofs.lemmas.List.{append-nil, append_assoc}
 use Rattle.std.proofs.lemmas.List.Folds.{list_all-append}
 use Rattle.std.proofs.lemmas.Str.{encode_ascii, encodes-append}
 use mathlib.Core.Path.{◌∙◌, sym, ap, subst}
-use Rattle.page_tokens.specs.FastPaths.{EndsLast, FollowsRun, IsOutside, ReadsAny, ReadsFront, ReadsPlain, ToldLast}
+use Rattle.page_tokens.specs.FastPaths.{FollowsRun, IsOutside, ReadsAny, ReadsFront, ReadsPlain, ToldLast}
 use Rattle.page_tokens.specs.Reading.{text_of}
 use Rattle.page_tokens.specs.Standard.{FollowsStandard, Goes, stays}
 use Rattle.page_tokens.specs.declared.token.TokenKind.{TokenKind}

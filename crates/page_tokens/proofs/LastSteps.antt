@@ -19,6 +19,7 @@ use Rattle.standard_tokens.specs.Table.{entries}
 use Rattle.standard_tokens.specs.Tokens.{Token as StandardToken, AChar, AComment, ADoctype, AStart, AnEnd}
 use Rattle.page_tokens.specs.Standard.{Goes, stays, steps}
 use Rattle.page_tokens.specs.StandardPages.{EmitsLast}
+use Rattle.page_tokens.proofs.EveryState.{every_state, is_state, same_state, third}
 use Rattle.page_tokens.proofs.StandardSteps.{in_its_state}
 use Rattle.page_tokens.proofs.TextFollows.{map_append}
 
@@ -58,8 +59,7 @@ is_greater (Next (OneOf (c ∷ []) ∷ [])) = c == 62
 is_greater _ = false
 
 abbrev pub is_data : StandardState → Bool
-is_data there.Data = true
-is_data _ = false
+is_data s = is_state s there.Data
 
 abbrev to_data : Then → Bool
 to_data (Switch state) = is_data state
@@ -71,86 +71,7 @@ as_wanted (entry on guard acts goes) = list_all shows acts || (stops goes || (en
 
 every : (s : StandardState) → list_all as_wanted (entries s) ≡ true
 unfolding entries
-every there.Data = refl
-every there.RCDATA = refl
-every there.RAWTEXT = refl
-every there.ScriptData = refl
-every there.PLAINTEXT = refl
-every there.TagOpen = refl
-every there.EndTagOpen = refl
-every there.TagName = refl
-every there.RCDATALessThanSign = refl
-every there.RCDATAEndTagOpen = refl
-every there.RCDATAEndTagName = refl
-every there.RAWTEXTLessThanSign = refl
-every there.RAWTEXTEndTagOpen = refl
-every there.RAWTEXTEndTagName = refl
-every there.ScriptDataLessThanSign = refl
-every there.ScriptDataEndTagOpen = refl
-every there.ScriptDataEndTagName = refl
-every there.ScriptDataEscapeStart = refl
-every there.ScriptDataEscapeStartDash = refl
-every there.ScriptDataEscaped = refl
-every there.ScriptDataEscapedDash = refl
-every there.ScriptDataEscapedDashDash = refl
-every there.ScriptDataEscapedLessThanSign = refl
-every there.ScriptDataEscapedEndTagOpen = refl
-every there.ScriptDataEscapedEndTagName = refl
-every there.ScriptDataDoubleEscapeStart = refl
-every there.ScriptDataDoubleEscaped = refl
-every there.ScriptDataDoubleEscapedDash = refl
-every there.ScriptDataDoubleEscapedDashDash = refl
-every there.ScriptDataDoubleEscapedLessThanSign = refl
-every there.ScriptDataDoubleEscapeEnd = refl
-every there.BeforeAttributeName = refl
-every there.AttributeName = refl
-every there.AfterAttributeName = refl
-every there.BeforeAttributeValue = refl
-every there.AttributeValueDoubleQuoted = refl
-every there.AttributeValueSingleQuoted = refl
-every there.AttributeValueUnquoted = refl
-every there.AfterAttributeValueQuoted = refl
-every there.SelfClosingStartTag = refl
-every there.BogusComment = refl
-every there.MarkupDeclarationOpen = refl
-every there.CommentStart = refl
-every there.CommentStartDash = refl
-every there.CommentState = refl
-every there.CommentLessThanSign = refl
-every there.CommentLessThanSignBang = refl
-every there.CommentLessThanSignBangDash = refl
-every there.CommentLessThanSignBangDashDash = refl
-every there.CommentEndDash = refl
-every there.CommentEnd = refl
-every there.CommentEndBang = refl
-every there.DOCTYPEState = refl
-every there.BeforeDOCTYPEName = refl
-every there.DOCTYPEName = refl
-every there.AfterDOCTYPEName = refl
-every there.AfterDOCTYPEPublicKeyword = refl
-every there.BeforeDOCTYPEPublicIdentifier = refl
-every there.DOCTYPEPublicIdentifierDoubleQuoted = refl
-every there.DOCTYPEPublicIdentifierSingleQuoted = refl
-every there.AfterDOCTYPEPublicIdentifier = refl
-every there.BetweenDOCTYPEPublicAndSystemIdentifiers = refl
-every there.AfterDOCTYPESystemKeyword = refl
-every there.BeforeDOCTYPESystemIdentifier = refl
-every there.DOCTYPESystemIdentifierDoubleQuoted = refl
-every there.DOCTYPESystemIdentifierSingleQuoted = refl
-every there.AfterDOCTYPESystemIdentifier = refl
-every there.BogusDOCTYPE = refl
-every there.CDATASection = refl
-every there.CDATASectionBracket = refl
-every there.CDATASectionEnd = refl
-every there.CharacterReference = refl
-every there.NamedCharacterReference = refl
-every there.AmbiguousAmpersand = refl
-every there.NumericCharacterReference = refl
-every there.HexadecimalCharacterReferenceStart = refl
-every there.DecimalCharacterReferenceStart = refl
-every there.HexadecimalCharacterReference = refl
-every there.DecimalCharacterReference = refl
-every there.NumericCharacterReferenceEnd = refl
+every = every_state (λ s. list_all as_wanted (entries s)) refl
 
 -- ---- the entry that is taken
 
@@ -163,11 +84,6 @@ record Marks (t : Taken) (text : List ℕ) : Type 0 where
 
 abbrev Wanted : Taken → List ℕ → Type 0
 Wanted t text = (list_all shows t.acts ≡ true) ⊎ ((stops t.goes ≡ true) ⊎ Marks t text)
-
-third : (a s x : Bool) → (a || (s || x)) ≡ true → (a ≡ true) ⊎ ((s ≡ true) ⊎ (x ≡ true))
-third true s x h = inl refl
-third false true x h = inr (inl refl)
-third false false x h = inr (inr h)
 
 -- `>` is consumed
 record TookGreater (text cur : List ℕ) : Type 0 where
@@ -352,90 +268,8 @@ record MarkStep (s : Step) (text : List ℕ) : Type 0 where
   pub leads : s.machine.state ≡ there.Data
   pub text_is : text ≡ 62 ∷ s.rest
 
-data_of : (s : StandardState) → is_data s ≡ true → s ≡ there.Data
-data_of there.Data h = refl
-data_of there.RCDATA h = absurd (true≢false (sym h))
-data_of there.RAWTEXT h = absurd (true≢false (sym h))
-data_of there.ScriptData h = absurd (true≢false (sym h))
-data_of there.PLAINTEXT h = absurd (true≢false (sym h))
-data_of there.TagOpen h = absurd (true≢false (sym h))
-data_of there.EndTagOpen h = absurd (true≢false (sym h))
-data_of there.TagName h = absurd (true≢false (sym h))
-data_of there.RCDATALessThanSign h = absurd (true≢false (sym h))
-data_of there.RCDATAEndTagOpen h = absurd (true≢false (sym h))
-data_of there.RCDATAEndTagName h = absurd (true≢false (sym h))
-data_of there.RAWTEXTLessThanSign h = absurd (true≢false (sym h))
-data_of there.RAWTEXTEndTagOpen h = absurd (true≢false (sym h))
-data_of there.RAWTEXTEndTagName h = absurd (true≢false (sym h))
-data_of there.ScriptDataLessThanSign h = absurd (true≢false (sym h))
-data_of there.ScriptDataEndTagOpen h = absurd (true≢false (sym h))
-data_of there.ScriptDataEndTagName h = absurd (true≢false (sym h))
-data_of there.ScriptDataEscapeStart h = absurd (true≢false (sym h))
-data_of there.ScriptDataEscapeStartDash h = absurd (true≢false (sym h))
-data_of there.ScriptDataEscaped h = absurd (true≢false (sym h))
-data_of there.ScriptDataEscapedDash h = absurd (true≢false (sym h))
-data_of there.ScriptDataEscapedDashDash h = absurd (true≢false (sym h))
-data_of there.ScriptDataEscapedLessThanSign h = absurd (true≢false (sym h))
-data_of there.ScriptDataEscapedEndTagOpen h = absurd (true≢false (sym h))
-data_of there.ScriptDataEscapedEndTagName h = absurd (true≢false (sym h))
-data_of there.ScriptDataDoubleEscapeStart h = absurd (true≢false (sym h))
-data_of there.ScriptDataDoubleEscaped h = absurd (true≢false (sym h))
-data_of there.ScriptDataDoubleEscapedDash h = absurd (true≢false (sym h))
-data_of there.ScriptDataDoubleEscapedDashDash h = absurd (true≢false (sym h))
-data_of there.ScriptDataDoubleEscapedLessThanSign h = absurd (true≢false (sym h))
-data_of there.ScriptDataDoubleEscapeEnd h = absurd (true≢false (sym h))
-data_of there.BeforeAttributeName h = absurd (true≢false (sym h))
-data_of there.AttributeName h = absurd (true≢false (sym h))
-data_of there.AfterAttributeName h = absurd (true≢false (sym h))
-data_of there.BeforeAttributeValue h = absurd (true≢false (sym h))
-data_of there.AttributeValueDoubleQuoted h = absurd (true≢false (sym h))
-data_of there.AttributeValueSingleQuoted h = absurd (true≢false (sym h))
-data_of there.AttributeValueUnquoted h = absurd (true≢false (sym h))
-data_of there.AfterAttributeValueQuoted h = absurd (true≢false (sym h))
-data_of there.SelfClosingStartTag h = absurd (true≢false (sym h))
-data_of there.BogusComment h = absurd (true≢false (sym h))
-data_of there.MarkupDeclarationOpen h = absurd (true≢false (sym h))
-data_of there.CommentStart h = absurd (true≢false (sym h))
-data_of there.CommentStartDash h = absurd (true≢false (sym h))
-data_of there.CommentState h = absurd (true≢false (sym h))
-data_of there.CommentLessThanSign h = absurd (true≢false (sym h))
-data_of there.CommentLessThanSignBang h = absurd (true≢false (sym h))
-data_of there.CommentLessThanSignBangDash h = absurd (true≢false (sym h))
-data_of there.CommentLessThanSignBangDashDash h = absurd (true≢false (sym h))
-data_of there.CommentEndDash h = absurd (true≢false (sym h))
-data_of there.CommentEnd h = absurd (true≢false (sym h))
-data_of there.CommentEndBang h = absurd (true≢false (sym h))
-data_of there.DOCTYPEState h = absurd (true≢false (sym h))
-data_of there.BeforeDOCTYPEName h = absurd (true≢false (sym h))
-data_of there.DOCTYPEName h = absurd (true≢false (sym h))
-data_of there.AfterDOCTYPEName h = absurd (true≢false (sym h))
-data_of there.AfterDOCTYPEPublicKeyword h = absurd (true≢false (sym h))
-data_of there.BeforeDOCTYPEPublicIdentifier h = absurd (true≢false (sym h))
-data_of there.DOCTYPEPublicIdentifierDoubleQuoted h = absurd (true≢false (sym h))
-data_of there.DOCTYPEPublicIdentifierSingleQuoted h = absurd (true≢false (sym h))
-data_of there.AfterDOCTYPEPublicIdentifier h = absurd (true≢false (sym h))
-data_of there.BetweenDOCTYPEPublicAndSystemIdentifiers h = absurd (true≢false (sym h))
-data_of there.AfterDOCTYPESystemKeyword h = absurd (true≢false (sym h))
-data_of there.BeforeDOCTYPESystemIdentifier h = absurd (true≢false (sym h))
-data_of there.DOCTYPESystemIdentifierDoubleQuoted h = absurd (true≢false (sym h))
-data_of there.DOCTYPESystemIdentifierSingleQuoted h = absurd (true≢false (sym h))
-data_of there.AfterDOCTYPESystemIdentifier h = absurd (true≢false (sym h))
-data_of there.BogusDOCTYPE h = absurd (true≢false (sym h))
-data_of there.CDATASection h = absurd (true≢false (sym h))
-data_of there.CDATASectionBracket h = absurd (true≢false (sym h))
-data_of there.CDATASectionEnd h = absurd (true≢false (sym h))
-data_of there.CharacterReference h = absurd (true≢false (sym h))
-data_of there.NamedCharacterReference h = absurd (true≢false (sym h))
-data_of there.AmbiguousAmpersand h = absurd (true≢false (sym h))
-data_of there.NumericCharacterReference h = absurd (true≢false (sym h))
-data_of there.HexadecimalCharacterReferenceStart h = absurd (true≢false (sym h))
-data_of there.DecimalCharacterReferenceStart h = absurd (true≢false (sym h))
-data_of there.HexadecimalCharacterReference h = absurd (true≢false (sym h))
-data_of there.DecimalCharacterReference h = absurd (true≢false (sym h))
-data_of there.NumericCharacterReferenceEnd h = absurd (true≢false (sym h))
-
 data_behind : (goes : Then) (m : Machine) → to_data goes ≡ true → state_behind goes m ≡ there.Data
-data_behind (Switch state) m h = data_of state h
+data_behind (Switch state) m h = same_state state there.Data h
 data_behind Stay m h = absurd (true≢false (sym h))
 data_behind (Reconsume state) m h = absurd (true≢false (sym h))
 data_behind SwitchBack m h = absurd (true≢false (sym h))

@@ -7,6 +7,7 @@ mod AttrRuns
 mod AttrValues
 mod AttributeLemmas
 mod CdataSections
+mod CheckedParts
 mod CommentEnds
 mod CommentFollows
 mod CommentSteps
@@ -15,6 +16,8 @@ mod DeclarationSteps
 mod DoctypeFollows
 mod DoctypeSteps
 mod EndTagSteps
+mod ErrorsApart
+mod EveryState
 mod FollowsOn
 mod ForeignFlag
 mod Fronts

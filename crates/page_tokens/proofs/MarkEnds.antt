@@ -1,5 +1,5 @@
 -- The end of the page behind `<!` and in a doctype.
-use Rattle.std.specs.Prelude.{◌≡◌, ℕ, zero, suc, ◌<◌, Bool, true, false, ◌==◌, List, [], ◌∷◌, ◌++◌, map, take, codes, Option, Some, None, String, refl}
+use Rattle.std.specs.Prelude.{◌≡◌, ℕ, zero, suc, ◌<◌, Bool, true, false, ◌==◌, List, [], ◌∷◌, map, take, codes, Option, Some, None, String, refl}
 use Rattle.std.proofs.Common.{arith}
 use Rattle.std.specs.Char.{to_ascii_lowercase}
 use Rattle.std.proofs.lemmas.List.{append-nil}
@@ -11,7 +11,7 @@ use Rattle.standard_tokens.specs.Table.{entries}
 use Rattle.standard_tokens.specs.Tokens.{Doctype as StandardDoctype, Token as StandardToken, AComment, ADoctype}
 use Rattle.page_tokens.specs.PageEnds.{EndsMark, ended_doctype_of}
 use Rattle.page_tokens.specs.Reading.{text_of}
-use Rattle.page_tokens.specs.Standard.{DoctypeHeld, Goes, stays, Held, IsDoctype, IsKeyword, IsSeen, MaySpell, Spells, Stands, StopsAsStandard}
+use Rattle.page_tokens.specs.Standard.{DoctypeHeld, Goes, stays, Held, IsDoctype, IsKeyword, IsSeen, MaySpell, Spells, StopsAsStandard}
 use Rattle.page_tokens.specs.StandardStates.{doctype_state_of, state_of}
 use Rattle.page_tokens.specs.declared.token.TokenKind.{TokenKind}
 use Rattle.page_tokens.specs.declared.token.TokenKind.TheVariants as token

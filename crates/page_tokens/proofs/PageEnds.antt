@@ -3,7 +3,6 @@ use Rattle.std.specs.Prelude.{◌≡◌, ℕ, Bool, true, false, List, [], ◌�
 use Rattle.std.specs.Char.{encode_utf8}
 use Rattle.std.specs.Str.{encode_utf8_all}
 use Rattle.std.proofs.lemmas.List.{append-nil}
-use Rattle.std.proofs.lemmas.Str.{encodes-append}
 use mathlib.Core.Path.{◌∙◌, sym, ap, subst}
 use Rattle.standard_tokens.specs.Entries.{Emit, Reconsume, TheBuffer, These}
 use Rattle.standard_tokens.specs.Machine.{Machine, at_state, step, taken}
@@ -12,7 +11,7 @@ use Rattle.standard_tokens.specs.Table.{entries}
 use Rattle.standard_tokens.specs.Tokens.{Token as StandardToken, AChar, AnEof}
 use Rattle.page_tokens.specs.PageEnds.{EndsMark, IsNoMark, left_of}
 use Rattle.page_tokens.specs.Reading.{text_of}
-use Rattle.page_tokens.specs.Standard.{Goes, stays, EndTagHeld, Held, Stands, Stops, StopsAsStandard}
+use Rattle.page_tokens.specs.Standard.{Goes, stays, Held, StopsAsStandard}
 use Rattle.page_tokens.specs.StandardStates.{state_of}
 use Rattle.page_tokens.specs.TextStates.{TextGoesOn}
 use Rattle.page_tokens.specs.declared.tokenizer.Tokenizer.{Tokenizer}

@@ -1,9 +1,9 @@
 -- Where a tokenizer stands does not depend on the text before the next token, the flags, the errors or the last tag.
-use Rattle.std.specs.Prelude.{◌≡◌, ℕ, List, [], ◌⊎◌}
+use Rattle.std.specs.Prelude.{◌≡◌, ℕ, List, []}
 use Rattle.std.proofs.Common.{inl, inr}
 use mathlib.Core.Path.{sym, subst}
 use Rattle.standard_tokens.specs.Machine.{Machine}
-use Rattle.page_tokens.specs.Standard.{Held, Holds, ReferenceHeld, Stands, StandsInReference}
+use Rattle.page_tokens.specs.Standard.{Held, Holds, ReferenceHeld, Stands}
 use Rattle.page_tokens.specs.declared.tokenizer.Tokenizer.{Tokenizer}
 use Rattle.page_tokens.specs.declared.tokenizer.references.Reference.{Reference}
 use Rattle.page_tokens.specs.declared.tokenizer.references.Reference.TheVariants as reference

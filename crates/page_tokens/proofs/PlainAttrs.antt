@@ -1,5 +1,5 @@
 -- Attributes that are read at once: a name, and a value in quotes or without them.
-use Rattle.std.specs.Prelude.{◌≡◌, ℕ, ◌<◌, Bool, true, false, not, ◌==◌, List, [], ◌∷◌, ◌++◌, map, length, take, drop, reverse, Option, None, Some, Result, Ok, Err, OnOk, string_bytes, refl}
+use Rattle.std.specs.Prelude.{◌≡◌, ℕ, ◌<◌, Bool, true, false, not, ◌==◌, List, [], ◌∷◌, ◌++◌, map, length, take, drop, reverse, None, Result, Ok, Err, OnOk, string_bytes, refl}
 use Rattle.std.proofs.Common.{arith, inr}
 use Rattle.std.specs.Char.{to_ascii_lowercase}
 use Rattle.std.specs.List.{list_all}
@@ -18,7 +18,6 @@ use Rattle.page_tokens.specs.RunEnds.{ends_attr_name, ends_run, ends_unquoted_va
 use Rattle.page_tokens.specs.Standard.{AreAttrs, FollowsStandard, Goes, Held, IsDraft, Stands}
 use Rattle.page_tokens.specs.StandardStates.{state_of}
 use Rattle.page_tokens.specs.TagStates.{BeginsAttr, quote_of}
-use Rattle.page_tokens.specs.declared.token.TokenKind.{TokenKind}
 use Rattle.page_tokens.specs.declared.tokenizer.Tokenizer.{Tokenizer}
 use Rattle.page_tokens.specs.declared.tokenizer.draft.TagDraft.{TagDraft}
 use Rattle.page_tokens.specs.declared.tokenizer.runs.Run.{Run}
@@ -28,12 +27,11 @@ use Rattle.page_tokens.specs.declared.tokenizer.state.Quote.{Quote}
 use Rattle.page_tokens.specs.declared.tokenizer.state.Quote.TheVariants as quote
 use Rattle.page_tokens.specs.declared.tokenizer.state.State.{State}
 use Rattle.page_tokens.specs.declared.tokenizer.state.State.TheVariants as state
-use Rattle.page_tokens.specs.declared.tokenizer.state.TagState.TheVariants as tag
 use Rattle.page_tokens.proofs.AttrFollows.{Begins, begins_after, begins_before, holds_attr, none_held}
 use Rattle.page_tokens.proofs.AttrNames.{equals_in_name}
 use Rattle.page_tokens.proofs.AttrValues.{quote_before_value, quote_in_value}
-use Rattle.page_tokens.proofs.DeclarationFollows.{led, through}
-use Rattle.page_tokens.proofs.Fronts.{any_on, front_on, one_read}
+use Rattle.page_tokens.proofs.DeclarationFollows.{led}
+use Rattle.page_tokens.proofs.Fronts.{one_read}
 use Rattle.page_tokens.proofs.RunFollows.{NoneEnds, all_lowered, each, gathered_by, shown_same}
 use Rattle.page_tokens.proofs.RunRead.{front_passes, low, no_return, return_ends, some_characters}
 use Rattle.page_tokens.proofs.RunStates.{attr_name_step, letter_of, run_follows}

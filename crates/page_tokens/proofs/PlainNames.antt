@@ -1,5 +1,5 @@
 -- The names of tags and attributes contain no white space, `/`, `>` or upper-case letter.
-use Rattle.std.specs.Prelude.{◌≡◌, ℕ, ◌==◌, Bool, true, false, cond, ◌&&◌, ◌||◌, nat_le, bytes_eq, List, [], ◌∷◌, ◌++◌, map, take, drop, length, reverse, Option, None, Some, refl}
+use Rattle.std.specs.Prelude.{◌≡◌, ℕ, ◌==◌, Bool, true, false, cond, ◌&&◌, ◌||◌, nat_le, bytes_eq, List, [], ◌∷◌, ◌++◌, ◌⊎◌, map, take, drop, length, reverse, Option, None, Some, refl}
 use Rattle.std.specs.Char.{char_set_contains, is_ascii_uppercase, to_ascii_lowercase}
 use Rattle.std.specs.List.{list_all, list_any}
 use Rattle.std.proofs.lemmas.Bool.{and_from, and_parts, cases_Bool, eqb-true, true≢false}
@@ -20,6 +20,7 @@ use Rattle.standard_tokens.specs.States as there
 use Rattle.standard_tokens.specs.States.{State as StandardState}
 use Rattle.standard_tokens.specs.Table.{entries}
 use Rattle.standard_tokens.specs.Tokens.{Attr, Token as StandardToken, AChar, AStart, AnEnd}
+use Rattle.page_tokens.proofs.EveryState.{every_state, is_state, same_state, third}
 use Rattle.page_tokens.specs.PlainNames.{NamesArePlain, are_plain, has_plain_names, is_name_char, is_plain}
 
 -- ---- the table: what an entry adds to a name is plain
@@ -272,88 +273,18 @@ attr_name_fits b m (c ∷ rest) = elim (cases_Bool (9 == c)) [
   ]
 ]
 
-fits_in : (s : StandardState) → FitsIn s
+-- Only in the two states in which names are read, that isn't seen of each entry by itself.
+entry_or_name : (s : StandardState) → (list_all entry_fits (entries s) || (is_state s there.TagName || is_state s there.AttributeName)) ≡ true
 unfolding entries
-fits_in there.Data = in_general there.Data refl
-fits_in there.RCDATA = in_general there.RCDATA refl
-fits_in there.RAWTEXT = in_general there.RAWTEXT refl
-fits_in there.ScriptData = in_general there.ScriptData refl
-fits_in there.PLAINTEXT = in_general there.PLAINTEXT refl
-fits_in there.TagOpen = in_general there.TagOpen refl
-fits_in there.EndTagOpen = in_general there.EndTagOpen refl
-fits_in there.TagName = tag_name_fits
-fits_in there.RCDATALessThanSign = in_general there.RCDATALessThanSign refl
-fits_in there.RCDATAEndTagOpen = in_general there.RCDATAEndTagOpen refl
-fits_in there.RCDATAEndTagName = in_general there.RCDATAEndTagName refl
-fits_in there.RAWTEXTLessThanSign = in_general there.RAWTEXTLessThanSign refl
-fits_in there.RAWTEXTEndTagOpen = in_general there.RAWTEXTEndTagOpen refl
-fits_in there.RAWTEXTEndTagName = in_general there.RAWTEXTEndTagName refl
-fits_in there.ScriptDataLessThanSign = in_general there.ScriptDataLessThanSign refl
-fits_in there.ScriptDataEndTagOpen = in_general there.ScriptDataEndTagOpen refl
-fits_in there.ScriptDataEndTagName = in_general there.ScriptDataEndTagName refl
-fits_in there.ScriptDataEscapeStart = in_general there.ScriptDataEscapeStart refl
-fits_in there.ScriptDataEscapeStartDash = in_general there.ScriptDataEscapeStartDash refl
-fits_in there.ScriptDataEscaped = in_general there.ScriptDataEscaped refl
-fits_in there.ScriptDataEscapedDash = in_general there.ScriptDataEscapedDash refl
-fits_in there.ScriptDataEscapedDashDash = in_general there.ScriptDataEscapedDashDash refl
-fits_in there.ScriptDataEscapedLessThanSign = in_general there.ScriptDataEscapedLessThanSign refl
-fits_in there.ScriptDataEscapedEndTagOpen = in_general there.ScriptDataEscapedEndTagOpen refl
-fits_in there.ScriptDataEscapedEndTagName = in_general there.ScriptDataEscapedEndTagName refl
-fits_in there.ScriptDataDoubleEscapeStart = in_general there.ScriptDataDoubleEscapeStart refl
-fits_in there.ScriptDataDoubleEscaped = in_general there.ScriptDataDoubleEscaped refl
-fits_in there.ScriptDataDoubleEscapedDash = in_general there.ScriptDataDoubleEscapedDash refl
-fits_in there.ScriptDataDoubleEscapedDashDash = in_general there.ScriptDataDoubleEscapedDashDash refl
-fits_in there.ScriptDataDoubleEscapedLessThanSign = in_general there.ScriptDataDoubleEscapedLessThanSign refl
-fits_in there.ScriptDataDoubleEscapeEnd = in_general there.ScriptDataDoubleEscapeEnd refl
-fits_in there.BeforeAttributeName = in_general there.BeforeAttributeName refl
-fits_in there.AttributeName = attr_name_fits
-fits_in there.AfterAttributeName = in_general there.AfterAttributeName refl
-fits_in there.BeforeAttributeValue = in_general there.BeforeAttributeValue refl
-fits_in there.AttributeValueDoubleQuoted = in_general there.AttributeValueDoubleQuoted refl
-fits_in there.AttributeValueSingleQuoted = in_general there.AttributeValueSingleQuoted refl
-fits_in there.AttributeValueUnquoted = in_general there.AttributeValueUnquoted refl
-fits_in there.AfterAttributeValueQuoted = in_general there.AfterAttributeValueQuoted refl
-fits_in there.SelfClosingStartTag = in_general there.SelfClosingStartTag refl
-fits_in there.BogusComment = in_general there.BogusComment refl
-fits_in there.MarkupDeclarationOpen = in_general there.MarkupDeclarationOpen refl
-fits_in there.CommentStart = in_general there.CommentStart refl
-fits_in there.CommentStartDash = in_general there.CommentStartDash refl
-fits_in there.CommentState = in_general there.CommentState refl
-fits_in there.CommentLessThanSign = in_general there.CommentLessThanSign refl
-fits_in there.CommentLessThanSignBang = in_general there.CommentLessThanSignBang refl
-fits_in there.CommentLessThanSignBangDash = in_general there.CommentLessThanSignBangDash refl
-fits_in there.CommentLessThanSignBangDashDash = in_general there.CommentLessThanSignBangDashDash refl
-fits_in there.CommentEndDash = in_general there.CommentEndDash refl
-fits_in there.CommentEnd = in_general there.CommentEnd refl
-fits_in there.CommentEndBang = in_general there.CommentEndBang refl
-fits_in there.DOCTYPEState = in_general there.DOCTYPEState refl
-fits_in there.BeforeDOCTYPEName = in_general there.BeforeDOCTYPEName refl
-fits_in there.DOCTYPEName = in_general there.DOCTYPEName refl
-fits_in there.AfterDOCTYPEName = in_general there.AfterDOCTYPEName refl
-fits_in there.AfterDOCTYPEPublicKeyword = in_general there.AfterDOCTYPEPublicKeyword refl
-fits_in there.BeforeDOCTYPEPublicIdentifier = in_general there.BeforeDOCTYPEPublicIdentifier refl
-fits_in there.DOCTYPEPublicIdentifierDoubleQuoted = in_general there.DOCTYPEPublicIdentifierDoubleQuoted refl
-fits_in there.DOCTYPEPublicIdentifierSingleQuoted = in_general there.DOCTYPEPublicIdentifierSingleQuoted refl
-fits_in there.AfterDOCTYPEPublicIdentifier = in_general there.AfterDOCTYPEPublicIdentifier refl
-fits_in there.BetweenDOCTYPEPublicAndSystemIdentifiers = in_general there.BetweenDOCTYPEPublicAndSystemIdentifiers refl
-fits_in there.AfterDOCTYPESystemKeyword = in_general there.AfterDOCTYPESystemKeyword refl
-fits_in there.BeforeDOCTYPESystemIdentifier = in_general there.BeforeDOCTYPESystemIdentifier refl
-fits_in there.DOCTYPESystemIdentifierDoubleQuoted = in_general there.DOCTYPESystemIdentifierDoubleQuoted refl
-fits_in there.DOCTYPESystemIdentifierSingleQuoted = in_general there.DOCTYPESystemIdentifierSingleQuoted refl
-fits_in there.AfterDOCTYPESystemIdentifier = in_general there.AfterDOCTYPESystemIdentifier refl
-fits_in there.BogusDOCTYPE = in_general there.BogusDOCTYPE refl
-fits_in there.CDATASection = in_general there.CDATASection refl
-fits_in there.CDATASectionBracket = in_general there.CDATASectionBracket refl
-fits_in there.CDATASectionEnd = in_general there.CDATASectionEnd refl
-fits_in there.CharacterReference = in_general there.CharacterReference refl
-fits_in there.NamedCharacterReference = in_general there.NamedCharacterReference refl
-fits_in there.AmbiguousAmpersand = in_general there.AmbiguousAmpersand refl
-fits_in there.NumericCharacterReference = in_general there.NumericCharacterReference refl
-fits_in there.HexadecimalCharacterReferenceStart = in_general there.HexadecimalCharacterReferenceStart refl
-fits_in there.DecimalCharacterReferenceStart = in_general there.DecimalCharacterReferenceStart refl
-fits_in there.HexadecimalCharacterReference = in_general there.HexadecimalCharacterReference refl
-fits_in there.DecimalCharacterReference = in_general there.DecimalCharacterReference refl
-fits_in there.NumericCharacterReferenceEnd = in_general there.NumericCharacterReferenceEnd refl
+entry_or_name = every_state (λ s. list_all entry_fits (entries s) || (is_state s there.TagName || is_state s there.AttributeName)) refl
+
+fits_in : (s : StandardState) → FitsIn s
+fits_in s = go (third (list_all entry_fits (entries s)) (is_state s there.TagName) (is_state s there.AttributeName) (entry_or_name s))
+  where
+    go : (list_all entry_fits (entries s) ≡ true) ⊎ ((is_state s there.TagName ≡ true) ⊎ (is_state s there.AttributeName ≡ true)) → FitsIn s
+    go (inl all) = in_general s all
+    go (inr (inl is)) = subst FitsIn (sym (same_state s there.TagName is)) tag_name_fits
+    go (inr (inr is)) = subst FitsIn (sym (same_state s there.AttributeName is)) attr_name_fits
 
 -- ---- the machine
 

@@ -12,17 +12,15 @@ use Rattle.standard_tokens.specs.Entries.{Switch}
 use Rattle.standard_tokens.specs.Machine.{Machine, at_state, is_name_of, taken}
 use Rattle.standard_tokens.specs.States as there
 use Rattle.standard_tokens.specs.Table.{entries}
-use Rattle.standard_tokens.specs.Tokens.{Attr, AChar}
+use Rattle.standard_tokens.specs.Tokens.{AChar}
 use Rattle.page_tokens.specs.RawEndTags.{AddsNameLetter, BeginsEndTag, end_tag_step_of, less_than_step_of}
-use Rattle.page_tokens.specs.Reading.{text_of}
 use Rattle.page_tokens.specs.Runs.{is_space_of}
-use Rattle.page_tokens.specs.Standard.{AreAttrs, EmitsTag, EndTagHeld, Follows, FollowsStandard, Goes, Held, HoldsAttrs, IsDraft, IsLast, Keeps, Spells, Stands, kind_of}
+use Rattle.page_tokens.specs.Standard.{AreAttrs, EmitsTag, Follows, FollowsStandard, Goes, Held, HoldsAttrs, IsDraft, IsLast, Keeps, Spells, Stands, kind_of}
 use Rattle.page_tokens.specs.StandardStates.{end_tag_state_of, state_of}
 use Rattle.page_tokens.specs.TextStates.{TextGoesOn, raw_state_of}
 use Rattle.page_tokens.specs.declared.attribute.TagAttr.{TagAttr}
 use Rattle.page_tokens.specs.declared.token.TokenKind.{TokenKind}
 use Rattle.page_tokens.specs.declared.tokenizer.Tokenizer.{Tokenizer}
-use Rattle.page_tokens.specs.declared.tokenizer.draft.TagDraft.{TagDraft}
 use Rattle.page_tokens.specs.declared.tokenizer.raw_end_tags.EndTagStep.{EndTagStep}
 use Rattle.page_tokens.specs.declared.tokenizer.raw_end_tags.EndTagStep.TheVariants as ends
 use Rattle.page_tokens.specs.declared.tokenizer.raw_end_tags.LessThanStep.TheVariants as its

@@ -1,9 +1,9 @@
 -- The tokenizer reads the data state and the texts that one kind of end tag ends as the standard does.
-use Rattle.std.specs.Prelude.{◌≡◌, ℕ, Bool, true, false, ◌==◌, cond, List, [], ◌∷◌, ◌++◌, Option, None, Some, Result, Ok, Err, IfOk, OnOk, encode_utf8, refl}
+use Rattle.std.specs.Prelude.{◌≡◌, ℕ, false, ◌==◌, cond, [], ◌∷◌, Option, None, Result, Ok, Err, IfOk, OnOk, encode_utf8, refl}
 use Rattle.std.proofs.lemmas.Bool.{ne_eqb}
-use mathlib.Core.Path.{◌∙◌, sym, ap, subst}
+use mathlib.Core.Path.{sym, subst}
 use Rattle.standard_tokens.specs.Entries.{Current, Emit, replacement, Stay}
-use Rattle.standard_tokens.specs.Machine.{Machine, at_state, taken}
+use Rattle.standard_tokens.specs.Machine.{at_state, taken}
 use Rattle.standard_tokens.specs.States as there
 use Rattle.standard_tokens.specs.Table.{entries}
 use Rattle.standard_tokens.specs.Tokens.{AChar}
@@ -17,7 +17,6 @@ use Rattle.page_tokens.specs.declared.tokenizer.state.EndTagState.TheVariants as
 use Rattle.page_tokens.specs.declared.tokenizer.state.Place.TheVariants as place
 use Rattle.page_tokens.specs.declared.tokenizer.state.Raw.{Raw}
 use Rattle.page_tokens.specs.declared.tokenizer.state.Raw.TheVariants as raw
-use Rattle.page_tokens.specs.declared.tokenizer.state.State.{State}
 use Rattle.page_tokens.specs.declared.tokenizer.state.State.TheVariants as state
 use Rattle.page_tokens.specs.declared.tokenizer.state.TagState.TheVariants as tag
 use Rattle.page_tokens.proofs.StandardSteps.{by_bool, by_entry, taking}

@@ -1,5 +1,5 @@
 -- The end of the page in a character reference.
-use Rattle.std.specs.Prelude.{◌≡◌, ℕ, Bool, false, List, [], ◌∷◌, ◌++◌, map, codes, Option, None, Some, string_bytes, refl}
+use Rattle.std.specs.Prelude.{◌≡◌, ℕ, Bool, false, List, [], ◌∷◌, ◌++◌, map, codes, Some, string_bytes, refl}
 use Rattle.std.proofs.Common.{inl, inr}
 use Rattle.std.specs.Char.{encode_utf8}
 use Rattle.std.specs.Str.{encode_utf8_all}
@@ -14,9 +14,8 @@ use Rattle.standard_tokens.specs.Tokens.{Token as StandardToken, AChar}
 use Rattle.page_tokens.specs.Numbers.{character_of}
 use Rattle.page_tokens.specs.PageEnds.{EndsInReference}
 use Rattle.page_tokens.specs.Reading.{text_of}
-use Rattle.page_tokens.specs.References.{EndsReference, InFront, number_of}
-use Rattle.page_tokens.specs.Standard.{Goes, Held, ReferenceHeld, Stands, StandsInReference}
-use Rattle.page_tokens.specs.StandardStates.{state_in, state_of}
+use Rattle.page_tokens.specs.References.{EndsReference, number_of}
+use Rattle.page_tokens.specs.Standard.{Goes, Held, Stands, StandsInReference}
 use Rattle.page_tokens.specs.declared.tokenizer.Tokenizer.{Tokenizer}
 use Rattle.page_tokens.specs.declared.tokenizer.references.Reference.{Reference}
 use Rattle.page_tokens.specs.declared.tokenizer.references.Reference.TheVariants as reference

@@ -1,13 +1,13 @@
 -- Runs: characters that a state copies one by one, which the tokenizer copies at once.
-use Rattle.std.specs.Prelude.{◌≡◌, ℕ, ◌<◌, Bool, true, false, not, ◌&&◌, List, [], ◌∷◌, ◌++◌, map, encode_utf8, refl}
+use Rattle.std.specs.Prelude.{◌≡◌, ℕ, ◌<◌, Bool, true, false, not, List, [], ◌∷◌, ◌++◌, map, encode_utf8, refl}
 use Rattle.std.specs.List.{list_all}
 use Rattle.std.specs.Str.{encode_utf8_all}
-use Rattle.std.proofs.lemmas.Bool.{and_parts, true≢false}
+use Rattle.std.proofs.lemmas.Bool.{and_parts}
 use Rattle.std.proofs.lemmas.List.{append-nil, append_assoc}
 use Rattle.std.proofs.lemmas.Str.{encode_ascii}
 use mathlib.Core.Path.{◌∙◌, sym, ap, subst}
 use Rattle.standard_tokens.specs.Machine.{Machine}
-use Rattle.standard_tokens.specs.Tokens.{Token as StandardToken, AChar}
+use Rattle.standard_tokens.specs.Tokens.{AChar}
 use Rattle.page_tokens.specs.Standard.{Goes, stays}
 use Rattle.page_tokens.proofs.StandardSteps.{then_on}
 

@@ -1,5 +1,5 @@
 -- The tokenizer reads escaped script data as the standard does.
-use Rattle.std.specs.Prelude.{◌≡◌, ℕ, Bool, true, false, List, [], ◌∷◌, ◌++◌, codes, Option, None, Some, Result, Ok, Err, IfOk, OnOk, string_bytes, refl}
+use Rattle.std.specs.Prelude.{◌≡◌, ℕ, Bool, true, false, List, [], ◌∷◌, ◌++◌, codes, Option, None, Result, Ok, Err, IfOk, OnOk, string_bytes, refl}
 use Rattle.std.specs.Char.{encode_utf8, to_ascii_lowercase}
 use Rattle.std.specs.Str.{bytes_eq, encode_utf8_all}
 use Rattle.std.proofs.lemmas.List.{append-nil}
@@ -8,7 +8,6 @@ use Rattle.standard_tokens.specs.Machine.{Machine, at_state}
 use Rattle.standard_tokens.specs.States as there
 use Rattle.standard_tokens.specs.Tokens.{AChar}
 use Rattle.page_tokens.specs.Comments.{shown_of}
-use Rattle.page_tokens.specs.Reading.{text_of}
 use Rattle.page_tokens.specs.ScriptStates.{AddsLetter, behind_name_of, doubled, script_step_of}
 use Rattle.page_tokens.specs.Standard.{Follows, FollowsStandard, Goes, Held, Spells, Stands}
 use Rattle.page_tokens.specs.StandardStates.{script_state_of, state_of}

@@ -1,9 +1,9 @@
 -- What a character in escaped script data does, in the standard.
 use Rattle.std.specs.Prelude.{◌≡◌, ℕ, Bool, true, false, ◌==◌, ◌||◌, ◌&&◌, nat_le, cond, List, [], ◌∷◌, ◌++◌, codes, refl}
 use Rattle.std.proofs.Common.{arith}
-use Rattle.std.specs.Char.{is_ascii_alphabetic, is_ascii_uppercase, to_ascii_lowercase}
+use Rattle.std.specs.Char.{is_ascii_alphabetic, to_ascii_lowercase}
 use Rattle.std.specs.Str.{bytes_eq}
-use mathlib.Core.Path.{◌∙◌, sym, ap, subst}
+use mathlib.Core.Path.{sym, subst}
 use Rattle.standard_tokens.specs.Entries.{Add, Buffer, Current, Emit, Lower, Reconsume, SetEmpty, Stay, Switch, These, replacement}
 use Rattle.standard_tokens.specs.Machine.{Machine, at_state, taken}
 use Rattle.standard_tokens.specs.States as there
@@ -17,7 +17,6 @@ use Rattle.page_tokens.specs.StandardStates.{script_state_of, state_of}
 use Rattle.page_tokens.specs.declared.tokenizer.Tokenizer.{Tokenizer}
 use Rattle.page_tokens.specs.declared.tokenizer.script_data.ScriptStep.{ScriptStep}
 use Rattle.page_tokens.specs.declared.tokenizer.script_data.ScriptStep.TheVariants as its
-use Rattle.page_tokens.specs.declared.tokenizer.state.DoubleState.{DoubleState}
 use Rattle.page_tokens.specs.declared.tokenizer.state.DoubleState.TheVariants as double
 use Rattle.page_tokens.specs.declared.tokenizer.state.EndTagState.TheVariants as end_tag
 use Rattle.page_tokens.specs.declared.tokenizer.state.Raw.TheVariants as raw

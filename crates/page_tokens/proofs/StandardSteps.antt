@@ -1,8 +1,8 @@
 -- Steps of the standard's machine, one behind the other.
-use Rattle.std.specs.Prelude.{◌≡◌, ℕ, Bool, true, false, ◌==◌, cond, List, [], ◌∷◌, ◌++◌, refl}
+use Rattle.std.specs.Prelude.{◌≡◌, ℕ, Bool, true, false, ◌==◌, cond, List, ◌++◌, refl}
 use Rattle.std.proofs.lemmas.Bool.{eqb-true, eqb-false, ne_eqb}
 use Rattle.std.proofs.lemmas.List.{append-nil, append_assoc}
-use mathlib.Core.Path.{◌∙◌, sym, ap, subst}
+use mathlib.Core.Path.{sym, ap, subst}
 use Rattle.standard_tokens.specs.Entries.{Act, Then}
 use Rattle.standard_tokens.specs.Machine.{Machine, Step, Taken, all_emitted, at_state, step, step_by, stops, taken}
 use Rattle.standard_tokens.specs.States.{State as StandardState}

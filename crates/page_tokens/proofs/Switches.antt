@@ -1,8 +1,8 @@
 -- The two most frequent kinds of entry: the character only changes the state, or it is read again in another state.
-use Rattle.std.specs.Prelude.{◌≡◌, ℕ, Bool, true, false, List, [], ◌∷◌, ◌++◌, Option, None, Some, refl}
+use Rattle.std.specs.Prelude.{◌≡◌, ℕ, Bool, false, List, [], ◌∷◌, ◌++◌, Option, None, refl}
 use mathlib.Core.Path.{◌∙◌, sym, ap, subst}
 use Rattle.standard_tokens.specs.Entries.{Switch, Reconsume}
-use Rattle.standard_tokens.specs.Machine.{Machine, Taken, at_state, taken}
+use Rattle.standard_tokens.specs.Machine.{Machine, at_state, taken}
 use Rattle.standard_tokens.specs.Table.{entries}
 use Rattle.page_tokens.specs.Changes.{Remembers}
 use Rattle.page_tokens.specs.Reading.{text_of}
@@ -11,7 +11,7 @@ use Rattle.page_tokens.specs.StandardStates.{state_of}
 use Rattle.page_tokens.specs.declared.token.TokenKind.{TokenKind}
 use Rattle.page_tokens.specs.declared.tokenizer.Tokenizer.{Tokenizer}
 use Rattle.page_tokens.specs.declared.tokenizer.state.State.{State}
-use Rattle.page_tokens.proofs.DeclarationFollows.{Leads, led, through}
+use Rattle.page_tokens.proofs.DeclarationFollows.{led, through}
 use Rattle.page_tokens.proofs.StandardSteps.{by_entry, in_its_state, taking}
 
 -- nothing is read ahead in the state

@@ -1,8 +1,8 @@
 -- What the calls that a state of tags or attributes makes come to, of their results.
-use Rattle.std.specs.Prelude.{◌≡◌, ℕ, ◌<◌, false, List, [], ◌∷◌, length, Option, None, Result, Ok, Err, IfOk, OnOk, string_bytes, encode_utf8, refl}
+use Rattle.std.specs.Prelude.{◌≡◌, ℕ, ◌<◌, false, [], ◌∷◌, length, Option, None, Result, Ok, Err, IfOk, OnOk, string_bytes, encode_utf8}
 use mathlib.Core.Path.{◌∙◌, sym, ap, subst}
 use Rattle.standard_tokens.specs.Entries.{Reconsume}
-use Rattle.standard_tokens.specs.Machine.{Machine, Tag as StandardTag}
+use Rattle.standard_tokens.specs.Machine.{Tag as StandardTag}
 use Rattle.page_tokens.specs.Changes.{Remembers}
 use Rattle.page_tokens.specs.Comments.{shown_of}
 use Rattle.page_tokens.specs.Standard.{EmitsTag, Follows, FollowsStandard, IsDraft, Keeps}

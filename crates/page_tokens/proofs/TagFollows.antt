@@ -1,22 +1,19 @@
 -- The tokenizer reads the letters of names and the ends of tags as the standard does.
-use Rattle.std.specs.Prelude.{◌≡◌, ℕ, ◌<◌, Bool, true, false, List, [], ◌∷◌, ◌++◌, map, length, reverse, Option, None, Some, string_bytes, encode_utf8, MatchBool, refl}
-use Rattle.std.proofs.Common.{inl, inr, arith}
+use Rattle.std.specs.Prelude.{◌≡◌, ℕ, ◌<◌, Bool, true, false, List, [], ◌∷◌, ◌++◌, map, length, reverse, Option, None, Some, string_bytes, MatchBool, refl}
+use Rattle.std.proofs.Common.{arith}
 use Rattle.std.specs.Char.{to_ascii_lowercase}
 use Rattle.std.specs.List.{list_any}
 use Rattle.std.specs.Option.{IsSomeAnd}
 use Rattle.std.specs.Str.{encode_utf8_all}
-use Rattle.std.proofs.lemmas.List.{append-nil, length-append}
 use mathlib.Core.Path.{◌∙◌, sym, ap, subst}
 use Rattle.standard_tokens.specs.Entries.{TagKind as StandardKind, Starting, Ending}
-use Rattle.standard_tokens.specs.Machine.{Machine, Tag as StandardTag, distinct, last_start_of}
-use Rattle.standard_tokens.specs.States as there
+use Rattle.standard_tokens.specs.Machine.{Tag as StandardTag, distinct, last_start_of}
 use Rattle.standard_tokens.specs.Tokens.{Attr}
 use Rattle.page_tokens.specs.Attributes.{AddsAttr, is_named}
-use Rattle.page_tokens.specs.Comments.{shown_of}
 use Rattle.page_tokens.specs.Drafts.{FinishesAttr, IsTagOf, NotesKind, NotesStart}
 use Rattle.page_tokens.specs.Changes.{Remembers}
 use Rattle.page_tokens.specs.Reading.{text_of}
-use Rattle.page_tokens.specs.Standard.{AreAttrs, EmitsTag, HoldsAttrs, IsDraft, IsLast, IsTag, Spells, kind_of}
+use Rattle.page_tokens.specs.Standard.{AreAttrs, EmitsTag, HoldsAttrs, IsDraft, IsLast, IsTag, kind_of}
 use Rattle.page_tokens.specs.declared.attribute.TagAttr.{TagAttr}
 use Rattle.page_tokens.specs.declared.token.Tag.{Tag}
 use Rattle.page_tokens.specs.declared.token.TagKind.{TagKind}

@@ -1,5 +1,5 @@
 -- What a call in a state of tags or attributes has to show, once the machine is put in front of the character.
-use Rattle.std.specs.Prelude.{◌≡◌, ℕ, ◌<◌, ◌==◌, ◌||◌, Bool, true, false, List, [], ◌∷◌, ◌++◌, length, Option, None, Some, string_bytes, refl}
+use Rattle.std.specs.Prelude.{◌≡◌, ℕ, ◌<◌, ◌==◌, ◌||◌, Bool, true, false, List, [], ◌∷◌, ◌++◌, length, Option, None, string_bytes, refl}
 use Rattle.std.proofs.Common.{inl}
 use Rattle.std.proofs.lemmas.List.{append-nil}
 use mathlib.Core.Path.{◌∙◌, sym, ap, subst}
@@ -10,7 +10,6 @@ use Rattle.standard_tokens.specs.States.{State as StandardState}
 use Rattle.standard_tokens.specs.Table.{entries}
 use Rattle.page_tokens.specs.Changes.{Remembers}
 use Rattle.page_tokens.specs.Reading.{text_of}
-use Rattle.page_tokens.specs.Runs.{is_space_of}
 use Rattle.page_tokens.specs.Standard.{EmitsTag, FollowsStandard, Goes, Held, IsDraft, IsLast, Keeps, Leaves, Stands, Told}
 use Rattle.page_tokens.specs.StandardStates.{state_of}
 use Rattle.page_tokens.specs.TagStates.{ends_name_of}
@@ -20,7 +19,7 @@ use Rattle.page_tokens.specs.declared.tokenizer.state.State.{State}
 use Rattle.page_tokens.proofs.DeclarationFollows.{Leads, led, through}
 use Rattle.page_tokens.proofs.StandardSteps.{by_bool, by_entry, in_its_state, taking}
 use Rattle.page_tokens.proofs.Switches.{HoldsAlso, ReadsNothingAhead}
-use Rattle.page_tokens.proofs.TagNames.{HoldsDraft, differs, space_cases}
+use Rattle.page_tokens.proofs.TagNames.{HoldsDraft, differs}
 use Rattle.page_tokens.proofs.TagSteps.{IsNameLetter}
 
 -- ---- entries of the table

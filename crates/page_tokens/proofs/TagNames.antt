@@ -1,16 +1,14 @@
 -- The tokenizer reads the names of tags as the standard does.
-use Rattle.std.specs.Prelude.{◌≡◌, ℕ, ◌<◌, Bool, true, false, ◌==◌, ◌||◌, List, [], ◌∷◌, ◌++◌, map, length, Option, None, Some, Result, Ok, Err, IfOk, OnOk, string_bytes, encode_utf8, refl}
-use Rattle.std.proofs.Common.{inl, inr, arith}
+use Rattle.std.specs.Prelude.{◌≡◌, ℕ, ◌<◌, Bool, true, false, ◌==◌, ◌||◌, List, [], ◌∷◌, ◌++◌, map, length, Option, None, Result, Ok, Err, IfOk, OnOk, string_bytes, encode_utf8, refl}
+use Rattle.std.proofs.Common.{inl, arith}
 use Rattle.std.specs.Char.{to_ascii_lowercase}
-use Rattle.std.specs.Str.{encode_utf8_all}
 use Rattle.std.proofs.lemmas.Bool.{ne_eqb, true≢false}
-use Rattle.std.proofs.lemmas.List.{append-nil, length-append}
+use Rattle.std.proofs.lemmas.List.{append-nil}
 use mathlib.Core.Path.{◌∙◌, sym, ap, subst}
 use Rattle.standard_tokens.specs.Entries.{EmitTag, Switch}
-use Rattle.standard_tokens.specs.Machine.{Machine, Tag as StandardTag, at_state, last_start_of, taken, token_of}
+use Rattle.standard_tokens.specs.Machine.{Machine, at_state, last_start_of, taken, token_of}
 use Rattle.standard_tokens.specs.States as there
 use Rattle.standard_tokens.specs.Table.{entries}
-use Rattle.standard_tokens.specs.Tokens.{Token as StandardToken}
 use Rattle.page_tokens.specs.Changes.{Gains, Remembers}
 use Rattle.page_tokens.specs.Comments.{shown_of}
 use Rattle.page_tokens.specs.Reading.{text_of}
@@ -18,18 +16,16 @@ use Rattle.page_tokens.specs.Runs.{is_space_of}
 use Rattle.page_tokens.specs.Standard.{EmitsTag, Follows, FollowsStandard, Goes, Held, IsDraft, Keeps, Stands, Told}
 use Rattle.page_tokens.specs.StandardStates.{state_of}
 use Rattle.page_tokens.specs.declared.token.TokenKind.{TokenKind}
-use Rattle.page_tokens.specs.declared.token.TokenKind.TheVariants as token
 use Rattle.page_tokens.specs.declared.tokenizer.Tokenizer.{Tokenizer}
-use Rattle.page_tokens.specs.declared.tokenizer.draft.TagDraft.{TagDraft}
 use Rattle.page_tokens.specs.declared.tokenizer.state.AttrState.TheVariants as attr
 use Rattle.page_tokens.specs.declared.tokenizer.state.Place.TheVariants as place
 use Rattle.page_tokens.specs.declared.tokenizer.state.State.{State}
 use Rattle.page_tokens.specs.declared.tokenizer.state.State.TheVariants as state
 use Rattle.page_tokens.specs.declared.tokenizer.state.TagState.TheVariants as tag
-use Rattle.page_tokens.proofs.DeclarationFollows.{Leads, led}
+use Rattle.page_tokens.proofs.DeclarationFollows.{led}
 use Rattle.page_tokens.proofs.Lowered.{one_lowered}
 use Rattle.page_tokens.proofs.StandardSteps.{by_bool, by_entry, in_its_state, taking}
-use Rattle.page_tokens.proofs.Switches.{HoldsAlso, ReadsNothingAhead, switches}
+use Rattle.page_tokens.proofs.Switches.{ReadsNothingAhead, switches}
 use Rattle.page_tokens.proofs.TagSteps.{IsNameLetter, name_letter, naming}
 
 -- ---- a tag is emitted

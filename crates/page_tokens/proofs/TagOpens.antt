@@ -4,15 +4,15 @@ use Rattle.std.proofs.Common.{arith}
 use Rattle.std.proofs.lemmas.Bool.{ne_eqb, true≢false}
 use Rattle.std.specs.Char.{encode_utf8, is_ascii_alphabetic, to_ascii_lowercase}
 use mathlib.Core.Path.{◌∙◌, sym, ap, subst}
-use Rattle.standard_tokens.specs.Entries.{Emit, Ending, NewComment, NewTag, Reconsume, Starting, Switch, These, TagKind as StandardKind}
-use Rattle.standard_tokens.specs.Machine.{Machine, Tag as StandardTag, at_state, taken}
+use Rattle.standard_tokens.specs.Entries.{Emit, Ending, NewComment, NewTag, Reconsume, Starting, These, TagKind as StandardKind}
+use Rattle.standard_tokens.specs.Machine.{Machine, at_state, taken}
 use Rattle.standard_tokens.specs.States as there
 use Rattle.standard_tokens.specs.States.{State as StandardState}
 use Rattle.standard_tokens.specs.Table.{entries}
 use Rattle.page_tokens.specs.Changes.{Remembers}
 use Rattle.page_tokens.specs.Comments.{shown_of}
 use Rattle.page_tokens.specs.Reading.{text_of}
-use Rattle.page_tokens.specs.Standard.{AreAttrs, Follows, FollowsStandard, Goes, HoldsAttrs, IsDraft, Stands, kind_of}
+use Rattle.page_tokens.specs.Standard.{Follows, FollowsStandard, Goes, HoldsAttrs, IsDraft, Stands, kind_of}
 use Rattle.page_tokens.specs.StandardStates.{state_of}
 use Rattle.page_tokens.specs.TagStates.{BeginsBogus, BeginsTag}
 use Rattle.page_tokens.specs.TextStates.{TextGoesOn}

@@ -1,17 +1,17 @@
 -- What the characters of a tag do, in the standard.
-use Rattle.std.specs.Prelude.{◌≡◌, ℕ, ◌+◌, Bool, true, false, not, ◌==◌, ◌||◌, ◌&&◌, nat_le, cond, List, [], ◌∷◌, ◌++◌, map, codes, refl}
+use Rattle.std.specs.Prelude.{◌≡◌, ℕ, Bool, true, false, ◌==◌, ◌&&◌, nat_le, cond, List, [], ◌∷◌, ◌++◌, refl}
 use Rattle.std.proofs.Common.{arith}
 use Rattle.std.specs.Char.{to_ascii_lowercase}
-use mathlib.Core.Path.{◌∙◌, sym, ap, subst}
-use Rattle.standard_tokens.specs.Entries.{Add, AttrName, AttrValue, TheTagName, Current, Lower, NewAttr, NewTag, TagKind, replacement, Stay, Reconsume}
-use Rattle.standard_tokens.specs.Machine.{Machine, Tag, at_state, taken}
+use mathlib.Core.Path.{sym, subst}
+use Rattle.standard_tokens.specs.Entries.{Add, AttrName, TheTagName, Current, Lower, replacement, Stay}
+use Rattle.standard_tokens.specs.Machine.{Machine, taken}
 use Rattle.standard_tokens.specs.States as there
 use Rattle.standard_tokens.specs.States.{State as StandardState}
 use Rattle.standard_tokens.specs.Table.{entries}
 use Rattle.standard_tokens.specs.Tokens.{Attr}
 use Rattle.page_tokens.specs.Comments.{shown_of}
 use Rattle.page_tokens.specs.Standard.{Goes}
-use Rattle.page_tokens.proofs.StandardSteps.{by_bool, by_entry, taking, then_on}
+use Rattle.page_tokens.proofs.StandardSteps.{by_bool, by_entry, taking}
 
 -- a character that does not end a name
 pub record IsNameLetter (c : ℕ) : Type 0 where

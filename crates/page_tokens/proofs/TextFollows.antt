@@ -1,16 +1,15 @@
 -- The tokenizer reads characters outside of tags as the standard does.
-use Rattle.std.specs.Prelude.{◌≡◌, ℕ, Bool, true, false, ◌==◌, cond, List, [], ◌∷◌, ◌++◌, map, Option, None, Some, Result, Ok, Err, IfOk, OnOk, string_bytes, encode_utf8, refl}
+use Rattle.std.specs.Prelude.{◌≡◌, ℕ, Bool, false, List, [], ◌∷◌, ◌++◌, map, Option, None, string_bytes, encode_utf8, refl}
 use Rattle.std.proofs.Common.{inl, inr}
 use Rattle.std.specs.Str.{encode_utf8_all}
-use Rattle.std.proofs.lemmas.Bool.{ne_eqb}
 use Rattle.std.proofs.lemmas.List.{append-nil, append_assoc}
 use Rattle.std.proofs.lemmas.Str.{encodes-append}
 use mathlib.Core.Path.{◌∙◌, sym, ap, subst}
-use Rattle.standard_tokens.specs.Entries.{Act, Current, Emit, ReturnTo, Switch, Then}
+use Rattle.standard_tokens.specs.Entries.{ReturnTo, Switch}
 use Rattle.standard_tokens.specs.Machine.{Machine, at_state, taken}
 use Rattle.standard_tokens.specs.States as there
 use Rattle.standard_tokens.specs.Table.{entries}
-use Rattle.standard_tokens.specs.Tokens.{Token as StandardToken, AChar}
+use Rattle.standard_tokens.specs.Tokens.{AChar}
 use Rattle.page_tokens.specs.Changes.{Gains, Remembers}
 use Rattle.page_tokens.specs.Comments.{shown_of}
 use Rattle.page_tokens.specs.Reading.{text_of}
@@ -22,8 +21,8 @@ use Rattle.page_tokens.specs.declared.tokenizer.Tokenizer.{Tokenizer}
 use Rattle.page_tokens.specs.declared.tokenizer.references.Reference.TheVariants as reference
 use Rattle.page_tokens.specs.declared.tokenizer.state.Place.TheVariants as place
 use Rattle.page_tokens.specs.declared.tokenizer.state.State.{State}
-use Rattle.page_tokens.proofs.StandardSteps.{by_bool, by_entry, in_its_state, taking, then_on}
-use Rattle.page_tokens.proofs.Switches.{ReadsNothingAhead, switches}
+use Rattle.page_tokens.proofs.StandardSteps.{by_entry, in_its_state, taking, then_on}
+use Rattle.page_tokens.proofs.Switches.{ReadsNothingAhead}
 
 -- ---- characters are emitted
 

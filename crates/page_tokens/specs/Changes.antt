@@ -1,5 +1,5 @@
 -- What the small steps of the tokenizer change.
-use Rattle.std.specs.Prelude.{◌≡◌, ℕ, Bool, false, List, ◌++◌, string_bytes}
+use Rattle.std.specs.Prelude.{◌≡◌, ℕ, false, List, ◌++◌, string_bytes}
 use Rattle.page_tokens.specs.declared.tokenizer.Tokenizer.{Tokenizer}
 use Rattle.page_tokens.specs.declared.tokenizer.state.CommentState.{CommentState}
 use Rattle.page_tokens.specs.declared.tokenizer.state.Place.{Place}

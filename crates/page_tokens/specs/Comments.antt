@@ -1,5 +1,5 @@
 -- What a character in a comment does.
-use Rattle.std.specs.Prelude.{◌≡◌, ℕ, ◌==◌, cond, List, [], ◌∷◌, codes}
+use Rattle.std.specs.Prelude.{ℕ, ◌==◌, cond, List, [], ◌∷◌, codes}
 use Rattle.page_tokens.specs.declared.tokenizer.comments.CommentStep.{CommentStep}
 use Rattle.page_tokens.specs.declared.tokenizer.comments.CommentStep.TheVariants as its
 use Rattle.page_tokens.specs.declared.tokenizer.state.CommentState.{CommentState}

@@ -43,6 +43,12 @@ CharactersAreTold = (cdata : Bool) (f : Feedback) (first : StandardState) (read 
     (characters : List ℕ) → text_of old ≡ encode_utf8_all characters →
     HasRead cdata f first read (told ++ map AChar characters) new
 
+-- parse errors are asked for or taken
+abbrev pub ErrorsChangeNothing : Type 0
+ErrorsChangeNothing = (cdata : Bool) (f : Feedback) (first : StandardState) (read : List ℕ) (told : List StandardToken)
+    (old new : Tokenizer) → HasRead cdata f first read told old → new ≡ record old { errors = new.errors } →
+    HasRead cdata f first read told new
+
 -- the state is the one to which tree construction switches, or it stays
 abbrev pub IsAnswered : Option StandardState → Tokenizer → Tokenizer → Type 0
 IsAnswered None old new = new.state ≡ old.state

@@ -1,5 +1,5 @@
 -- What a tokenizer has read so far.
-use Rattle.std.specs.Prelude.{◌≡◌, ℕ, false, List, [], ◌++◌, Option, None, Result, IfOk, string_bytes}
+use Rattle.std.specs.Prelude.{◌≡◌, ℕ, ◌≤◌, ◌-◌, false, List, [], ◌++◌, length, Option, None, Result, IfOk, string_bytes}
 use Rattle.std.specs.Borrow.{Bor}
 use Rattle.page_tokens.specs.declared.tokenizer.Tokenizer.{Tokenizer}
 use Rattle.page_tokens.specs.declared.tokenizer.references.Reference.TheVariants.{None as NoReference}
@@ -36,3 +36,7 @@ ReadsWhole old new text result = IfOk result (λ rest. (rest.now ≡ []) × Adds
 abbrev pub ReadsRun : {T E : Type 0} → Tokenizer → Tokenizer → List ℕ → Option T → Option T → Result (Bor (List ℕ)) E → Type 0
 ReadsRun old new text before after result =
     IsInText old → old.errors ≡ None → IsRun text → IfOk result (λ rest. (rest.now ≡ []) × (after ≡ before) × AddsText old new text)
+
+-- less text is left than the call was given, or none
+abbrev pub LeavesLess : {E : Type 0} → List ℕ → Result (Bor (List ℕ)) E → Type 0
+LeavesLess text result = IfOk result (λ rest. length rest.now ≤ length text - 1)

@@ -1,5 +1,5 @@
 -- Escaped script data.
-use Rattle.std.specs.Prelude.{◌≡◌, ℕ, ◌==◌, ◌||◌, Bool, true, false, cond, ◌++◌, codes, encode_utf8, string_bytes}
+use Rattle.std.specs.Prelude.{◌≡◌, ℕ, ◌==◌, ◌||◌, Bool, true, false, cond, ◌++◌, encode_utf8, string_bytes}
 use Rattle.std.specs.Char.{is_ascii_alphabetic, to_ascii_lowercase}
 use Rattle.page_tokens.specs.Runs.{is_space_of}
 use Rattle.page_tokens.specs.declared.tokenizer.Tokenizer.{Tokenizer}

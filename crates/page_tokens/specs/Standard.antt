@@ -19,7 +19,6 @@ use Rattle.page_tokens.specs.declared.tokenizer.draft.TagDraft.{TagDraft}
 use Rattle.page_tokens.specs.declared.tokenizer.references.Reference.{Reference}
 use Rattle.page_tokens.specs.declared.tokenizer.references.Reference.TheVariants as reference
 use Rattle.page_tokens.specs.declared.tokenizer.state.AttrState.TheVariants as attr
-use Rattle.page_tokens.specs.declared.tokenizer.state.CommentState.{CommentState}
 use Rattle.page_tokens.specs.declared.tokenizer.state.DoctypeState.{DoctypeState}
 use Rattle.page_tokens.specs.declared.tokenizer.state.DoctypeState.TheVariants as doctype
 use Rattle.page_tokens.specs.declared.tokenizer.state.EndTagState.TheVariants as end_tag

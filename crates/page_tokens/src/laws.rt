@@ -1,7 +1,7 @@
 //! Laws of the tokenizer. The functions do nothing at run time; their contracts are the theorems.
 
 ghost use Rattle.page_tokens.specs.PageLaws.{CallsReadTexts, CallsReadTokens, CharactersAreTold};
-ghost use Rattle.page_tokens.specs.PageLaws.{PagesBegin, PagesEnd};
+ghost use Rattle.page_tokens.specs.PageLaws.{ErrorsChangeNothing, PagesBegin, PagesEnd};
 ghost use Rattle.page_tokens.specs.PageLaws.{PiecesAreOneText, TextsAreRead, TokensAreRead};
 ghost use Rattle.page_tokens.specs.PlainNames.{NamesArePlain};
 ghost use Rattle.page_tokens.specs.SameNames.{TablesAreTheSame};
@@ -35,6 +35,11 @@ pub fn pages()
 pub fn calls()
     ensures texts { CallsReadTexts }
     ensures tokens { CallsReadTokens }
+{}
+
+/// Parse errors may be asked for and taken anywhere in a page: what is read stays as it is.
+pub fn errors()
+    ensures { ErrorsChangeNothing }
 {}
 
 /// The names of tags and of their attributes contain no white space, no `/`, no `>` and no ASCII

@@ -28,7 +28,6 @@ use crate::parse_error::ErrorAt;
 use crate::token::{Doctype, Tag, Token, TokenKind};
 use draft::TagDraft;
 use references::Reference;
-pub use runs::MARKS;
 pub use state::State;
 use state::{Raw, ScriptState};
 use std::alloc::{AllocError, Global};

@@ -1,6 +1,6 @@
 //! The end of the page.
 
-ghost use Rattle.std.specs.Prelude.{◌≡◌, [], IfOk, None, Some, false, string_bytes};
+ghost use Rattle.std.specs.Prelude.{◌≡◌, ◌≢◌, [], IfOk, None, Some, false, string_bytes};
 ghost use Rattle.page_tokens.specs.declared.tokenizer.state.State.TheVariants.{Data};
 
 use super::state::{CommentState, DoctypeState, Raw, ScriptState, TagState};
@@ -57,6 +57,7 @@ impl Tokenizer {
     pub fn end_kind(&mut self) -> Result<Option<TokenKind>, AllocError>
         ensures text { IsInText self.old → ReadsNoToken self.old self.new [] result }
         ensures stops { EndsAsStandard self.old self.new result }
+        ensures no_tag { IfOk result (λ kind. kind ≢ Some TokenKind.Tag) }
     {
         self.end_reference();
         self.report(error_at_end(self.state));
@@ -68,6 +69,7 @@ impl Tokenizer {
     fn end_of_mark(&mut self) -> Option<TokenKind>
         ensures text { self.old.state ≡ Data → (result ≡ None) × (self.new ≡ self.old) }
         ensures stops { self.new.refused ≡ false → EndsMark self.old self.new result }
+        ensures no_tag { result ≢ Some TokenKind.Tag }
     {
         match self.state {
             State::Declaration(_) => self.end_comment(),

@@ -44,7 +44,10 @@ impl Tokenizer {
 
     /// Takes the parse errors that were collected, in the order in which they were found. In each
     /// part of the page, characters that aren't allowed are found before the other errors.
-    pub fn take_errors(&mut self) -> Vec<ErrorAt> {
+    pub fn take_errors(&mut self) -> Vec<ErrorAt>
+        ensures only { self.new ≡ record self.old { errors = self.new.errors } }
+        ensures place { KeepsPlace self.old self.new }
+    {
         match &mut self.errors {
             Some(errors) => mem::replace(errors, Vec::new(self.alloc)),
             None => Vec::new(self.alloc),

@@ -13,12 +13,9 @@ use super::state::{
     AttrState, CdataState, CommentState, DoctypeState, DoubleState, Id, Quote, ScriptState, Seen,
     TagState,
 };
-use super::{Progress, Rest, State, Step, Tokenizer, append};
+use super::{Rest, State, Tokenizer, append};
 use crate::token::{Token, TokenKind};
 use std::alloc::AllocError;
-
-/// The character that can end a token. A page can be split after each of them.
-pub const MARKS: char = '>';
 
 /// The places whose characters are copied unchanged.
 #[derive(Clone, Copy, Drop)]
@@ -226,6 +223,30 @@ pub fn run_len(run: Run, text: &str) -> usize
     text.len()
 }
 
+/// Returns whether a part of the text that is read at once ends with this byte, where parse errors
+/// are collected: with `>`, which can end a token, and in foreign content with `[`, behind which
+/// tree construction can have to process characters first.
+fn ends_part(byte: u8, in_foreign: bool) -> bool
+    ensures { result ≡ true → byte < 128 }
+{
+    byte == b'>' || (in_foreign && byte == b'[')
+}
+
+/// Returns the length of the part of the text that is read at once where parse errors are
+/// collected.
+fn part_len(text: &str, in_foreign: bool) -> usize
+    ensures boundary { IsCharBoundary text.now result }
+    ensures some { 0 < length text.now → 0 < result }
+{
+    let bytes = text.as_bytes();
+    for index in 0..bytes.len() {
+        if ends_part(bytes[index], in_foreign) {
+            return index + 1;
+        }
+    }
+    text.len()
+}
+
 /// Splits off the first character.
 #[inline(always)]
 fn split_char(text: &str) -> Option<(char, &str)>
@@ -241,29 +262,20 @@ fn split_char(text: &str) -> Option<(char, &str)>
 impl Tokenizer {
     ghost use Rattle.page_tokens.specs.FastPaths.{CopiesRun, FollowsRun};
     ghost use Rattle.page_tokens.specs.Reading.{IsInText, AddsText};
-    ghost use Rattle.page_tokens.specs.Reading.{ReadsNoToken, ReadsRun, ReadsWhole};
+    ghost use Rattle.page_tokens.specs.Reading.{LeavesLess, ReadsRun, ReadsWhole};
     ghost use Rattle.page_tokens.specs.StandardPages.{ReadsAsStandard, ReadsUpTo};
     ghost use Rattle.page_tokens.specs.Tags.{ReadsPlainTag, TakesPlainTag};
     ghost use Rattle.page_tokens.specs.TakenTokens.{TakesUpTo};
-
-    /// Reads a part of a page that contains [`MARKS`] at its end or not at all;
-    /// `split_inclusive(MARKS)` splits a page into such parts. Returns the token that ends there,
-    /// if one does. Fails only when memory runs out.
-    pub fn read_stretch(&mut self, stretch: &str) -> Step
-        ensures text { IsInText self.old → IsRun stretch.now →
-            ReadsNoToken self.old self.new stretch.now result }
-    {
-        let kind = self.stretch(stretch)?;
-        Ok(self.take_token(kind))
-    }
+    ghost use Rattle.page_tokens.specs.TextStates.{wants_characters_of};
 
     /// Reads the text up to the end of its first token, and returns the text after it. The token is
     /// stored in `token`, which keeps its value if no token ends. Fails only when memory runs out.
     pub fn read_token<'a>(&mut self, text: &'a str, token: &mut Option<Token>) -> Rest<'a>
         ensures text { ReadsRun self.old self.new text.now token.old token.new result }
         ensures plain_tag { TakesPlainTag self.old self.new text.now token.new result }
-        ensures standard { self.old.errors ≡ None → IfOk result (λ rest.
+        ensures standard { IfOk result (λ rest.
             TakesUpTo self.old self.new text.now rest.now token.old token.new) }
+        ensures less { LeavesLess text.now result }
     {
         let mut kind = None;
         let rest = self.read_kind(text, &mut kind)?;
@@ -279,8 +291,40 @@ impl Tokenizer {
     pub fn read_kind<'a>(&mut self, text: &'a str, kind: &mut Option<TokenKind>) -> Rest<'a>
         ensures text { ReadsRun self.old self.new text.now kind.old kind.new result }
         ensures plain_tag { ReadsPlainTag self.old self.new text.now kind.new result }
-        ensures standard { self.old.errors ≡ None → IfOk result (λ rest.
+        ensures standard { IfOk result (λ rest.
             ReadsUpTo self.old self.new text.now rest.now kind.old kind.new) }
+        ensures less { LeavesLess text.now result }
+    {
+        if self.errors.is_some() {
+            return self.read_checked(text, kind);
+        }
+        self.read_settled(text, kind)
+    }
+
+    /// Reads a part of the text up to the end of its first token, and returns the text after it. An
+    /// error is collected for each character of the part that may not occur in a page. No token ends
+    /// before the last character of a part, so that the whole part is read.
+    #[inline(never)]
+    fn read_checked<'a>(&mut self, text: &'a str, kind: &mut Option<TokenKind>) -> Rest<'a>
+        ensures standard { IfOk result (λ rest.
+            ReadsUpTo self.old self.new text.now rest.now kind.old kind.new) }
+        ensures less { LeavesLess text.now result }
+    {
+        let (part, _) = text.split_at(part_len(text, self.in_foreign));
+        self.check_input(part)?;
+        let left = self.read_settled(part, kind)?;
+        let (_, rest) = text.split_at(part.len() - left.len());
+        Ok(rest)
+    }
+
+    /// Reads the text up to the end of its first token, and returns the text after it. Fails also if
+    /// memory ran out for a parse error.
+    fn read_settled<'a>(&mut self, text: &'a str, kind: &mut Option<TokenKind>) -> Rest<'a>
+        ensures text { ReadsRun self.old self.new text.now kind.old kind.new result }
+        ensures plain_tag { ReadsPlainTag self.old self.new text.now kind.new result }
+        ensures standard { IfOk result (λ rest.
+            ReadsUpTo self.old self.new text.now rest.now kind.old kind.new) }
+        ensures less { LeavesLess text.now result }
     {
         let rest = self.read_next(text, kind)?;
         if self.refused {
@@ -295,12 +339,9 @@ impl Tokenizer {
     fn read_next<'a>(&mut self, text: &'a str, kind: &mut Option<TokenKind>) -> Rest<'a>
         ensures text { ReadsRun self.old self.new text.now kind.old kind.new result }
         ensures plain_tag { ReadsPlainTag self.old self.new text.now kind.new result }
-        ensures follows { self.old.errors ≡ None →
-            ReadsAsStandard self.old self.new text.now kind.old kind.new result }
+        ensures follows { ReadsAsStandard self.old self.new text.now kind.old kind.new result }
+        ensures less { LeavesLess text.now result }
     {
-        if self.errors.is_some() {
-            return self.read_first(text, kind);
-        }
         if first_byte(text) == b'<' {
             return self.read_mark(text, kind);
         }
@@ -315,6 +356,7 @@ impl Tokenizer {
     fn read_mark<'a>(&mut self, text: &'a str, kind: &mut Option<TokenKind>) -> Rest<'a>
         ensures tag { ReadsPlainTag self.old self.new text.now kind.new result }
         ensures follows { ReadsAsStandard self.old self.new text.now kind.old kind.new result }
+        ensures less { LeavesLess text.now result }
     {
         let mut made = None;
         let rest = self.read_front(text, &mut made)?;
@@ -325,61 +367,18 @@ impl Tokenizer {
         self.read_to_token(rest, kind)
     }
 
-    /// Reads the text up to its first [`MARKS`], in foreign content also up to its first `[`, and
-    /// returns the text after it.
-    #[inline(never)]
-    fn read_first<'a>(&mut self, text: &'a str, kind: &mut Option<TokenKind>) -> Rest<'a> {
-        let first = if self.in_foreign {
-            text.split_inclusive([MARKS, '[']).next()
-        } else {
-            text.split_inclusive(MARKS).next()
-        };
-        let Some(stretch) = first else {
-            return Ok(text);
-        };
-        if let Some(made) = self.stretch(stretch)? {
-            *kind = Some(made);
-        }
-        Ok(text.get(stretch.len()..).unwrap_or(""))
-    }
-
-    /// Reads a part of a page in which [`MARKS`] occurs at the end at most.
-    fn stretch(&mut self, stretch: &str) -> Progress
-        ensures text { IsInText self.old → IsRun stretch.now →
-            ReadsNoToken self.old self.new stretch.now result }
-    {
-        if self.errors.is_some() {
-            self.check_input(stretch)?;
-        }
-        let rest = self.read_run(stretch)?;
-        if rest.is_empty() {
-            return Ok(None);
-        }
-        self.read_marks(rest)
-    }
-
-    /// Reads a text whose first character is not part of a run.
-    fn read_marks(&mut self, text: &str) -> Progress {
-        let mut kind = None;
-        let mut rest = text;
-        for _ in 0..text.len() {
-            if rest.is_empty() {
-                break;
-            }
-            rest = self.read_mark(rest, &mut kind)?;
-        }
-        Ok(kind)
-    }
-
     /// Returns whether `<![` was just read in foreign content, with characters before it. Tree
     /// construction has to process these and [`Tokenizer::set_in_foreign`] has to be called before
     /// the next character is read: whether a CDATA section starts here depends on the element in
     /// which they end, which may be an HTML element that they reopen.
     pub fn wants_characters(&self) -> bool
-        ensures { self.now.state ≡ State.Data → result ≡ false }
+        ensures data { self.now.state ≡ State.Data → result ≡ false }
+        ensures is { result ≡ wants_characters_of self.now }
     {
         match self.state {
-            State::Declaration(Seen::Cdata(1)) => self.in_foreign && !self.text.is_empty(),
+            State::Declaration(Seen::Cdata(count)) => {
+                count == 1 && self.in_foreign && !self.text.is_empty()
+            }
             _ => false,
         }
     }
@@ -387,7 +386,8 @@ impl Tokenizer {
     /// Reads the text up to the end of a token, if one ends in it, or to where tree construction
     /// has to process the characters first.
     fn read_to_token<'a>(&mut self, text: &'a str, kind: &mut Option<TokenKind>) -> Rest<'a>
-        ensures { ReadsAsStandard self.old self.new text.now kind.old kind.new result }
+        ensures follows { ReadsAsStandard self.old self.new text.now kind.old kind.new result }
+        ensures within { IfOk result (λ rest. length rest.now ≤ length text.now) }
     {
         let mut made = None;
         let mut rest = text;
@@ -413,6 +413,7 @@ impl Tokenizer {
         ensures tag { ReadsPlainTag self.old self.new text.now kind.new result }
         ensures follows { kind.old ≡ None →
             ReadsAsStandard self.old self.new text.now kind.old kind.new result }
+        ensures less { LeavesLess text.now result }
     {
         let rest = self.read_plain(text, kind)?;
         if rest.len() < text.len() {
@@ -427,8 +428,9 @@ impl Tokenizer {
     /// Reads one character.
     #[inline(never)]
     fn read_char<'a>(&mut self, text: &'a str, kind: &mut Option<TokenKind>) -> Rest<'a>
-        ensures { kind.old ≡ None →
+        ensures follows { kind.old ≡ None →
             ReadsAsStandard self.old self.new text.now kind.old kind.new result }
+        ensures less { LeavesLess text.now result }
     {
         let Some((c, after)) = split_char(text) else {
             return Ok(text);

@@ -105,7 +105,7 @@ fn write(rt: &HostRuntime, group: &str, line: &str) -> Option<()> {
         "web" => web::read(rt, line),
         "web-row" => web::read_row(rt, line),
         "web-mode" => web::show_mode(rt, line),
-        "web-tokens" => web::cut_stretches(rt, line),
+        "web-tokens" => web::all_tokens(rt, line),
         "build" => building::build(rt),
         "options" => texts::print_options(rt),
         "sizes" => values::print_sizes(rt),

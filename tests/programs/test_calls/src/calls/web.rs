@@ -85,12 +85,19 @@ fn show_step(rt: &HostRuntime, what: &str, step: Step) {
     }
 }
 
-/// Prints the token that ends each piece up to a `>`, the text that is left, and the token at the
-/// end: `TEXT`.
-pub fn cut_stretches(rt: &HostRuntime, text: &str) {
+/// Prints the tokens of a text, its characters, and the token at its end: `TEXT`.
+pub fn all_tokens(rt: &HostRuntime, text: &str) {
     let mut tokens = Tokenizer::new(rt.alloc());
-    for stretch in text.split_inclusive('>') {
-        show_step(rt, "read_stretch", tokens.read_stretch(stretch));
+    let mut rest = text;
+    while !rest.is_empty() {
+        let mut token = None;
+        let Ok(left) = tokens.read_token(rest, &mut token) else {
+            return show(rt, "read_token", "out of memory");
+        };
+        if let Some(token) = token {
+            show_token(rt, &token);
+        }
+        rest = left;
     }
     show(rt, "text", tokens.take_text());
     show_step(rt, "end", tokens.end());

@@ -1,4 +1,4 @@
-use Rattle.std.proofs.Common.{refl, ap, ◌∙◌}
+use Rattle.std.proofs.Common.{refl, ap}
 use Rattle.page_tokens.proofs.DeclarationFollows.{bogus_arm, cdata_arm, comment_arm, doctype_arm, more_arm}
 use Rattle.page_tokens.specs.declared.tokenizer.Tokenizer.{Tokenizer}
 use Rattle.page_tokens.specs.declared.tokenizer.state.CommentState.TheVariants as comment

@@ -7,4 +7,4 @@ returns-then-rest-text-clause-follows c none = any_up_to c.args.self.now c.read_
 
 pub returns-clause-follows : goal.returns-clause-follows
 returns-clause-follows c none =
-    unread_arm c.args.self.now c.read_plain.new.self _ c.args.text.now _ _ _ _ _ c.read_char.result c.if-rest-text.false (c.in_ok-rest.ensures.follows none) none refl c.read_char.ensures
+    unread_arm c.args.self.now c.read_plain.new.self _ c.args.text.now _ _ _ _ _ c.read_char.result c.if-rest-text.false (c.in_ok-rest.ensures.follows none) none refl c.read_char.ensures.follows

@@ -7,4 +7,4 @@ returns-then-is_some-clause-follows c free = new_kind c.args.self.now _ c.args.t
 
 pub returns-clause-follows : goal.returns-clause-follows
 returns-clause-follows c =
-    then_arm c.args.self.now c.read_front.new.self _ c.args.text.now _ _ _ _ c.read_to_token.result (no_kind _ _ c.is_some.ensures c.if-is_some.false) (c.in_ok-rest.ensures.follows refl) c.read_to_token.ensures
+    then_arm c.args.self.now c.read_front.new.self _ c.args.text.now _ _ _ _ c.read_to_token.result (no_kind _ _ c.is_some.ensures c.if-is_some.false) (c.in_ok-rest.ensures.follows refl) c.read_to_token.ensures.follows

@@ -1,7 +1,6 @@
-use Rattle.std.proofs.Common.{refl, rules, subst, sym, ◌∙◌}
+use Rattle.std.proofs.Common.{refl, rules, subst, sym}
 use Rattle.std.specs.Str.{IsUtf8}
 use Rattle.std.proofs.lemmas.Str.{IsUtf8-take}
-use Rattle.page_tokens.proofs.Fronts.{none_read}
 use Rattle.page_tokens.proofs.PlainAttrs.{unquoted_read}
 use Rattle.page_tokens.proofs.tokenizer.Tokenizer.read_plain_unquoted.Goals as goal
 

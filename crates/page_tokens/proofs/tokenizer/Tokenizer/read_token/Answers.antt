@@ -10,9 +10,9 @@ returns-clause-plain_tag c in_text errors kind name rest plain is =
     (read.0, taken.0, taken.1, taken.2)
 
 pub returns-clause-standard : goal.returns-clause-standard
-returns-clause-standard c errors = record {
+returns-clause-standard c = record {
   kept = c.read_kind.new.self;
   of = _;
-  reads = c.in_ok-rest.ensures.standard errors;
+  reads = c.in_ok-rest.ensures.standard;
   takes = record { none = c.put_token.ensures.none; tag = c.put_token.ensures.tag; comment = c.put_token.ensures.comment; doctype = c.put_token.ensures.doctype };
 }

@@ -1,5 +1,4 @@
 use Rattle.std.proofs.Common.{rules, arith}
-use Rattle.page_tokens.specs.Runs.{is_space_of}
 use Rattle.page_tokens.proofs.PlainSpaces.{spaces_boundary, spaces_len_is}
 use Rattle.page_tokens.proofs.tokenizer.plain.spaces_len.Goals as goal
 

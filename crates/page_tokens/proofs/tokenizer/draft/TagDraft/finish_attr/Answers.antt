@@ -1,4 +1,4 @@
-use Rattle.std.proofs.Common.{ℕ, List, ◌≡◌, [], Result, Ok, Err, OnOk, map, string_bytes, refl, ap, ◌∙◌}
+use Rattle.std.proofs.Common.{◌≡◌, [], Result, Ok, Err, OnOk, map, string_bytes, refl, ap, ◌∙◌}
 use Rattle.std.specs.Char.{to_ascii_lowercase}
 use Rattle.page_tokens.specs.Attributes.{AddsAttr}
 use Rattle.page_tokens.specs.Drafts.{FinishesAttr}
