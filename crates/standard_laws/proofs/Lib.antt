@@ -14,6 +14,14 @@ pub mod NameChars
 pub mod ParsedExamples
 pub mod Pieces
 pub mod PlainNodes
+pub mod SpelledDoctypes
+pub mod SpelledNames
+pub mod SpelledOwn
+pub mod SpelledPages
+pub mod SpelledParsed
+pub mod SpelledTags
+pub mod SpelledTexts
+pub mod SpelledValues
 pub mod TreesPlain
 pub mod TreesRead
 pub mod TreesTokens

@@ -5,6 +5,10 @@ pub mod Pages
 pub mod Parsing
 pub mod ParsingLaws
 pub mod ReadableTrees
+pub mod SpelledLaws
+pub mod SpelledMarkup
+pub mod SpelledPages
+pub mod SpelledParsing
 pub mod TokenLaws
 pub mod TreeItems
 pub mod TreeTokens

@@ -6,4 +6,5 @@
 
 pub mod calm;
 pub mod parsing;
+pub mod spelled;
 pub mod tokens;
