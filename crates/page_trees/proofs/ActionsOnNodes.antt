@@ -1,5 +1,5 @@
 -- What the actions of the definition make of the list of nodes.
-use Rattle.std.proofs.Common.{◌≡◌, ℕ, suc, Bool, true, false, List, [], ◌∷◌, ◌++◌, refl, sym, ap, ◌∙◌, length, Option, Some, None}
+use Rattle.std.proofs.Common.{◌≡◌, ℕ, suc, Bool, true, false, List, refl, sym, ap, ◌∙◌, length, Some, None}
 use Rattle.std.specs.Prelude.{cond}
 use Rattle.standard_trees.specs.Formatting.{attrs_of, copied, local_of, wrapped}
 use Rattle.standard_trees.specs.GrowingTree.{GrowingTree, created, created_element, fresh, inserted_at, is_template, kind_of, with_comment}

@@ -1,5 +1,5 @@
 -- What the rules for the modes after the body make of a tag.
-use Rattle.std.proofs.Common.{◌≡◌, Bool, true, false, ◌&&◌, List, [], ◌∷◌, refl, sym, ap, ◌∙◌, true≢false}
+use Rattle.std.proofs.Common.{◌≡◌, Bool, true, false, ◌&&◌, List, [], ◌∷◌, refl, ap, ◌∙◌}
 use Rattle.standard_trees.specs.Building.{Building, perform}
 use Rattle.standard_trees.specs.RuleWords.{Act, AfterAfterBody, AfterBody, InBody, SwitchTo, Use, does, goes}
 use Rattle.standard_trees.specs.TreeRules.{rules}

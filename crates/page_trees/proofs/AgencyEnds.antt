@@ -1,6 +1,5 @@
 -- The adoption agency algorithm, where it ends without a furthest block.
-use Rattle.std.proofs.Common.{◌≡◌, ℕ, ◌<◌, ◌≤◌, ◌+◌, ◌&&◌, ◌||◌, not, nat_eq, eqb, Bool, true, false, List, [], ◌∷◌, ◌++◌, drop, map, take, reverse, refl, sym, ap, ◌∙◌, length, Option, Some, None, subst, suc, zero, arith, inl, inr, true≢false, if◌then◌else◌}
-use Rattle.std.specs.Prelude.{All}
+use Rattle.std.proofs.Common.{◌≡◌, ℕ, ◌≤◌, ◌+◌, ◌&&◌, ◌||◌, not, nat_eq, eqb, Bool, true, false, List, [], ◌∷◌, ◌++◌, drop, map, take, reverse, refl, sym, ap, ◌∙◌, length, Option, Some, None, subst, suc, zero, arith, inl, inr, true≢false, if◌then◌else◌}
 use Rattle.std.specs.List.{list_any}
 use Rattle.std.proofs.lemmas.List.{length_push, reverse-append, take-append-le, drop-append-le, take_all, drop_all}
 use denote.Enum.Declared.{tag_of}
@@ -25,7 +24,7 @@ use Rattle.page_trees.specs.declared.name.Name.{Name}
 use Rattle.page_trees.specs.declared.sets.Scope.{Scope}
 use Rattle.page_trees.specs.declared.stack.ElementNamespace.{ElementNamespace}
 use Rattle.page_trees.specs.declared.stack.Open.{Open}
-use Rattle.page_trees.proofs.BuiltStacks.{built_on, popped_through}
+use Rattle.page_trees.proofs.BuiltStacks.{built_front, popped_through}
 use Rattle.page_trees.proofs.CopiedElements.{formatting_html}
 use Rattle.page_trees.proofs.NamesAgree.{for_all}
 use Rattle.page_trees.proofs.PoppingLemmas.{any_push, before_last_push}
@@ -60,12 +59,12 @@ one_name t o x is so sx e =
     let known = formatting_known o is in
     named_agrees o.name known t x sx ∙ ap (is_one_of t (text_of o.name ∷ [])) e ∙ sym (named_agrees o.name known t o so) ∙ self_named o is
 
-both_true : (a b : Bool) → (b ≡ true → a ≡ true) → (a && b) ≡ b
+pub both_true : (a b : Bool) → (b ≡ true → a ≡ true) → (a && b) ≡ b
 both_true true b f = refl
 both_true false true f = absurd (true≢false (sym (f refl)))
 both_true false false f = refl
 
-turned_test : (n m : ℕ) → eqb m n ≡ nat_eq n m
+pub turned_test : (n m : ℕ) → eqb m n ≡ nat_eq n m
 turned_test n m = elim (cases_Bool (nat_eq n m)) [
   | inl t ↦ eq-eqb m n (sym (eqb-true n m t)) ∙ sym t
   | inr f ↦ ne_eqb m n (λ e. absurd (true≢false (sym (eq-eqb n m (sym e)) ∙ f))) ∙ sym f
@@ -88,7 +87,7 @@ any_turned : (p : Open → Bool) (xs : List Open) → list_any p (reverse xs) �
 any_turned p = by_ends (λ xs. list_any p (reverse xs) ≡ list_any p xs) refl (λ ys y same.
     ap (list_any p) (reverse-append ys (y ∷ [])) ∙ ap (λ b. p y || b) same ∙ or_turned (p y) (list_any p ys) ∙ sym (any_push p ys y))
 
-searched : (wanted ends : Open → Bool) (w e : ℕ → Bool) (t : GrowingTree) → ((o : Open) → StandsFor t.nodes o → wanted o ≡ w o.id) →
+pub searched : (wanted ends : Open → Bool) (w e : ℕ → Bool) (t : GrowingTree) → ((o : Open) → StandsFor t.nodes o → wanted o ≡ w o.id) →
     ((o : Open) → StandsFor t.nodes o → ends o ≡ e o.id) → (os : List Open) → AllStand t.nodes os →
     in_scope wanted ends os ≡ in_scope w e (map (λ o. o.id) os)
 searched wanted ends w e t same_wanted same_ends [] s = refl
@@ -140,7 +139,7 @@ is_open s t x p b stands e = sym (member_is s t x b stands) ∙ some_placed (is_
 
 -- ---- whether it is in scope
 
-scope_known : are_known (scope_names Scope.Default) ≡ true
+pub scope_known : are_known (scope_names Scope.Default) ≡ true
 unfolding html_rows rare_rows
 scope_known = refl
 
@@ -277,6 +276,6 @@ cut_is p n = by_ends (λ xs. last_place p xs ≡ n + 1 → take n xs ≡ before_
 pub cut_built : (s : TreeState) (t : GrowingTree) (x : Open) (p : ℕ) → Builds s t → EntryStands t.nodes (Entry.Element x) → last_place (is_this x.name x.id) s.stack ≡ p + 1 →
     Builds (record s { stack = take p s.stack }) (with_stack t (past (nat_eq x.id) t.stack))
 cut_built s t x p b stands e =
-    built_on s t (take p s.stack) (past (nat_eq x.id) t.stack) b
+    built_front s _ t p (past (nat_eq x.id) t.stack) refl b
     (subst (IsStackOf (with_stack t (past (nat_eq x.id) t.stack))) (sym (cut_is (is_this x.name x.id) p s.stack e))
     (popped_through t (is_this x.name x.id) (nat_eq x.id) (this_is t x stands) s.stack b.stack))

@@ -5,11 +5,7 @@ use Rattle.std.specs.Prelude.{codes, ◌&&◌}
 use Rattle.standard_trees.specs.GrowingTree.{GrowingTree, foster_place, in_contents, is_one, place, place_in, with_stack}
 use Rattle.standard_trees.specs.NameLists.{fostering_names}
 use Rattle.standard_trees.specs.TreeStore.{Before, EndOf, Place, parent_of}
-
--- elements that are neither templates nor tables
-abbrev pub ArePassed : GrowingTree → List ℕ → Type 0
-ArePassed t [] = Unit {0}
-ArePassed t (n ∷ ns) = (is_one t (codes "template" ∷ []) n ≡ false) × (is_one t (codes "table" ∷ []) n ≡ false) × ArePassed t ns
+use Rattle.page_trees.specs.Adopting.{ArePassed}
 
 -- the place, by what is known of the first element
 abbrev step : Bool → Bool → Option ℕ → ℕ → ℕ → Place → Place

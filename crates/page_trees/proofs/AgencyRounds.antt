@@ -1,17 +1,16 @@
 -- The outer loop of the adoption agency algorithm.
-use Rattle.std.proofs.Common.{◌≡◌, ℕ, ◌<◌, ◌≤◌, ◌+◌, ◌&&◌, ◌||◌, not, nat_eq, Bool, true, false, List, [], ◌∷◌, drop, map, take, refl, reverse, sym, ap, ◌∙◌, length, Option, Some, None, subst, suc, zero, inl, inr, true≢false}
+use Rattle.std.proofs.Common.{◌≡◌, ℕ, ◌≤◌, ◌+◌, ◌&&◌, ◌||◌, not, nat_eq, Bool, true, false, List, [], ◌∷◌, drop, take, refl, reverse, sym, ap, ◌∙◌, Option, Some, None, subst, inl, inr, true≢false}
 use Rattle.std.specs.Prelude.{All, Err, IfOk, MatchOption, Ok, Result}
 use Rattle.std.specs.Option.{option_map}
 use Rattle.std.proofs.lemmas.List.Elements.{All-head, All-tail}
-use Rattle.std.proofs.lemmas.Option.{none-some}
 use Rattle.standard_trees.specs.Building.{is_present}
-use Rattle.standard_trees.specs.Formatting.{adopt, adopted_for, adopted_once, adoption, before_in, is_listed, last_listed, last_special, unlisted}
+use Rattle.standard_trees.specs.Formatting.{adopt, adopted_for, adopted_once, adoption, before_in, is_listed, last_special, unlisted}
 use Rattle.standard_trees.specs.GrowingTree.{GrowingTree, current, ends_scope as ends_scope_of, in_scope, past, with_stack}
 use Rattle.standard_trees.specs.GrowingTree.{is_one as is_one_of}
 use Rattle.standard_trees.specs.RuleWords.{Scope as DefaultScope}
 use Rattle.standard_trees.specs.TreeStore.{is_member}
 use Rattle.page_trees.specs.Formatting.{IsFirst, IsNamed, NoneHas, after_marker, are_few, up_to_marker}
-use Rattle.page_trees.specs.Listing.{Adopts, IsAdopted, IsRoundDone, RoundEnd, RoundEnds, Unlists, agency_ends, ends_simply, has_few, listed_named, lists_once}
+use Rattle.page_trees.specs.Listing.{Adopts, IsAdopted, RoundEnd, RoundEnds, Unlists, agency_ends, ends_simply, has_few, listed_named, lists_once}
 use Rattle.page_trees.specs.Names.{text_of}
 use Rattle.page_trees.specs.Popping.{first_from}
 use Rattle.page_trees.specs.Reopening.{index_at, is_this}
@@ -126,8 +125,8 @@ round_goes_on name s new r x p q known is some place within block t few once b =
     let stands = found_stands name s t r x is some few b in
     simply_is (text_of name) x.id t (found_listed name s t r x known is some few b) (is_open s t x p b stands place) (scoped s t x p b stands place within) (a_block s t x p q b stands place block)
 
-pub round_none : (name : Name) (s new : TreeState) (r : Option Open) → is_name name Name.Other ≡ false → Named name s r → r ≡ None → RoundEnds name s new (Some false)
-round_none name s new r known is none t few once b = none_listed name s t r known is none few b
+pub round_none : (name : Name) (s : TreeState) (r : Option Open) → is_name name Name.Other ≡ false → Named name s r → r ≡ None → RoundEnds name s s (Some false)
+round_none name s r known is none t few once b = (none_listed name s t r known is none few b, b)
 
 -- ---- all rounds
 
@@ -147,11 +146,15 @@ pub adopts_current : (name : Name) (old new : TreeState) (bare : Bool) → is_na
 adopts_current name old new bare known tells is does t ends b =
     let few = (both (has_few t) _ ends).0 in
     let same : adoption (text_of name) t ≡ popped t = ap (λ c. by_current c (popped t) (adopt 8 (text_of name) t)) (sym (tells t few b) ∙ is) in
-    record { done = refl; built = subst (Builds new) (sym same) (does t b); fosters = ap (λ (u : GrowingTree). u.fostering) same }
+    record { after = popped t; built = does t b; fosters = refl; result = same }
 
 -- what is known once a round has been run
+abbrev pub EndsAs : List ℕ → GrowingTree → TreeState → Option Bool → Type 0
+EndsAs name t new None = ⊥
+EndsAs name t new (Some handled) = IsAdopted name t new handled
+
 abbrev pub Ended : Name → TreeState → TreeState → Option Bool → Type 0
-Ended name old new end = (t : GrowingTree) → agency_ends (text_of name) t ≡ true → Builds old t → (end ≡ Some true) × IsAdopted (text_of name) t new true
+Ended name old new end = (t : GrowingTree) → agency_ends (text_of name) t ≡ true → Builds old t → EndsAs (text_of name) t new end
 
 pub ended_first : (name : Name) (old new : TreeState) (bare : Bool) (end : Option Bool) → ((t : GrowingTree) → has_few t ≡ true → Builds old t → bare ≡ is_bare name t) → bare ≡ false →
     RoundEnds name old new end → Ended name old new end
@@ -160,31 +163,27 @@ ended_first name old new bare end tells is round t ends b =
     let more = both (lists_once t.listed) _ parts.1 in
     let lacks : is_bare name t ≡ false = sym (tells t parts.0 b) ∙ is in
     let simply : ends_simply (listed_named (text_of name) t) t ≡ true = or_right (is_bare name t) _ lacks more.1 in
-    by end (round t parts.0 more.0 b) lacks simply
+    by end (round t parts.0 more.0 b) (ap (λ c. by_current c (popped t) (adopt 8 (text_of name) t)) lacks) simply
   where
-    by : (end : Option Bool) → RoundEnd (text_of name) t new end → is_bare name t ≡ false → ends_simply (listed_named (text_of name) t) t ≡ true → (end ≡ Some true) × IsAdopted (text_of name) t new true
-    by None r lacks simply = absurd (true≢false (sym simply ∙ r))
-    by (Some false) r lacks simply = absurd (true≢false (sym simply ∙ ap (λ (o : Option ℕ). ends_simply o t) r))
-    by (Some true) r lacks simply =
-        let same : adoption (text_of name) t ≡ r.after = ap (λ c. by_current c (popped t) (adopt 8 (text_of name) t)) lacks ∙ r.result (adopt 7 (text_of name)) in
-        (refl, record { done = refl; built = subst (Builds new) (sym same) r.built; fosters = ap (λ (u : GrowingTree). u.fostering) same ∙ r.fosters })
+    by : (end : Option Bool) → RoundEnd (text_of name) t new end → adoption (text_of name) t ≡ adopt 8 (text_of name) t → ends_simply (listed_named (text_of name) t) t ≡ true → EndsAs (text_of name) t new end
+    by None r rounds simply = true≢false (sym simply ∙ r)
+    by (Some false) r rounds simply =
+        record { after = t; built = r.1; fosters = refl; result = rounds ∙ ap (λ (o : Option ℕ). adopted_for o (text_of name) (adopt 7 (text_of name)) t) r.0 }
+    by (Some true) r rounds simply =
+        record { after = r.after; built = r.built; fosters = r.fosters; result = rounds ∙ r.result (adopt 7 (text_of name)) }
 
 -- after it no round follows
 pub ended_once : (name : Name) (old mid new : TreeState) (end : Option Bool) (r : Result Bool PageFault) → Ended name old mid end → end ≡ None → IfOk r (Adopts name old new)
-ended_once name old mid new end (Ok handled) is none = λ t ends b. absurd (none-some _ (sym none ∙ (is t ends b).0))
+ended_once name old mid new end (Ok handled) is none = λ t ends b. absurd (subst (EndsAs (text_of name) t mid) none (is t ends b))
 ended_once name old mid new end (Err fault) is none = tt
 
 pub ended_here : (name : Name) (old new : TreeState) (end : Option Bool) (done : Bool) → Ended name old new end → end ≡ Some done → Adopts name old new done
-ended_here name old new end done is some t ends b =
-    let known = is t ends b in
-    let same : Some done ≡ Some true = sym some ∙ known.0 in
-    let shows : done ≡ true = cc in
-    record { done = shows; built = known.1.built; fosters = known.1.fosters }
+ended_here name old new end done is some t ends b = subst (EndsAs (text_of name) t new) some (is t ends b)
 
 -- ---- by what the calls of a round tell of the state that is seen
 
 pub ends_unnamed : (name : Name) (view old : TreeState) (r : Option Open) → view ≡ old → is_name name Name.Other ≡ false → Named name view r → r ≡ None → RoundEnds name old old (Some false)
-ends_unnamed name view old r same known is none = round_none name old old r known (subst (λ (s : TreeState). Named name s r) same is) none
+ends_unnamed name view old r same known is none = round_none name old r known (subst (λ (s : TreeState). Named name s r) same is) none
 
 pub ends_unlisted : (name : Name) (view old new : TreeState) (r : Option Open) (x : Open) → view ≡ old → is_name name Name.Other ≡ false → Named name view r → r ≡ Some x →
     None ≡ index_at (last_place (is_this x.name x.id) view.stack) → Unlists x.id old new → RoundEnds name old new (Some true)

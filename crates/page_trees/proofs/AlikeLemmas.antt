@@ -1,5 +1,5 @@
 -- What elements with the same name have in common.
-use Rattle.std.proofs.Common.{ℕ, ◌≡◌, ◌+◌, ◌*◌, ◌<◌, ◌≤◌, ◌⊎◌, inl, inr, Bool, true, false, ◌&&◌, not, List, [], ◌∷◌, ◌++◌, length, take, map, get_or, set, ltb, ltb-true, refl, sym, ap, ◌∙◌, subst, arith, rules, if◌then◌else◌, eqb, lit<}
+use Rattle.std.proofs.Common.{ℕ, ◌≡◌, ◌+◌, ◌*◌, ◌<◌, inl, inr, Bool, true, false, ◌&&◌, not, List, [], ◌∷◌, length, take, map, get_or, set, ltb, ltb-true, refl, sym, ap, ◌∙◌, subst, arith, rules, if◌then◌else◌, eqb}
 use Rattle.std.specs.Prelude.{Some, slice_get}
 use denote.Enum.Bare.{tag_one}
 use denote.Enum.Declared.{tag_of}
@@ -10,7 +10,7 @@ use Rattle.std.proofs.lemmas.Option.{get_or_from_slice_get}
 use Rattle.page_trees.specs.Links.{AreLinks}
 use Rattle.page_trees.specs.Names.{html_rows, rare_rows}
 use Rattle.page_trees.specs.Scopes.{ends_items, is_name, is_named, is_named_like, last_place}
-use Rattle.page_trees.specs.SearchIndex.{IsIndex, key_for, key_of, mark_of}
+use Rattle.page_trees.specs.SearchIndex.{IsIndex, has_key, key_for, key_of}
 use Rattle.page_trees.specs.Sets.{ends_scope, is_in_html, is_special_element}
 use Rattle.page_trees.specs.contracts.name.Name.{the_type}
 use Rattle.page_trees.specs.contracts.stack.ElementNamespace.{the_type as the_space}
@@ -61,6 +61,25 @@ numbers b t u number lt lu nu =
 -- the key of a known name finds the HTML elements with that name
 pub key_named : (name : Name) → is_name name Name.Other ≡ false → (o : Open) → eqb (key_of o) (key_for true name 0) ≡ is_named name o
 key_named name known o = numbers (is_in_html o.ns) (tag_of the_type o.name) (tag_of the_type name) o.number (tag_below o.name) (tag_below name) (λ e. eqb-false (tag_of the_type name) 126 known e)
+
+-- whatever its number
+pub known_key : (name : Name) → is_name name Name.Other ≡ false → (number : ℕ) (o : Open) → has_key true name number o ≡ is_named name o
+known_key name known number o =
+    ap (λ b. eqb (key_of o) ((if b then 127 + number else tag_of the_type name) * 2 + 0)) known
+    ∙ sym (ap (λ b. eqb (key_of o) ((if b then 127 + 0 else tag_of the_type name) * 2 + 0)) known) ∙ key_named name known o
+
+-- the key of a name that is not in `Name` finds the HTML elements with its number
+pub other_key : (number : ℕ) (o : Open) → has_key true Name.Other number o ≡ (is_in_html o.ns && (is_name o.name Name.Other && eqb o.number number))
+other_key number o = by (is_in_html o.ns) (is_name o.name Name.Other) refl
+  where
+    by : (b c : Bool) → is_name o.name Name.Other ≡ c →
+        eqb ((if c then 127 + o.number else tag_of the_type o.name) * 2 + (if b then 0 else 1)) ((127 + number) * 2 + 0) ≡ (b && (c && eqb o.number number))
+    by true true e = same_bool (eqb ((127 + o.number) * 2 + 0) ((127 + number) * 2 + 0)) (eqb o.number number)
+        (λ f. eq_eqb o.number number (omega (arith, eqb-true ((127 + o.number) * 2 + 0) ((127 + number) * 2 + 0) f)))
+        (λ f. eq_eqb ((127 + o.number) * 2 + 0) ((127 + number) * 2 + 0) (ap (λ n. (127 + n) * 2 + 0) (eqb-true o.number number f)))
+    by true false e = ne_eqb (tag_of the_type o.name * 2 + 0) ((127 + number) * 2 + 0) (λ f. omega (arith, f, tag_below o.name))
+    by false true e = ne_eqb ((127 + o.number) * 2 + 1) ((127 + number) * 2 + 0) (λ f. omega (arith, f))
+    by false false e = ne_eqb (tag_of the_type o.name * 2 + 1) ((127 + number) * 2 + 0) (λ f. omega (arith, f))
 
 pub unnamed : (name : Name) → is_name name Name.Other ≡ true → (o : Open) → is_named name o ≡ false
 unnamed name other o = ap (λ c. not c && (is_in_html o.ns && is_name o.name name)) other

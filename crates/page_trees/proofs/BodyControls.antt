@@ -1,5 +1,5 @@
 -- What the rules for "in body" make of the start tags of `hr`, of options and of ruby annotations, and of the end tags of `object` and its like.
-use Rattle.std.proofs.Common.{◌≡◌, ℕ, Bool, true, false, ◌&&◌, not, List, [], ◌∷◌, codes, refl, sym, ap, subst, ◌∙◌, true≢false}
+use Rattle.std.proofs.Common.{◌≡◌, ℕ, Bool, true, false, ◌&&◌, List, [], ◌∷◌, codes, refl, sym, ap, subst, ◌∙◌}
 use Rattle.standard_trees.specs.Building.{Building, perform, with_tree}
 use Rattle.standard_trees.specs.GrowingTree.{GrowingTree, current as top_of, has_in_scope, implied_of, is_one as is_one_of}
 use Rattle.standard_trees.specs.NameLists.{implied}
@@ -7,8 +7,8 @@ use Rattle.standard_trees.specs.RuleWords.{Act, Action, CloseP, CurrentNode, Fra
 use Rattle.standard_trees.specs.RuleWords.{Scope as DefaultScope, These, does, is}
 use Rattle.standard_trees.specs.TreeRules.{rules}
 use Rattle.page_tokens.specs.declared.token.Tag.{Tag}
-use Rattle.page_trees.specs.BodyTags.{ChangesThen, ChangesTree, Continues, acted, begun, implied_in, option_ended}
-use Rattle.page_trees.specs.Constructs.{Constructs, IsCurrentTag, Outcome, PerformsFor, RemembersLimits, WithinLimits, all_performed}
+use Rattle.page_trees.specs.BodyTags.{ChangesThen, ChangesTree, Continues, implied_in, option_ended}
+use Rattle.page_trees.specs.Constructs.{Constructs, IsCurrentTag, Outcome, PerformsFor, RemembersLimits}
 use Rattle.page_trees.specs.Groups.{body_rules_for, example_of, group_named}
 use Rattle.page_trees.specs.Modes.{is_start_kind}
 use Rattle.page_trees.specs.Stands.{Does, popped, popped_if}

@@ -1,13 +1,13 @@
 -- What the rules for "in body" make of the start tags of elements of the head, of elements whose content is text, and of tables.
-use Rattle.std.proofs.Common.{◌≡◌, ◌⊎◌, inl, inr, Bool, true, false, ◌&&◌, not, List, [], ◌∷◌, codes, refl, sym, ap, subst, ◌∙◌, true≢false}
+use Rattle.std.proofs.Common.{◌≡◌, ◌⊎◌, inl, inr, Bool, true, false, ◌&&◌, not, List, [], ◌∷◌, refl, sym, ap, subst, ◌∙◌}
 use Rattle.standard_trees.specs.Building.{Building, FullQuirks, LimitedQuirks, NoQuirks, QuirksMode as StandardQuirks, is_quirks, perform}
-use Rattle.standard_trees.specs.RuleWords.{Act, Action, CloseP, FramesetNotOk, InBody, InHead, InTable, InsertElement, KeepMode, Quirks, RawText, RcdataText, ReconstructFormatting}
+use Rattle.standard_trees.specs.RuleWords.{Act, CloseP, FramesetNotOk, InBody, InHead, InTable, InsertElement, KeepMode, Quirks, RawText, RcdataText, ReconstructFormatting}
 use Rattle.standard_trees.specs.RuleWords.{SkipNextLineFeed, SwitchTo, Text, TokenizerTo, Use, does, goes, isnt}
 use Rattle.standard_trees.specs.TreeRules.{rules}
 use Rattle.dom_trees.specs.declared.quirks.QuirksMode.{QuirksMode}
 use Rattle.page_tokens.specs.declared.token.Tag.{Tag}
-use Rattle.page_trees.specs.BodyTags.{Acts, ActsFor, Continues, IsContinued, acted, begun}
-use Rattle.page_trees.specs.Constructs.{Constructs, IsCurrentTag, Outcome, Performs, PerformsFor, ProcessesTag, RemembersLimits, WithinLimits}
+use Rattle.page_trees.specs.BodyTags.{Acts, ActsFor, Continues, IsContinued, begun}
+use Rattle.page_trees.specs.Constructs.{Constructs, IsCurrentTag, Outcome, Performs, PerformsFor, ProcessesTag, RemembersLimits}
 use Rattle.page_trees.specs.Groups.{body_rules_for, example_of, group_named, is_metadata_name}
 use Rattle.page_trees.specs.HeadSteps.{reading_text}
 use Rattle.page_trees.specs.LateMerges.{ProcessesHtmlTag}

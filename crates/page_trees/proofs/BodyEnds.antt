@@ -1,30 +1,31 @@
 -- What the rules for "in body" make of the end tags of each group.
-use Rattle.std.proofs.Common.{◌≡◌, ◌⊎◌, inl, inr, ℕ, Bool, true, false, ◌&&◌, ◌||◌, not, List, [], ◌∷◌, codes, refl, sym, ap, subst, ◌∙◌, true≢false}
+use Rattle.std.proofs.Common.{◌≡◌, ℕ, Bool, true, false, ◌&&◌, not, List, [], ◌∷◌, codes, refl, sym, ap, subst, ◌∙◌, true≢false}
+use Rattle.std.specs.Prelude.{string_bytes}
 use Rattle.standard_trees.specs.Building.{Building, own_name, perform, taken, with_tree}
-use Rattle.standard_trees.specs.Formatting.{any_other_end, without_p}
-use Rattle.standard_trees.specs.GrowingTree.{GrowingTree, has_in_scope, implied_of, in_scope, is_one as is_one_of, popped_until}
+use Rattle.standard_trees.specs.GrowingTree.{GrowingTree, has_in_scope, in_scope, is_one as is_one_of, popped_until}
 use Rattle.standard_trees.specs.NameLists.{headings, implied}
-use Rattle.standard_trees.specs.RuleWords.{Act, AfterBody, AnyOtherEndTag, ButtonScope, ClearListToMarker, CloseP, FramesetNotOk, ImpliedEndTags, ImpliedEndTagsBut, InBody, InsertNamed, ListItemScope, Own, Pop}
-use Rattle.standard_trees.specs.RuleWords.{PopUntil, ReconstructFormatting, Reprocess, Scope as DefaultScope, ScopeKind, SwitchTo, These, does, goes}
+use Rattle.standard_trees.specs.RuleWords.{Act, AfterBody, AnyOtherEndTag, ButtonScope, CloseP, FramesetNotOk, ImpliedEndTags, ImpliedEndTagsBut, InBody, InsertNamed, ListItemScope, Own, Pop}
+use Rattle.standard_trees.specs.RuleWords.{PopUntil, ReconstructFormatting, Scope as DefaultScope, ScopeKind, SwitchTo, These, does}
 use Rattle.standard_trees.specs.TreeRules.{rules}
 use Rattle.page_tokens.specs.declared.token.Tag.{Tag}
-use Rattle.page_trees.specs.BodyTags.{Acts, ChangesTree, EndsInBody, acted, covers_end, covers_end_of, ends_otherwise, implying_p}
+use Rattle.page_trees.specs.BodyTags.{Acts, ChangesTree, EndsInBody, acted, ends_otherwise, implying_p}
 use Rattle.page_trees.specs.Closing.{closed_before, is_special_node}
-use Rattle.page_trees.specs.Constructs.{Constructs, IsCurrentTag, Outcome, Performs, WithinLimits, all_performed}
+use Rattle.page_trees.specs.Constructs.{Constructs, IsCurrentTag, Outcome, Performs, all_performed}
 use Rattle.page_trees.specs.Groups.{group_named}
 use Rattle.page_trees.specs.Modes.{is_start_kind}
 use Rattle.page_trees.specs.Names.{text_of}
 use Rattle.page_trees.specs.Scopes.{is_name}
-use Rattle.page_trees.specs.Stands.{Does, closed_in, without_marker}
+use Rattle.page_trees.specs.Stands.{Does, IsOtherName, closed_in}
 use Rattle.page_trees.specs.TreeState.{TreeState}
 use Rattle.page_trees.specs.declared.builder.Next.{Next}
 use Rattle.page_trees.specs.declared.builder.TreeBuilder.{TreeBuilder}
 use Rattle.page_trees.specs.declared.modes.groups.Group.{Group}
 use Rattle.page_trees.specs.declared.name.Name.{Name}
-use Rattle.page_trees.proofs.BodyRules.{are_all_done, choice, end_rows, end_rules_for, ended_by, outcome_of_acts, own_of_end}
+use Rattle.page_trees.proofs.BodyRules.{are_all_done, choice, end_rows, end_rules_for, ended_by, outcome_of_acts, own_of_end, written_of_end}
 use Rattle.page_trees.proofs.BodyStarts.{stepped}
 use Rattle.page_trees.proofs.BuiltStacks.{implied_first}
 use Rattle.page_trees.proofs.ClosedElements.{any_other_is, are_apart, implied_apart}
+use Rattle.page_trees.proofs.OtherNamesClosed.{other_name}
 use Rattle.page_trees.proofs.RulesRun.{outcome, plainly}
 
 -- ---- the rules of a group
@@ -73,7 +74,7 @@ pub known_group : (name : Name) (group : Group) → group_named name ≡ group �
 known_group Name.Other group e h = absurd (true≢false (ap is_ordinary e ∙ h))
 known_group _ group e h = refl
 
-no_other : (name : Name) → is_name name Name.Other ≡ false → name ≡ Name.Other → ⊥
+pub no_other : (name : Name) → is_name name Name.Other ≡ false → name ≡ Name.Other → ⊥
 no_other name known e = true≢false (sym (ap (λ (n : Name). is_name n Name.Other) e) ∙ known)
 
 -- ---- the tree is changed
@@ -95,10 +96,10 @@ same_tree s b c = record {
   tokenizer = c.tokenizer;
 }
 
-abbrev tree_if : Bool → GrowingTree → GrowingTree → GrowingTree
+abbrev pub tree_if : Bool → GrowingTree → GrowingTree → GrowingTree
 tree_if x t u = elim x [ true ↦ t | false ↦ u ]
 
-fosters_if : (x : Bool) (t u v : GrowingTree) → t.fostering ≡ v.fostering → u.fostering ≡ v.fostering → (tree_if x t u).fostering ≡ v.fostering
+pub fosters_if : (x : Bool) (t u v : GrowingTree) → t.fostering ≡ v.fostering → u.fostering ≡ v.fostering → (tree_if x t u).fostering ≡ v.fostering
 fosters_if true t u v e f = e
 fosters_if false t u v e f = f
 
@@ -115,19 +116,24 @@ other_step old tree names closing within b c =
 
 -- ---- an element in scope is closed, or the tag is ignored
 
-abbrev acts_if : Bool → List Act → List Act
+abbrev pub acts_if : Bool → List Act → List Act
 acts_if x acts = elim (not x && true) [ true ↦ [] | false ↦ acts ]
 
-closes : (b : Building) (new : TreeBuilder) (kind : ScopeKind) (names : List (List ℕ)) (acts : List Act) → are_all_done acts ≡ true →
-    taken b (rules InBody) ≡ acts_if (has_in_scope kind names b.tree) acts → acted acts b ≡ with_tree b (popped_until names b.tree) →
-    Constructs new (with_tree b (closed_in kind names b.tree)) → Outcome InBody b new Next.Done
-closes b new kind names acts done row same stands = by (has_in_scope kind names b.tree) refl
+pub closes_so : (b : Building) (new : TreeBuilder) (kind : ScopeKind) (names : List (List ℕ)) (acts : List Act) (after : GrowingTree) → are_all_done acts ≡ true →
+    taken b (rules InBody) ≡ acts_if (has_in_scope kind names b.tree) acts → acted acts b ≡ with_tree b after →
+    Constructs new (with_tree b (tree_if (has_in_scope kind names b.tree) after b.tree)) → Outcome InBody b new Next.Done
+closes_so b new kind names acts after done row same stands = by (has_in_scope kind names b.tree) refl
   where
     by : (x : Bool) → has_in_scope kind names b.tree ≡ x → Outcome InBody b new Next.Done
     by true e = outcome_of_acts InBody b new acts done (row ∙ ap (λ x. acts_if x acts) e)
-        (subst (Constructs new) (sym same) (subst (λ x. Constructs new (with_tree b (tree_if x (popped_until names b.tree) b.tree))) e stands))
+        (subst (Constructs new) (sym same) (subst (λ x. Constructs new (with_tree b (tree_if x after b.tree))) e stands))
     by false e = outcome_of_acts InBody b new [] refl (row ∙ ap (λ x. acts_if x acts) e)
-        (same_tree new b (subst (λ x. Constructs new (with_tree b (tree_if x (popped_until names b.tree) b.tree))) e stands))
+        (same_tree new b (subst (λ x. Constructs new (with_tree b (tree_if x after b.tree))) e stands))
+
+pub closes : (b : Building) (new : TreeBuilder) (kind : ScopeKind) (names : List (List ℕ)) (acts : List Act) → are_all_done acts ≡ true →
+    taken b (rules InBody) ≡ acts_if (has_in_scope kind names b.tree) acts → acted acts b ≡ with_tree b (popped_until names b.tree) →
+    Constructs new (with_tree b (closed_in kind names b.tree)) → Outcome InBody b new Next.Done
+closes b new kind names acts done row same stands = closes_so b new kind names acts (popped_until names b.tree) done row same stands
 
 implied_acts : (b : Building) → are_apart implied (own_name b.token ∷ []) ≡ true →
     acted (does ImpliedEndTags [] ∷ does (PopUntil Own) [] ∷ []) b ≡ with_tree b (popped_until (own_name b.token ∷ []) b.tree)
@@ -289,19 +295,26 @@ span_like Group.Li name h other = absurd (true≢false (sym h))
 span_like Group.Void name h other = void_span name other
 span_like _ name h other = refl
 
--- a covered end tag has a name that is known
-covered_known : (name : Name) → covers_end name ≡ true → is_name name Name.Other ≡ false
-covered_known Name.Other h = absurd (true≢false (sym h))
-covered_known _ h = refl
+-- the name of an end tag that is not in `Name`
+other_named : (name : Name) (tag : Tag) (b : Building) → (c : IsCurrentTag name tag b) → is_name name Name.Other ≡ true → IsOtherName name (string_bytes tag.name) c.standard.name
+other_named name tag b c h =
+    let other = other_name name h in
+    record { tag = c.written; other = other; unknown = sym c.named ∙ other; spelt = c.is.name }
 
 pub other_ended : (name : Name) (tag : Tag) (old new : TreeBuilder) → ends_otherwise (group_named name) ≡ true → (name ≡ Name.Br → ⊥) →
-    (is_name name Name.Other ≡ false → ChangesTree (closed_before is_special_node (text_of name ∷ [])) old new) → EndsInBody name tag old new Next.Done
-other_ended name tag old new otherwise no_br changes covers ends within b current stands test =
-    let known = covered_known name covers in
-    let own : own_name b.token ≡ text_of name = own_of_end name tag b current ends (no_other name known) in
+    (is_name name Name.Other ≡ false → ChangesTree (closed_before is_special_node (text_of name ∷ [])) old new) →
+    ((text : List ℕ) → IsOtherName name (string_bytes tag.name) text → ChangesTree (closed_before is_special_node (text ∷ [])) old new) →
+    EndsInBody name tag old new Next.Done
+other_ended name tag old new otherwise no_br changes unknown covers ends within b current stands test =
     outcome_of_acts InBody b new (does AnyOtherEndTag [] ∷ []) refl
     (group_end (group_named name) name tag b refl current ends ∙ ap (λ (n : Name). choice b (end_rules_for n)) (span_like (group_named name) name otherwise no_br) ∙ span_row b)
-    (subst (Constructs new) (sym (other_acts b)) (subst (λ w. Constructs new (with_tree b (closed_before is_special_node (w ∷ []) b.tree))) (sym own) (changes known within b stands)))
+    (subst (Constructs new) (sym (other_acts b)) (by (is_name name Name.Other) refl))
+  where
+    by : (x : Bool) → is_name name Name.Other ≡ x → Constructs new (with_tree b (closed_before is_special_node (own_name b.token ∷ []) b.tree))
+    by false e = subst (λ w. Constructs new (with_tree b (closed_before is_special_node (w ∷ []) b.tree))) (sym (own_of_end name tag b current ends (no_other name e)))
+        (changes e within b stands)
+    by true e = subst (λ w. Constructs new (with_tree b (closed_before is_special_node (w ∷ []) b.tree))) (sym (written_of_end name tag b current ends))
+        (unknown current.standard.name (other_named name tag b current e) within b stands)
 
 -- the end tags of the groups that are left
 pub left_over : (group : Group) → (group ≡ Group.Block → ⊥) → (group ≡ Group.Button → ⊥) → (group ≡ Group.Pre → ⊥) → (group ≡ Group.Select → ⊥) → (group ≡ Group.Heading → ⊥) →
@@ -324,14 +337,6 @@ left_over Group.P h1 h2 h3 h4 h5 h6 h7 h8 h9 h10 h11 h12 h13 h14 h15 h16 = absur
 left_over Group.Form h1 h2 h3 h4 h5 h6 h7 h8 h9 h10 h11 h12 h13 h14 h15 h16 = absurd (h15 refl)
 left_over Group.Li h1 h2 h3 h4 h5 h6 h7 h8 h9 h10 h11 h12 h13 h14 h15 h16 = absurd (h16 refl)
 left_over _ h1 h2 h3 h4 h5 h6 h7 h8 h9 h10 h11 h12 h13 h14 h15 h16 = refl
-
--- an end tag that is not covered
-pub end_uncovered : (group other : Group) (name : Name) (tag : Tag) (old new : TreeBuilder) (next : Next) → group_named name ≡ group → group ≡ other → covers_end_of other ≡ false → EndsInBody name tag old new next
-end_uncovered group other name tag old new next e f none covers = absurd (true≢false (sym (ending name covers) ∙ ap covers_end_of (e ∙ f) ∙ none))
-  where
-    ending : (name : Name) → covers_end name ≡ true → covers_end_of (group_named name) ≡ true
-    ending Name.Other h = absurd (true≢false (sym h))
-    ending _ h = h
 
 -- ---- `p`
 

@@ -1,12 +1,12 @@
 -- What the rules for "in body" make of the tags of formatting elements, among the tags of the other groups.
-use Rattle.std.proofs.Common.{◌≡◌, Bool, true, false, refl, sym, ap, subst, ◌∙◌, true≢false}
+use Rattle.std.proofs.Common.{◌≡◌, true, refl, sym, ap, subst, ◌∙◌, true≢false}
 use Rattle.standard_trees.specs.Building.{Building}
 use Rattle.standard_trees.specs.RuleWords.{InBody}
 use Rattle.page_tokens.specs.declared.token.Tag.{Tag}
 use Rattle.page_trees.specs.BodyTags.{Continues, EndsInBody, IsContinued, ends_in}
 use Rattle.page_trees.specs.Constructs.{RemembersLimits}
 use Rattle.page_trees.specs.Groups.{group_named}
-use Rattle.page_trees.specs.Listing.{ProcessesEndWhere, ProcessesStartWhere, ends_adoption, formats, lists_few, lists_no_a}
+use Rattle.page_trees.specs.Listing.{ProcessesEndWhere, ProcessesStartWhere, ends_adoption, formats, lists_few, starts_a, starts_nobr}
 use Rattle.page_trees.specs.declared.builder.Next.{Next}
 use Rattle.page_trees.specs.declared.builder.TreeBuilder.{TreeBuilder}
 use Rattle.page_trees.specs.declared.modes.groups.Group.{Group}
@@ -16,9 +16,20 @@ pub a_named : (name : Name) → group_named name ≡ Group.A → name ≡ Name.A
 a_named Name.A e = refl
 a_named _ e = absurd (cc)
 
-pub a_continued : (tag : Tag) (old new : TreeBuilder) (next : Next) → RemembersLimits old new → ProcessesStartWhere lists_no_a InBody Name.A tag old new next →
+pub a_continued : (tag : Tag) (old new : TreeBuilder) (next : Next) → RemembersLimits old new → ProcessesStartWhere starts_a InBody Name.A tag old new next →
     Continues Group.A Name.A tag old new next
 a_continued tag old new next remembers rule covers named = record {
+  limits = remembers;
+  rule = λ starts within b current html stands test. rule starts within b test current stands;
+}
+
+pub nobr_named : (name : Name) → group_named name ≡ Group.Nobr → name ≡ Name.Nobr
+nobr_named Name.Nobr e = refl
+nobr_named _ e = absurd (cc)
+
+pub nobr_continued : (tag : Tag) (old new : TreeBuilder) (next : Next) → RemembersLimits old new → ProcessesStartWhere starts_nobr InBody Name.Nobr tag old new next →
+    Continues Group.Nobr Name.Nobr tag old new next
+nobr_continued tag old new next remembers rule covers named = record {
   limits = remembers;
   rule = λ starts within b current html stands test. rule starts within b test current stands;
 }

@@ -15,7 +15,7 @@ use Rattle.page_tokens.specs.Standard.{kind_of}
 use Rattle.page_tokens.specs.declared.token.Tag.{Tag}
 use Rattle.page_tokens.specs.declared.token.TagKind.{TagKind}
 use Rattle.page_trees.specs.BodyTags.{acted}
-use Rattle.page_trees.specs.Constructs.{Constructs, IsCurrentTag, Outcome}
+use Rattle.page_trees.specs.Constructs.{ComesTo, Constructs, IsCurrentTag, Outcome}
 use Rattle.page_trees.specs.Groups.{IsGroupOf, body_rules_for, example_of, group_named, rules_for}
 use Rattle.page_trees.specs.Modes.{is_start_kind}
 use Rattle.page_trees.specs.Names.{html_rows, name_of, rare_rows, text_of}
@@ -43,11 +43,13 @@ acts_done (does action tests ∷ acts) b d h = acts_done acts _ d h
 acts_done (goes way ∷ acts) b d h = absurd (true≢false (sym h))
 
 -- a rule with such acts is taken, and they are done where their tests are met
+pub comes_of_acts : (mode : StandardMode) (b : Building) (acts : List Act) → are_all_done acts ≡ true → taken b (rules mode) ≡ acts → ComesTo mode b (acted acts b)
+unfolding run
+comes_of_acts mode b acts h e = (suc zero, ap (λ some. performed (run zero) some b) e ∙ acts_done acts b zero h)
+
 pub outcome_of_acts : (mode : StandardMode) (b : Building) (new : TreeBuilder) (acts : List Act) → are_all_done acts ≡ true → taken b (rules mode) ≡ acts →
     Constructs new (acted acts b) → Outcome mode b new Next.Done
-unfolding run
-outcome_of_acts mode b new acts h e stands =
-    record { after = acted acts b; stands = stands; runs = (suc zero, ap (λ some. performed (run zero) some b) e ∙ acts_done acts b zero h) }
+outcome_of_acts mode b new acts h e stands = record { after = acted acts b; stands = stands; runs = comes_of_acts mode b acts h e }
 
 -- ---- the rules for a token
 
@@ -97,7 +99,7 @@ token_end : (standard : StandardTag) → standard.kind ≡ Ending → token_of s
 token_end standard e =
     ap (λ k. elim k [ Starting ↦ AStart standard.name (distinct (reverse standard.attrs)) standard.self_closing | Ending ↦ AnEnd standard.name ]) e
 
-kind_start : (k : TagKind) → is_start_kind k ≡ true → kind_of k ≡ Starting
+pub kind_start : (k : TagKind) → is_start_kind k ≡ true → kind_of k ≡ Starting
 kind_start TagKind.Start h = refl
 kind_start TagKind.End h = absurd (true≢false (sym h))
 
@@ -119,8 +121,12 @@ starts_known : list_all (all_pass knows_start) (rules InBody) ≡ true
 unfolding rules html_rows rare_rows
 starts_known = refl
 
+-- the rules for this token
+pub rules_for_token : (b : Building) (t : Token) → b.token ≡ t → taken b (rules InBody) ≡ choice b (rules_for t (rules InBody))
+rules_for_token b t e = taken_choice b (rules InBody) ∙ ap (λ u. choice b (rules_for u (rules InBody))) e
+
 -- the current token is a start tag with that name
-current_start : (name : Name) (tag : Tag) (b : Building) (c : IsCurrentTag name tag b) → is_start_kind tag.kind ≡ true →
+pub current_start : (name : Name) (tag : Tag) (b : Building) (c : IsCurrentTag name tag b) → is_start_kind tag.kind ≡ true →
     b.token ≡ AStart c.standard.name (distinct (reverse c.standard.attrs)) c.standard.self_closing
 current_start name tag b c e = c.token ∙ token_start c.standard (sym c.is.kind ∙ kind_start tag.kind e)
 
@@ -232,6 +238,9 @@ known_text w name e known = elim (text_again w) [
   | inl other ↦ absurd (known (e ∙ other))
   | inr same ↦ sym same ∙ ap text_of (sym e)
 ]
+
+pub written_of_end : (name : Name) (tag : Tag) (b : Building) → (c : IsCurrentTag name tag b) → is_start_kind tag.kind ≡ false → own_name b.token ≡ c.standard.name
+written_of_end name tag b c e = ap own_name (current_end name tag b c e)
 
 pub own_of_end : (name : Name) (tag : Tag) (b : Building) → IsCurrentTag name tag b → is_start_kind tag.kind ≡ false → (name ≡ Name.Other → ⊥) → own_name b.token ≡ text_of name
 own_of_end name tag b c e known = ap own_name (current_end name tag b c e) ∙ known_text c.standard.name name c.named known

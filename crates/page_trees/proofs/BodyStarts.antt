@@ -1,6 +1,6 @@
 -- What the rules for "in body" make of the start tags of each group.
-use Rattle.std.proofs.Common.{◌≡◌, ◌⊎◌, inl, inr, ℕ, Bool, true, false, ◌&&◌, not, List, [], ◌∷◌, codes, refl, sym, ap, subst, ◌∙◌, true≢false, if◌then◌else◌}
-use Rattle.standard_trees.specs.Building.{Building, perform, taken, token_attrs, with_tree}
+use Rattle.std.proofs.Common.{◌≡◌, ◌⊎◌, inl, inr, ℕ, Bool, true, false, ◌&&◌, List, [], ◌∷◌, codes, refl, sym, ap, subst, ◌∙◌, true≢false}
+use Rattle.standard_trees.specs.Building.{Building, perform, token_attrs, with_tree}
 use Rattle.std.specs.Prelude.{Some}
 use Rattle.standard_trees.specs.GrowingTree.{GrowingTree, current as top_of, has_in_scope, in_scope, is_one as is_one_of, popped_until}
 use Rattle.standard_trees.specs.NameLists.{headings}
@@ -14,9 +14,8 @@ use Rattle.page_trees.specs.BodyTags.{ActsFor, Begins, Continues, EndsInBody, Is
 use Rattle.page_trees.specs.BodyTags.{ends_in, starts_in, suits_body}
 use Rattle.page_trees.specs.BodyTags.{is_inline, is_phrase, is_texty, only_if}
 use Rattle.page_trees.specs.Closing.{closed_before, ends_items_node, item_texts}
-use Rattle.page_trees.specs.Constructs.{Constructs, IsCurrentTag, Outcome, Performs, PerformsFor, RemembersLimits, WithinLimits, all_performed}
-use Rattle.page_trees.specs.Groups.{body_rules_for, closes_p, example_of, group_named, reconstructs, spoils_frameset}
-use Rattle.page_trees.specs.LateMerges.{HasHtml, ProcessesHtmlTag}
+use Rattle.page_trees.specs.Constructs.{Constructs, IsCurrentTag, Outcome, Performs, PerformsFor, RemembersLimits, WithinLimits}
+use Rattle.page_trees.specs.Groups.{body_rules_for, example_of, group_named}
 use Rattle.page_trees.specs.Modes.{is_start_kind}
 use Rattle.page_trees.specs.Stands.{Does, closed_in, popped, popped_if}
 use Rattle.page_trees.specs.TreeState.{TreeState}
@@ -37,6 +36,7 @@ still name tag b c e f now = record {
   standard = now.standard;
   is = now.is;
   written = now.written;
+  plain = now.plain;
   named = now.named;
   token = e ∙ now.token;
   attrs = f ∙ now.attrs ∙ ap token_attrs (sym e);
@@ -374,10 +374,6 @@ button_started tag old tree new next done remembers closes inserts covers named 
       subst (λ (n : Next). Outcome InBody b new n) (sym done)
       (button_made tag b new x current starts refl (inserts starts within (with_tree flagged after) (still Name.Button tag b (with_tree flagged after) refl refl current) closed));
 }
-
--- a group that is not covered
-pub uncovered : (group other : Group) (name : Name) (tag : Tag) (old new : TreeBuilder) (next : Next) → group ≡ other → covers_start other ≡ false → Continues group name tag old new next
-uncovered group other name tag old new next e none covers = absurd (true≢false (sym covers ∙ ap covers_start e ∙ none))
 
 -- ---- which group is left
 

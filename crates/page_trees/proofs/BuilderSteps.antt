@@ -2,7 +2,7 @@
 use Rattle.std.proofs.Common.{◌≡◌, Bool, true, false, [], ◌∷◌, refl, sym, ap, subst, ◌∙◌, true≢false}
 use Rattle.std.specs.Prelude.{None, OnOk, Option, Some, Result, Ok, Err}
 use Rattle.standard_trees.specs.Building.{Building, FullQuirks, perform, with_tree}
-use Rattle.standard_trees.specs.GrowingTree.{GrowingTree, current}
+use Rattle.standard_trees.specs.GrowingTree.{GrowingTree}
 use Rattle.standard_trees.specs.RuleWords.{BeforeHtml, InBody, Pop, SetQuirks, SwitchTo}
 use Rattle.dom_trees.specs.declared.quirks.QuirksMode.{QuirksMode}
 use Rattle.page_trees.specs.Constructs.{Constructs, Performs, RemembersLimits, WithinLimits}
@@ -24,6 +24,15 @@ pub was_ok : (f : Option PageFault) (done : Result Unit PageFault) (P : Type 0) 
 was_ok None (Ok u) P h p = p
 was_ok None (Err fault) P h p = absurd (cc)
 was_ok (Some fault) done P h p = absurd (cc)
+
+-- within the limits, what was kept was no fault
+pub kept_same : (old new : TreeBuilder) (done : Result Unit PageFault) → new ≡ record old { fault = first_fault old.fault done } → WithinLimits new → new ≡ old
+kept_same old new done e within =
+    let none : first_fault old.fault done ≡ None = sym (ap (λ (s : TreeBuilder). s.fault) e) ∙ within.fault in
+    e ∙ ap (λ f. record old { fault = f }) (none ∙ sym (no_fault old.fault done none))
+
+pub kept_limits : (old new : TreeBuilder) (done : Result Unit PageFault) → new ≡ record old { fault = first_fault old.fault done } → RemembersLimits old new
+kept_limits old new done e within = subst WithinLimits (kept_same old new done e within) within
 
 -- behind an edit, what is known of limits
 pub limits_kept : (old kept new : TreeBuilder) (done : Result Unit PageFault) → kept.fault ≡ first_fault old.fault done → kept.too_deep ≡ old.too_deep → new.fault ≡ kept.fault →

@@ -1,15 +1,16 @@
 -- A call that may fail is a step of the definition where it does not.
-use Rattle.std.proofs.Common.{◌≡◌, ◌<◌, ◌≤◌, ℕ, List, [], ◌∷◌, ◌++◌, Result, Ok, Err, ap, arith, length, sym, subst, ◌∙◌}
+use Rattle.std.proofs.Common.{◌≡◌, ◌<◌, ◌≤◌, ℕ, List, [], ◌∷◌, ◌++◌, Result, Ok, Err, ap, arith, length, sym, subst, true≢false, ◌∙◌}
 use Rattle.std.specs.Prelude.{OnOk}
 use Rattle.std.proofs.lemmas.List.{length_push}
 use Rattle.dom_links.specs.Forest.{Forest}
-use Rattle.dom_links.specs.Sound.{IsForest, IsOpenGap}
+use Rattle.dom_links.specs.Sound.{IsForest}
 use Rattle.dom_links.specs.declared.gap.InsertionPoint.TheVariants.{EndOf as TheEndOf}
 use Rattle.page_tokens.specs.declared.token.Tag.{Tag}
 use Rattle.standard_trees.specs.GrowingTree.{GrowingTree, inserted_at}
 use Rattle.standard_trees.specs.TreeStore.{EndOf, Html, NodeAttr}
 use Rattle.page_trees.specs.Elements.{IsRooted}
 use Rattle.page_trees.specs.Insertions.{MakesNext, open_for_tag, with_tag_at}
+use Rattle.page_trees.specs.Scopes.{is_name}
 use Rattle.page_trees.specs.Stands.{Builds, IsTagOf}
 use Rattle.page_trees.specs.TreeState.{TreeState}
 use Rattle.page_trees.specs.declared.fault.PageFault.{PageFault}
@@ -32,5 +33,6 @@ pub root_built : (s : TreeState) (t : GrowingTree) (h : Forest) (n : ℕ) (tag :
     made ≡ open_for_tag ElementNamespace.Html Name.Html tag made.id → stack ≡ s.stack ++ made ∷ [] → Builds (record s { forest = h; stack = stack }) (inserted_at (EndOf 0) Html written attrs t)
 root_built s t h n tag written attrs made stack b good rooted root is next shape pushed =
     element_built s t h (TheEndOf 0) (EndOf 0) ElementNamespace.Html Name.Html tag written attrs made made 0 stack b good (root_open s.forest good rooted) (root_point s t b) is
+    (λ other. absurd (true≢false (sym (ap (λ (n : Name). is_name n Name.Other) other))))
     (subst (λ (k : ℕ). MakesNext made.id s.forest h (with_tag_at (TheEndOf k) ElementNamespace.Html Name.Html tag s.forest)) root next)
     shape (shape ∙ sym (ap (λ (o : Open). record o { number = 0 }) shape)) pushed

@@ -1,11 +1,10 @@
 -- What is done to the list of active formatting elements is a step of the definition.
-use Rattle.std.proofs.Common.{◌≡◌, ℕ, Bool, true, false, List, [], ◌∷◌, ◌++◌, map, reverse, refl, sym, ap, subst, ◌∙◌, if◌then◌else◌}
+use Rattle.std.proofs.Common.{◌≡◌, List, [], ◌∷◌, ◌++◌, map, reverse, refl, sym, ap, subst, ◌∙◌, if◌then◌else◌}
 use Rattle.std.specs.Prelude.{All}
 use Rattle.std.proofs.lemmas.List.{reverse-append}
 use Rattle.std.proofs.lemmas.List.Elements.{All-push}
 use Rattle.standard_trees.specs.Formatting.{cleared}
-use Rattle.standard_trees.specs.GrowingTree.{Entry as StandardEntry, Formatting, GrowingTree, Marker}
-use Rattle.standard_trees.specs.TreeStore.{Node}
+use Rattle.standard_trees.specs.GrowingTree.{Entry as StandardEntry, GrowingTree, Marker}
 use Rattle.page_trees.specs.Popping.{before_last, is_a_marker}
 use Rattle.page_trees.specs.Stands.{Builds, EntryStands, IsListOf, entry_of, with_marker, without_marker}
 use Rattle.page_trees.specs.TreeState.{TreeState}
@@ -18,6 +17,7 @@ pub built_listed : (s : TreeState) (t : GrowingTree) (entries : List Entry) (lis
 built_listed s t entries listed b is = record {
   nodes = b.nodes;
   stack = record { ids = b.stack.ids; nodes = b.stack.nodes };
+  numbered = b.numbered;
   listed = is;
   head = b.head;
   head_named = b.head_named;

@@ -1,10 +1,9 @@
 -- What is made in the tree, or cut out of it, is a step of the definition.
-use Rattle.std.proofs.Common.{◌≡◌, ℕ, suc, zero, ◌<◌, ◌≤◌, ◌+◌, ◌==◌, ◌&&◌, ◌||◌, Bool, true, false, List, [], ◌∷◌, ◌++◌, map, reverse, refl, sym, ap, ◌∙◌, length, Option, Some, None, arith, inl, inr, subst, codes, cond, true≢false, if◌then◌else◌}
-use Rattle.std.specs.Prelude.{encode_utf8_all, get_or, slice_get, slice_index_or, string_bytes}
+use Rattle.std.proofs.Common.{◌≡◌, ℕ, suc, zero, ◌+◌, ◌&&◌, ◌||◌, Bool, true, false, List, [], ◌∷◌, ◌++◌, map, reverse, refl, sym, ap, ◌∙◌, length, Option, Some, None, arith, subst, codes, cond, true≢false, if◌then◌else◌}
+use Rattle.std.specs.Prelude.{encode_utf8_all, get_or, slice_index_or, string_bytes}
 use Rattle.std.specs.Borrow.{Bor}
-use Rattle.std.specs.Option.{option_map, option_map_or}
+use Rattle.std.specs.Option.{option_map}
 use Rattle.std.proofs.lemmas.List.{reverse-append}
-use Rattle.std.proofs.lemmas.Slice.Eq.{bytes_eq-Decides}
 use Rattle.std.specs.Str.{bytes_eq}
 use Rattle.dom_nodes.specs.Kinds.{contents_named}
 use Rattle.dom_nodes.specs.declared.name.Attr.{Attr}
@@ -18,30 +17,32 @@ use Rattle.dom_links.specs.declared.gap.InsertionPoint.{InsertionPoint}
 use Rattle.dom_links.specs.declared.gap.InsertionPoint.TheVariants.{EndOf as TheEndOf}
 use Rattle.page_tokens.specs.declared.token.Tag.{Tag}
 use Rattle.standard_tokens.specs.Tokens.{Doctype as DoctypeToken}
-use Rattle.standard_trees.specs.GrowingTree.{GrowingTree, created, created_at, created_element, fresh, inserted_at, is_among, is_html_point, is_template, kind_of, place, pushed, put}
-use Rattle.standard_trees.specs.GrowingTree.{topmost, with_comment}
-use Rattle.standard_trees.specs.GrowingTree.{is_named as is_of_kind, is_one as is_one_of}
-use Rattle.standard_trees.specs.NameLists.{html_points}
-use Rattle.standard_trees.specs.TreeStore.{CommentNode, ContentsNode, DoctypeNode, ElementNode, EndOf, Html, Kind, Node, NodeAttr, Place, Space, contents_in, is_document, leaf, node_at, put_at, removed}
+use Rattle.standard_trees.specs.GrowingTree.{GrowingTree, created, created_at, fresh, inserted_at, is_among, is_template, pushed, put}
+use Rattle.standard_trees.specs.GrowingTree.{with_comment}
+use Rattle.standard_trees.specs.GrowingTree.{lower}
+use Rattle.standard_trees.specs.NameLists.{html_points, svg_names}
+use Rattle.standard_trees.specs.TreeStore.{CommentNode, ContentsNode, DoctypeNode, ElementNode, EndOf, Kind, Node, NodeAttr, Place, Space, contents_in, is_document, leaf, node_at, removed, local_in}
 use Rattle.page_trees.specs.Elements.{IsRooted}
 use Rattle.page_trees.specs.Foreign.{attr_in, element_name_in, is_html_annotation, local_name_in, namespace_in}
 use Rattle.page_trees.specs.Insertions.{MakesNext, element_for_tag, flags_for, open_for_tag, with_tag_at}
-use Rattle.page_trees.specs.Names.{html_rows, name_of, rare_rows}
-use Rattle.page_trees.specs.Placing.{is_a_template, is_template_named}
-use Rattle.page_trees.specs.SameNodes.{AreNodes, IsKind, IsPointOf, attr_for, element_for, namespace_for, part_for, with_kind, with_kind_at}
-use Rattle.page_trees.specs.Sets.{is_an_html_point, is_in_mathml, is_one, is_one_in, key_for, local_for, space_of}
-use Rattle.page_trees.specs.Stands.{AllStand, Builds, IsOfKind, IsStackOf, IsTagOf, StandsFor, cut}
+use Rattle.page_trees.specs.NameNumbers.{IsNumbered, number_in}
+use Rattle.page_trees.specs.Names.{html_rows, rare_rows}
+use Rattle.page_trees.specs.Placing.{is_template_named}
+use Rattle.page_trees.specs.SameNodes.{AreNodes, IsKind, IsPointOf, element_for, namespace_for, part_for, with_kind, with_kind_at}
+use Rattle.page_trees.specs.Sets.{is_in_mathml, is_one_in, key_for, local_for, space_of}
+use Rattle.page_trees.specs.Stands.{AllStand, Builds, IsOfKind, IsTagOf, StandsFor, cut, IsTagName}
 use Rattle.page_trees.specs.TreeState.{TreeState, added_to, completed}
 use Rattle.page_trees.specs.declared.name.Name.{Name}
 use Rattle.page_trees.specs.declared.stack.ElementNamespace.{ElementNamespace}
 use Rattle.page_trees.specs.declared.stack.Open.{Open}
-use Rattle.page_trees.proofs.ActionsOnNodes.{created_kind, inserted_nodes}
+use Rattle.page_trees.proofs.ActionsOnNodes.{created_kind}
 use Rattle.page_trees.proofs.BuiltStacks.{built_on}
-use Rattle.page_trees.proofs.KeptElements.{Keeps, all_kept, built_grown, keeps_cut, keeps_kind_at, none_added}
+use Rattle.page_trees.proofs.KeptElements.{built_grown, keeps_cut, keeps_kind_at, none_added}
 use Rattle.page_trees.proofs.LateNodes.{late_cut, late_element_at, late_forest, late_long, late_node_at, late_open}
 use Rattle.page_trees.proofs.MadeNodes.{root_opens}
+use Rattle.page_trees.proofs.NumberedNames.{one_more_numbered}
 use Rattle.page_trees.proofs.StandingEdits.{element_changes, node_changes}
-use Rattle.page_trees.proofs.StandingNames.{are_known, key_agrees}
+use Rattle.page_trees.proofs.StandingNames.{are_known, key_agrees, lower_adjusted}
 use Rattle.page_trees.proofs.StandingNodes.{nodes_cut, same_length}
 use Rattle.page_trees.proofs.StandingPlaces.{template_known}
 use Rattle.page_trees.proofs.StoreLemmas.{kind_at, kinds, kinds_more, kinds_put}
@@ -221,20 +222,27 @@ tag_stands ns name tag written attrs id n number is = record {
     by false e = refl
 
 -- an element is pushed onto the stack
-pub built_pushed : (s : TreeState) (t : GrowingTree) (o : Open) (stack : List Open) → Builds s t → StandsFor t.nodes o → stack ≡ s.stack ++ o ∷ [] → (n : ℕ) → o.id ≡ n →
-    Builds (record s { stack = stack }) (record t { stack = n ∷ t.stack })
-built_pushed s t o stack b stands e n id =
+pub built_pushed : (s : TreeState) (t : GrowingTree) (o : Open) (stack : List Open) → Builds s t → StandsFor t.nodes o → IsNumbered s.numbers o (node_at t.nodes o.id).kind →
+    stack ≡ s.stack ++ o ∷ [] → (n : ℕ) → o.id ≡ n → Builds (record s { stack = stack }) (record t { stack = n ∷ t.stack })
+built_pushed s t o stack b stands numbered e n id =
     let turned : reverse stack ≡ o ∷ reverse s.stack = ap (λ (os : List Open). reverse os) e ∙ reverse-append s.stack (o ∷ []) in
     built_on s t stack (n ∷ t.stack) b (record {
       ids = ap (λ (k : ℕ). k ∷ t.stack) (sym id) ∙ ap (λ (ns : List ℕ). o.id ∷ ns) b.stack.ids ∙ ap (λ (os : List Open). map (λ p. p.id) os) (sym turned);
       nodes = subst (AllStand t.nodes) (sym turned) (stands, b.stack.nodes);
-    })
+    }) (one_more_numbered s.numbers t.nodes s.stack stack o e numbered b.numbered)
+
+-- the name of its tag, in lower case
+written_in : (ns : ElementNamespace) (written : List ℕ) → IsTagName written → lower (local_for ns written) ≡ written
+written_in ElementNamespace.Html written tag = tag.lower_case
+written_in ElementNamespace.Svg written tag = lower_adjusted svg_names written tag.lower_case
+written_in ElementNamespace.MathMl written tag = tag.lower_case
 
 pub element_built : (s : TreeState) (t : GrowingTree) (h : Forest) (gap : InsertionPoint) (spot : Place) (ns : ElementNamespace) (name : Name) (tag : Tag) (written : List ℕ) (attrs : List NodeAttr)
     (made o : Open) (number : ℕ) (stack : List Open) → Builds s t → IsForest s.forest → IsOpenGap gap s.forest → IsPointOf t.nodes gap spot → IsTagOf ns name tag written attrs →
+    (name ≡ Name.Other → number_in s.numbers (string_bytes tag.name) ≡ Some number) →
     MakesNext made.id s.forest h (with_tag_at gap ns name tag s.forest) → made ≡ open_for_tag ns name tag made.id → o ≡ record made { number = number } → stack ≡ s.stack ++ o ∷ [] →
     Builds (record s { forest = h; stack = stack }) (inserted_at spot (space_of ns) (local_for ns written) attrs t)
-element_built s t h gap spot ns name tag written attrs made o number stack b good opens at is next shape numbered pushed_is =
+element_built s t h gap spot ns name tag written attrs made o number stack b good opens at is known next shape numbered pushed_is =
     let f : Forest = completed s.late s.forest in
     let kind : Kind = created_kind (space_of ns) (local_for ns written) attrs (length t.nodes) in
     let nodes : List Node = with_kind_at kind spot t.nodes in
@@ -251,6 +259,10 @@ element_built s t h gap spot ns name tag written attrs made o number stack b goo
     numbered ∙ ap (λ (p : Open). record p { number = number }) (shape ∙ ap (open_for_tag ns name tag) id) in
     let stands : StandsFor nodes (record (open_for_tag ns name tag (length t.nodes)) { number = number }) =
     subst (IsOfKind (record (open_for_tag ns name tag (length t.nodes)) { number = number })) (sym (made_kind kind spot t.nodes)) (tag_stands ns name tag written attrs (length t.nodes) (length t.nodes) number is) in
+    let spelt : name ≡ Name.Other → encode_utf8_all (lower (local_in (node_at nodes (length t.nodes)).kind)) ≡ string_bytes tag.name = λ other.
+    ap (λ (k : Kind). encode_utf8_all (lower (local_in k))) (made_kind kind spot t.nodes) ∙ ap encode_utf8_all (written_in ns written is.tag_name) ∙ sym (is.spelt other) in
+    let has : IsNumbered s.numbers (record (open_for_tag ns name tag (length t.nodes)) { number = number }) (node_at nodes (length t.nodes)).kind =
+    λ other. ap (number_in s.numbers) (spelt other) ∙ known other in
     subst (Builds (record s { forest = h; stack = stack })) (sym (inserted_is spot (space_of ns) (local_for ns written) attrs t))
     (built_pushed (record s { forest = h }) (record t { nodes = nodes }) o stack grown
-    (subst (λ (p : Open). StandsFor nodes p) (sym it) stands) pushed_is (length t.nodes) (ap (λ (p : Open). p.id) it))
+    (subst (λ (p : Open). StandsFor nodes p) (sym it) stands) (subst (λ (p : Open). IsNumbered s.numbers p (node_at nodes p.id).kind) (sym it) has) pushed_is (length t.nodes) (ap (λ (p : Open). p.id) it))

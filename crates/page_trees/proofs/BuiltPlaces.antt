@@ -1,5 +1,5 @@
 -- The insertion point for a node is the place of the definition.
-use Rattle.std.proofs.Common.{◌≡◌, ℕ, suc, zero, ◌<◌, ◌≤◌, Bool, true, false, List, [], ◌∷◌, reverse, refl, sym, ap, ◌∙◌, length, Option, Some, None, arith, inl, inr, subst, true≢false, if◌then◌else◌}
+use Rattle.std.proofs.Common.{◌≡◌, ℕ, ◌<◌, Bool, true, false, reverse, refl, sym, ap, ◌∙◌, length, Option, Some, None, subst, if◌then◌else◌}
 use Rattle.std.specs.Prelude.{nat_le}
 use Rattle.std.specs.Option.{option_map_or}
 use Rattle.std.proofs.lemmas.Bool.{lt-leb}
@@ -20,7 +20,7 @@ use Rattle.page_trees.proofs.StandingPlaces.{place_point, spot_agrees}
 not_deep : (max n : ℕ) → n < max → nat_le max n ≡ false
 not_deep max n less = lt-leb max n less
 
-spot_point : (s : TreeState) (t : GrowingTree) (foster : Bool) (gap : InsertionPoint) → Builds s t → IsForest s.forest → t.fostering ≡ foster →
+pub spot_point : (s : TreeState) (t : GrowingTree) (foster : Bool) (gap : InsertionPoint) → Builds s t → IsForest s.forest → t.fostering ≡ foster →
     gap ≡ point_of s.forest (place_of s.forest foster (reverse s.stack)) → IsPointOf t.nodes gap (place t)
 spot_point s t foster gap b good fosters e =
     let f : Forest = completed s.late s.forest in

@@ -1,5 +1,5 @@
 -- What is done to the head and form element pointers is a step of the definition.
-use Rattle.std.proofs.Common.{◌≡◌, ℕ, Bool, true, false, not, List, [], ◌∷◌, refl, sym, ap, ◌∙◌, codes}
+use Rattle.std.proofs.Common.{◌≡◌, ℕ, true, false, not, [], ◌∷◌, refl, sym, ap, ◌∙◌, codes}
 use Rattle.std.specs.Prelude.{None, Option, Some}
 use Rattle.std.specs.Option.{is_some, option_map_or}
 use Rattle.standard_trees.specs.Building.{is_present, is_set}
@@ -18,6 +18,7 @@ pub built_head : (s : TreeState) (t : GrowingTree) (n : ℕ) → Builds s t → 
 built_head s t n b e named = record {
   nodes = b.nodes;
   stack = record { ids = b.stack.ids; nodes = b.stack.nodes };
+  numbered = b.numbered;
   listed = b.listed;
   head = ap Some e;
   head_named = named;
@@ -33,6 +34,7 @@ pub built_form : (s : TreeState) (t : GrowingTree) (n : ℕ) → Builds s t → 
 built_form s t n b e is = record {
   nodes = b.nodes;
   stack = record { ids = b.stack.ids; nodes = b.stack.nodes };
+  numbered = b.numbered;
   listed = b.listed;
   head = b.head;
   head_named = b.head_named;
@@ -47,6 +49,7 @@ pub built_form_of_context : (s : TreeState) (t : GrowingTree) → Builds s t →
 built_form_of_context s t b = record {
   nodes = b.nodes;
   stack = record { ids = b.stack.ids; nodes = b.stack.nodes };
+  numbered = b.numbered;
   listed = b.listed;
   head = b.head;
   head_named = b.head_named;

@@ -1,25 +1,27 @@
 -- What is done to the stack of open elements is a step of the definition.
-use Rattle.std.proofs.Common.{◌≡◌, ◌+◌, ◌-◌, ◌⊎◌, ◌==◌, inl, inr, ℕ, suc, zero, cond, Bool, true, false, ◌&&◌, ◌||◌, not, List, [], ◌∷◌, ◌++◌, map, reverse, length, drop, refl, sym, ap, subst, ◌∙◌, arith, true≢false, codes, if◌then◌else◌}
+use Rattle.std.proofs.Common.{◌≡◌, ◌+◌, ◌-◌, ◌⊎◌, ◌==◌, inl, inr, ℕ, suc, zero, cond, Bool, true, false, ◌&&◌, not, List, [], ◌∷◌, ◌++◌, map, reverse, length, drop, refl, sym, ap, subst, ◌∙◌, arith, true≢false, codes, if◌then◌else◌, take}
 use Rattle.std.specs.Prelude.{IfNone, None, Option, Some, slice_get}
 use Rattle.std.specs.Option.{option_map_or, option_or, option_to_list, unwrap_or}
 use Rattle.std.proofs.lemmas.Bool.Decides.{eqb_tells}
 use Rattle.std.proofs.lemmas.List.{append-nil, length_push, reverse-append}
 use Rattle.std.proofs.lemmas.Option.{none-some, same_Some}
 use Rattle.dom_links.specs.Forest.{Forest}
-use Rattle.standard_trees.specs.GrowingTree.{GrowingTree, adjusted_current, beyond, current, implied_of, is_among, is_single, kind_of, past, popped_until, top, with_stack}
+use Rattle.standard_trees.specs.GrowingTree.{GrowingTree, adjusted_current, beyond, current, implied_of, is_single, kind_of, past, popped_until, top, with_stack}
 use Rattle.standard_trees.specs.GrowingTree.{has_in_scope, is_one as is_one_of}
 use Rattle.standard_trees.specs.Formatting.{without_p}
 use Rattle.standard_trees.specs.NameLists.{implied}
 use Rattle.standard_trees.specs.RuleWords.{ButtonScope, ScopeKind}
-use Rattle.standard_trees.specs.TreeStore.{DocumentNode, Kind, Node, key_in, node_at}
+use Rattle.standard_trees.specs.TreeStore.{DocumentNode, Kind, Node, node_at}
+use Rattle.page_trees.specs.NameNumbers.{AreNumbered}
 use Rattle.page_trees.specs.Names.{text_of}
 use Rattle.page_trees.specs.Popping.{before_last}
-use Rattle.page_trees.specs.Scopes.{has_name, is_name, is_named}
+use Rattle.page_trees.specs.Scopes.{has_name, is_name}
 use Rattle.page_trees.specs.SameNodes.{AreNodes}
 use Rattle.page_trees.specs.Stands.{AllStand, Builds, IsContext, IsCurrent, IsOfKind, IsStackOf, StandsFor, closed_in, popped, popped_if}
 use Rattle.page_trees.specs.TreeState.{TreeState, adjusted_at}
 use Rattle.page_trees.specs.declared.name.Name.{Name}
 use Rattle.page_trees.specs.declared.stack.Open.{Open}
+use Rattle.page_trees.proofs.NumberedNames.{front_numbered}
 use Rattle.page_trees.proofs.PoppingLemmas.{before_last_push}
 use Rattle.page_trees.proofs.ScopeLemmas.{by_ends, slice_get_end}
 use Rattle.page_trees.proofs.StandingNames.{current_named, named_agrees}
@@ -31,10 +33,11 @@ pub restacked : (s old : TreeState) (xs ys : List Open) → s ≡ old → xs ≡
 restacked s old xs ys e f = ap (λ (o : TreeState). record o { stack = xs }) e ∙ ap (λ (os : List Open). record old { stack = os }) f
 
 pub built_on : (s : TreeState) (t : GrowingTree) (kept : List Open) (ns : List ℕ) → Builds s t → IsStackOf (with_stack t ns) kept →
-    Builds (record s { stack = kept }) (with_stack t ns)
-built_on s t kept ns b is = record {
+    AreNumbered s.numbers t.nodes kept → Builds (record s { stack = kept }) (with_stack t ns)
+built_on s t kept ns b is numbered = record {
   nodes = b.nodes;
   stack = is;
+  numbered = numbered;
   listed = b.listed;
   head = b.head;
   head_named = b.head_named;
@@ -47,8 +50,8 @@ built_on s t kept ns b is = record {
 
 -- the same of a state that is known to be that one
 pub built_as : (s new : TreeState) (t : GrowingTree) (kept : List Open) (ns : List ℕ) → new ≡ record s { stack = kept } → Builds s t →
-    IsStackOf (with_stack t ns) kept → Builds new (with_stack t ns)
-built_as s new t kept ns e b is = subst (λ (o : TreeState). Builds o (with_stack t ns)) (sym e) (built_on s t kept ns b is)
+    IsStackOf (with_stack t ns) kept → AreNumbered s.numbers t.nodes kept → Builds new (with_stack t ns)
+built_as s new t kept ns e b is numbered = subst (λ (o : TreeState). Builds o (with_stack t ns)) (sym e) (built_on s t kept ns b is numbered)
 
 -- one change of the stack after another is one change
 pub restacked_again : (old between new : TreeState) (kept : List Open) → between ≡ record old { stack = between.stack } →
@@ -56,12 +59,18 @@ pub restacked_again : (old between new : TreeState) (kept : List Open) → betwe
 restacked_again old between new kept e f g =
     f ∙ ap (λ (s : TreeState). record s { stack = new.stack }) e ∙ ap (λ (os : List Open). record old { stack = os }) g
 
--- the same of a view of the state
-pub built_cut : (view old new : TreeState) (t : GrowingTree) (kept : List Open) (ns : List ℕ) → view ≡ old → new ≡ record view { stack = kept } →
-    Builds old t → (IsStackOf t view.stack → IsStackOf (with_stack t ns) kept) → Builds new (with_stack t ns)
-built_cut view old new t kept ns e f b step =
-    let here : Builds view t = subst (λ (o : TreeState). Builds o t) (sym e) b in
-    built_as view new t kept ns f here (step here.stack)
+-- the stack is cut
+pub built_front : (s new : TreeState) (t : GrowingTree) (n : ℕ) (ns : List ℕ) → new ≡ record s { stack = take n s.stack } → Builds s t →
+    IsStackOf (with_stack t ns) (take n s.stack) → Builds new (with_stack t ns)
+built_front s new t n ns e b is =
+    built_as s new t (take n s.stack) ns e b is (front_numbered s.numbers t.nodes s.stack n b.numbered)
+
+-- the same of what a view of the state tells
+pub built_cut : (view s new : TreeState) (t : GrowingTree) (n : ℕ) (ns : List ℕ) → view ≡ s → new ≡ record s { stack = take n s.stack } → Builds s t →
+    (IsStackOf t view.stack → IsStackOf (with_stack t ns) (take n view.stack)) → Builds new (with_stack t ns)
+built_cut view s new t n ns v e b step =
+    built_front s new t n ns e b
+    (subst (λ (o : TreeState). IsStackOf (with_stack t ns) (take n o.stack)) v (step (subst (λ (o : TreeState). IsStackOf t o.stack) (sym v) b.stack)))
 
 -- ---- the current node is popped
 

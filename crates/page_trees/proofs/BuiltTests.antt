@@ -1,5 +1,5 @@
 -- What is asked about the context element is what the definition asks.
-use Rattle.std.proofs.Common.{◌≡◌, Bool, false, [], ◌∷◌, Option, Some, None, refl, sym, ap, ◌∙◌}
+use Rattle.std.proofs.Common.{◌≡◌, false, [], ◌∷◌, Option, Some, None, refl}
 use Rattle.std.specs.Option.{option_map_or}
 use Rattle.standard_trees.specs.GrowingTree.{GrowingTree}
 use Rattle.standard_trees.specs.GrowingTree.{is_named as is_of_kind}

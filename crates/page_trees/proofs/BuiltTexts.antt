@@ -1,5 +1,5 @@
 -- Characters that are inserted are a step of the definition.
-use Rattle.std.proofs.Common.{◌≡◌, ℕ, suc, zero, ◌<◌, ◌≤◌, ◌+◌, ◌-◌, ◌&&◌, Bool, true, false, List, [], ◌∷◌, map, reverse, refl, sym, ap, ◌∙◌, length, Option, Some, None, arith, if◌then◌else◌, inl, inr, subst, true≢false}
+use Rattle.std.proofs.Common.{◌≡◌, ℕ, suc, zero, ◌<◌, ◌-◌, ◌&&◌, Bool, true, false, List, [], ◌∷◌, map, refl, sym, ap, ◌∙◌, length, Option, Some, None, arith, if◌then◌else◌, subst, true≢false}
 use Rattle.std.specs.Prelude.{encode_utf8_all, slice_get, unwrap_or}
 use Rattle.std.specs.Option.{option_map_or}
 use Rattle.dom_nodes.specs.declared.node_data.NodeData.TheVariants.{Text}
@@ -7,11 +7,10 @@ use Rattle.dom_links.specs.AddedTexts.{with_text_at as text_at}
 use Rattle.dom_links.specs.Forest.{Forest}
 use Rattle.dom_links.specs.Sound.{IsForest, IsOpenGap}
 use Rattle.dom_links.specs.declared.gap.InsertionPoint.{InsertionPoint}
-use Rattle.dom_links.specs.declared.gap.InsertionPoint.TheVariants.{Before as TheBefore, EndOf as TheEndOf}
 use Rattle.standard_trees.specs.GrowingTree.{GrowingTree, current, foster_place, in_contents, kind_of, place, place_is_document, text_behind, with_chars}
 use Rattle.standard_trees.specs.GrowingTree.{is_one as is_one_of}
 use Rattle.standard_trees.specs.NameLists.{fostering_names}
-use Rattle.standard_trees.specs.TreeStore.{Before, ContentsNode, DocumentNode, ElementNode, EndOf, Kind, Node, Place, contents_in, is_document, is_member, node_at, node_before, parent_of}
+use Rattle.standard_trees.specs.TreeStore.{Before, ContentsNode, EndOf, Kind, Node, Place, contents_in, is_document, is_member, node_at, node_before}
 use Rattle.page_trees.specs.TextPlaces.{is_in_root, is_zero}
 use Rattle.page_trees.specs.SameNodes.{AreNodes, IsPointOf, with_text_at}
 use Rattle.page_trees.specs.Stands.{AllStand, Builds, IsCurrent, StandsFor, place_for}
@@ -20,9 +19,9 @@ use Rattle.page_trees.specs.declared.growing.placing.Placing.{Placing}
 use Rattle.page_trees.specs.declared.stack.Open.{Open}
 use Rattle.page_trees.proofs.BuiltNodes.{no_later}
 use Rattle.page_trees.proofs.BuiltStacks.{current_node, not_zero, nothing_current}
-use Rattle.page_trees.proofs.CharacterRuns.{AreLow, TakesTexts, chars_are, grown}
-use Rattle.page_trees.proofs.KeptElements.{built_grown, keeps_text_at, past_kind}
-use Rattle.page_trees.proofs.LateNodes.{late_forest, late_long, late_open, late_text_at}
+use Rattle.page_trees.proofs.CharacterRuns.{AreLow, TakesTexts, chars_are}
+use Rattle.page_trees.proofs.KeptElements.{built_grown, keeps_text_at}
+use Rattle.page_trees.proofs.LateNodes.{late_forest, late_open, late_text_at}
 use Rattle.page_trees.proofs.StandingEdits.{alone_good}
 use Rattle.page_trees.proofs.StandingNodes.{contents_is, parent_at, same_length, text_stands}
 use Rattle.page_trees.proofs.StandingParents.{parent_is}

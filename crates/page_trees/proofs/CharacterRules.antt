@@ -1,5 +1,5 @@
 -- Which rules are taken for a character, and what they come to.
-use Rattle.std.proofs.Common.{◌≡◌, ℕ, Bool, true, false, ◌&&◌, ◌||◌, not, List, [], ◌∷◌, refl, sym, ap, subst, ◌∙◌, true≢false, inl, inr, if◌then◌else◌}
+use Rattle.std.proofs.Common.{◌≡◌, ℕ, Bool, true, false, ◌&&◌, ◌||◌, List, [], ◌∷◌, refl, sym, ap, subst, ◌∙◌, true≢false, inl, inr, if◌then◌else◌}
 use Rattle.std.specs.Prelude.{◌==◌}
 use Rattle.std.proofs.lemmas.Bool.{cases_Bool, eqb-true}
 use Rattle.std.specs.List.{list_all, list_any}
@@ -8,12 +8,11 @@ use Rattle.standard_trees.specs.Building.{Building, fits, is_empty, is_met, is_s
 use Rattle.standard_trees.specs.Formatting.{reconstructed}
 use Rattle.standard_trees.specs.GrowingTree.{GrowingTree, adjusted_current, is_html_point, is_named, with_char}
 use Rattle.standard_trees.specs.NameLists.{text_points}
-use Rattle.standard_trees.specs.RuleWords.{Act, Action, Dispatcher, ForeignContent, FramesetNotOk, InBody, InsertCharacter, InsertReplacement, Mode as StandardMode, Pattern, Null}
+use Rattle.standard_trees.specs.RuleWords.{Act, Dispatcher, ForeignContent, FramesetNotOk, InBody, InsertCharacter, InsertReplacement, Mode as StandardMode, Pattern, Null}
 use Rattle.standard_trees.specs.RuleWords.{ReconstructFormatting, Rule, Use, UseCurrentMode, WhiteSpace, goes, rule}
 use Rattle.standard_trees.specs.TreeRules.{rules}
 use Rattle.standard_trees.specs.TreeStore.{NodeAttr, is_html, space_in}
 use Rattle.page_trees.specs.CharacterSteps.{goes_to_mode, is_null, ok_behind, way_of_letters, way_of_nulls, way_of_spaces}
-use Rattle.page_trees.specs.Constructs.{all_performed}
 use Rattle.page_trees.specs.Modes.{mode_of}
 use Rattle.page_trees.specs.declared.builder.Mode.{Mode}
 use Rattle.page_trees.specs.declared.builder.Next.{Next}

@@ -1,9 +1,9 @@
 -- "Insert a character" for each character of a run is one text at the appropriate place.
-use Rattle.std.proofs.Common.{◌≡◌, ℕ, suc, zero, ◌<◌, ◌≤◌, ◌+◌, Bool, true, false, List, [], ◌∷◌, ◌++◌, map, refl, sym, ap, ◌∙◌, length, Option, Some, None, arith, inl, inr, subst}
+use Rattle.std.proofs.Common.{◌≡◌, ℕ, suc, zero, ◌<◌, ◌≤◌, Bool, true, false, List, [], ◌∷◌, ◌++◌, refl, sym, ap, ◌∙◌, length, Option, Some, None, arith, inl, inr, subst}
 use Rattle.std.specs.Prelude.{codes, cond, get_or, nat_eq, not, unwrap_or, ◌&&◌, ◌||◌}
 use Rattle.std.proofs.lemmas.Bool.{cases_Bool, eqb-true, ne_eqb}
-use Rattle.standard_trees.specs.GrowingTree.{GrowingTree, created_at, current, foster_place, in_contents, is_among, is_one, kind_of, place, place_in, place_is_document}
-use Rattle.standard_trees.specs.GrowingTree.{text_behind, top, with_char, with_chars, with_text}
+use Rattle.standard_trees.specs.GrowingTree.{GrowingTree, created_at, current, foster_place, in_contents, is_among, is_one, kind_of, place, place_is_document}
+use Rattle.standard_trees.specs.GrowingTree.{text_behind, with_char, with_chars, with_text}
 use Rattle.standard_trees.specs.NameLists.{fostering_names}
 use Rattle.standard_trees.specs.TreeStore.{Before, ContentsNode, EndOf, Kind, Node, Place, TextNode, attrs_in, changed_at, contents_in, is_document, is_member, key_in, leaf}
 use Rattle.standard_trees.specs.TreeStore.{node_at, node_before, parent_from, parent_of, placed_before, put_at, removed, space_in, text_in, without}

@@ -1,5 +1,5 @@
 -- What comes of the characters of a text, one after the other.
-use Rattle.std.proofs.Common.{◌≡◌, ℕ, zero, suc, Bool, true, false, ◌&&◌, ◌||◌, not, List, [], ◌∷◌, ◌++◌, map, refl, sym, ap, subst, ◌∙◌, true≢false, inl, inr, if◌then◌else◌, length, arith}
+use Rattle.std.proofs.Common.{◌≡◌, ℕ, Bool, true, false, ◌&&◌, ◌||◌, not, List, [], ◌∷◌, ◌++◌, map, refl, sym, ap, subst, ◌∙◌, true≢false, inl, inr, if◌then◌else◌, length, arith}
 use Rattle.std.specs.Borrow.{Bor}
 use Rattle.std.specs.List.{list_all}
 use Rattle.std.specs.Option.{option_and_then}
@@ -8,28 +8,27 @@ use Rattle.std.proofs.lemmas.Bool.{cases_Bool, ne_eqb}
 use Rattle.std.proofs.lemmas.List.{map-append}
 use Rattle.std.proofs.lemmas.Option.{same_Some}
 use Rattle.standard_tokens.specs.Tokens.{AChar, Token as StandardToken}
-use Rattle.standard_trees.specs.Building.{Building, is_empty, is_line_feed, is_space, run, tree_steps, with_next}
+use Rattle.standard_trees.specs.Building.{Building, is_empty, is_line_feed, is_space, tree_steps, with_next}
 use Rattle.standard_trees.specs.RuleWords.{Dispatcher, Mode as StandardMode, TextState}
-use Rattle.page_tokens.specs.declared.tokenizer.state.State.{State}
-use Rattle.page_trees.specs.CharacterSteps.{Inserts, fits_in, fits_mode, goes_to_mode, has_begun, has_no_null, is_dropping, is_null, is_nowhere, is_run}
+use Rattle.page_trees.specs.CharacterSteps.{Inserts, fits_in, fits_mode, goes_to_mode, has_begun, has_no_null, is_dropping, is_nowhere, is_run}
 use Rattle.page_trees.specs.CharacterTexts.{TakesCharacters, TakesPiece, TakesText, fits_piece, front_spaces, is_text, past_spaces, unskipped}
 use Rattle.page_trees.specs.Constructs.{Constructs, RemembersLimits, WithinLimits, state_for}
 use Rattle.page_trees.specs.CoveredTurns.{FewTurns, ProcessesToken, TakesTokens, covered_turn, is_text_mode}
 use Rattle.page_trees.specs.Modes.{drops_letters, joins_spaces, mode_of}
-use Rattle.page_trees.specs.Turns.{run_while, tree_step_while, tree_steps_while}
+use Rattle.standard_order.specs.Turns.{run_while, tree_step_while, tree_steps_while}
 use Rattle.page_trees.specs.declared.builder.Mode.{Mode}
 use Rattle.page_trees.specs.declared.builder.TreeBuilder.{TreeBuilder}
 use Rattle.page_trees.specs.declared.chars.Run.{Run}
 use Rattle.page_trees.specs.declared.modes.Token.{Token}
 use Rattle.page_trees.proofs.CharactersBehind.{no_skip, no_state}
 use Rattle.page_trees.proofs.CoveredRuns.{is_covered}
-use Rattle.page_trees.proofs.DeeperRuns.{then_below}
+use Rattle.page_trees.proofs.FollowingTurns.{in_turn}
 use Rattle.page_trees.proofs.KeptByCharacters.{char_keeps}
 use Rattle.page_trees.proofs.NamesAgree.{both}
 use Rattle.page_trees.proofs.RunOutcomes.{dropping_is, put_in_text}
 use Rattle.page_trees.proofs.SpacesApart.{all_front, all_past, front_encoded, joined, none_encoded, nulls_encoded, past_encoded, past_first, unskipped_encoded}
 use Rattle.page_trees.proofs.TokenStates.{begun}
-use Rattle.page_trees.proofs.TokenTurns.{fits_is, in_turn}
+use Rattle.page_trees.proofs.TokenTurns.{fits_is}
 use Rattle.page_trees.proofs.TurnsPassed.{first_steps, turn_passes, while_all_steps, while_runs}
 
 -- the tokens of characters

@@ -4,9 +4,9 @@ use Rattle.std.specs.Prelude.{not, option_map}
 use Rattle.std.specs.List.{list_all}
 use Rattle.std.specs.Option.{option_and_then}
 use Rattle.standard_tokens.specs.Tokens.{AChar, Token}
-use Rattle.standard_trees.specs.Building.{Building, is_line_feed, is_space, perform, performed, run, taken, tree_step, tree_steps, with_next}
+use Rattle.standard_trees.specs.Building.{Building, perform, performed, run, taken, tree_step, tree_steps}
 use Rattle.standard_trees.specs.GrowingTree.{GrowingTree, with_char, with_chars}
-use Rattle.standard_trees.specs.RuleWords.{Act, Action, Dispatcher, Mode as StandardMode, TextState, Use, UseCurrentMode, goes}
+use Rattle.standard_trees.specs.RuleWords.{Action, Dispatcher, Mode as StandardMode, TextState, Use, UseCurrentMode, goes}
 use Rattle.standard_trees.specs.TreeRules.{rules}
 use Rattle.standard_trees.specs.TreeStore.{NodeAttr}
 use Rattle.page_trees.specs.CharacterSteps.{Completes, has_begun, is_nowhere, ok_behind, ok_behind_all, then_chars}
@@ -25,7 +25,7 @@ ComesOnlyTo mode b c = (depth : ℕ) (x : Building) → run depth mode b ≡ Som
 some_one : {A : Type 0} (x y : A) → Some x ≡ Some y → x ≡ y
 some_one x y e = cc
 
-end_of_plain : (actions : List Action) (b : Building) (d : ℕ) → performed (run d) (plainly actions Next.Done) b ≡ Some (all_performed actions b)
+pub end_of_plain : (actions : List Action) (b : Building) (d : ℕ) → performed (run d) (plainly actions Next.Done) b ≡ Some (all_performed actions b)
 end_of_plain [] b d = refl
 end_of_plain (action ∷ actions) b d = end_of_plain actions (perform action b) d
 
@@ -74,7 +74,7 @@ pub record Treats (b : Building) (passes : ℕ → Bool) (Good : GrowingTree →
   pub good : (t : GrowingTree) (c : ℕ) → Good t → Good (change c t)
 
 -- the first result is known, and what follows from more characters
-next_chars : (d : ℕ) (cs : List ℕ) (y x : Building) (R : Type 0) (o : Option Building) → ((z : Building) → o ≡ Some z → z ≡ y) →
+pub next_chars : (d : ℕ) (cs : List ℕ) (y x : Building) (R : Type 0) (o : Option Building) → ((z : Building) → o ≡ Some z → z ≡ y) →
     (tree_steps d y (map (λ c. AChar c) cs) ≡ Some x → R) → then_chars d cs o ≡ Some x → R
 next_chars d cs y x R None only rest h = absurd (cc)
 next_chars d cs y x R (Some z) only rest h = rest (sym (ap (λ (w : Building). tree_steps d w (map (λ c. AChar c) cs)) (only z refl)) ∙ h)

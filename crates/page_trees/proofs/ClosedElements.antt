@@ -1,7 +1,7 @@
 -- An element is closed with all that were opened after it: what the searches of the code find, and what the definition does.
-use Rattle.std.proofs.Common.{◌≡◌, ◌+◌, ◌-◌, ◌<◌, ◌≤◌, ℕ, Bool, true, false, ◌&&◌, ◌||◌, not, List, [], ◌∷◌, ◌++◌, map, reverse, length, take, nat_eq, refl, sym, ap, subst, ◌∙◌, arith, true≢false, codes, if◌then◌else◌, inl, inr}
+use Rattle.std.proofs.Common.{◌≡◌, ◌+◌, ◌-◌, ℕ, Bool, true, false, ◌&&◌, ◌||◌, not, List, [], ◌∷◌, ◌++◌, map, reverse, length, take, nat_eq, refl, sym, ap, subst, ◌∙◌, arith, true≢false, if◌then◌else◌, inl, inr}
 use Rattle.std.specs.Prelude.{None, Option, Some, slice_get}
-use Rattle.std.specs.List.{list_all, list_any}
+use Rattle.std.specs.List.{list_all}
 use Rattle.std.specs.Option.{option_map_or}
 use Rattle.std.specs.Str.{bytes_eq}
 use Rattle.std.proofs.lemmas.Bool.{cases_Bool, eq-eqb, eqb-true}
@@ -9,20 +9,20 @@ use Rattle.std.proofs.lemmas.List.{take-append-le, take_all}
 use Rattle.std.proofs.lemmas.Slice.Eq.{bytes_eq-Decides}
 use Rattle.standard_trees.specs.Formatting.{any_other_end, closed_item, closed_other, ends_other, open_item}
 use Rattle.standard_trees.specs.GrowingTree.{GrowingTree, beyond, current, ends_scope as ends_scope_of, implied_of, in_scope, is_among as is_among_of}
-use Rattle.standard_trees.specs.GrowingTree.{is_named as is_of_kind, is_one as is_one_of, key, kind_of, past, popped_until, with_stack}
+use Rattle.standard_trees.specs.GrowingTree.{is_named as is_of_kind, is_one as is_one_of, key, past, popped_until, with_stack}
 use Rattle.standard_trees.specs.NameLists.{crossed_by_items, headings, implied, scope, special}
 use Rattle.standard_trees.specs.RuleWords.{Scope as DefaultScope}
-use Rattle.standard_trees.specs.TreeStore.{Kind, key_in}
+use Rattle.standard_trees.specs.TreeStore.{Kind}
 use Rattle.page_trees.specs.Closing.{IsFoundAt, IsPlaceFrom, closed_before, ends_items_node, is_special_node, item_names, item_texts}
 use Rattle.page_trees.specs.Names.{html_rows, rare_rows, text_of}
 use Rattle.page_trees.specs.Popping.{before_last}
 use Rattle.page_trees.specs.Scopes.{ends_items, is_among, is_name, is_named, last_place}
 use Rattle.page_trees.specs.Sets.{ends_scope, is_a_heading, is_crossed, is_one, is_special_element}
-use Rattle.page_trees.specs.Stands.{Builds, IsCurrent, IsStackOf, StandsFor, closed_in, popped, popped_if}
+use Rattle.page_trees.specs.Stands.{Builds, IsCurrent, IsStackOf, StandsFor}
 use Rattle.page_trees.specs.TreeState.{TreeState}
 use Rattle.page_trees.specs.declared.name.Name.{Name}
 use Rattle.page_trees.specs.declared.stack.Open.{Open}
-use Rattle.page_trees.proofs.BuiltStacks.{built_as, current_node, implied_first, popped_through}
+use Rattle.page_trees.proofs.BuiltStacks.{built_front, current_node, implied_first, popped_through}
 use Rattle.page_trees.proofs.NamesAgree.{both}
 use Rattle.page_trees.proofs.PoppingLemmas.{before_last_push}
 use Rattle.page_trees.proofs.ScopeLemmas.{by_ends, last_place_le, last_place_push, last_place_same, scope_search}
@@ -72,32 +72,49 @@ take_before : {X : Type 0} (p : X → Bool) (xs : List X) (n : ℕ) → n + 1 �
 take_before p = by_ends (λ xs. (n : ℕ) → n + 1 ≡ last_place p xs → take n xs ≡ before_last p xs) (λ n e. absurd (omega (arith, e)))
     (λ ys y ih n e. take_step p ys y n (p y) ih (e ∙ last_place_push p ys y) ∙ sym (before_last_push p ys y))
 
-cut_at : (t : GrowingTree) (p : Open → Bool) (q : ℕ → Bool) → ((o : Open) → StandsFor t.nodes o → p o ≡ q o.id) → (all : List Open) (place : ℕ) → place + 1 ≡ last_place p all →
+pub cut_at : (t : GrowingTree) (p : Open → Bool) (q : ℕ → Bool) → ((o : Open) → StandsFor t.nodes o → p o ≡ q o.id) → (all : List Open) (place : ℕ) → place + 1 ≡ last_place p all →
     IsStackOf t all → IsStackOf (with_stack t (past q t.stack)) (take place all)
 cut_at t p q same all place e s = subst (IsStackOf (with_stack t (past q t.stack))) (sym (take_before p all place e)) (popped_through t p q same all s)
 
--- a search of the code and one of the definition, which go for the same elements
+-- a search of the code and one of the definition, which go for the same elements of a tree
+pub record AgreeAt (t : GrowingTree) (wanted ends : Open → Bool) (stop : GrowingTree → ℕ → Bool) (names : List (List ℕ)) : Type 0 where
+  pub sought : (o : Open) → StandsFor t.nodes o → wanted o ≡ is_one_of t names o.id
+  pub ended : (o : Open) → StandsFor t.nodes o → ends o ≡ stop t o.id
+
+-- the same of every tree
 pub record Agree (wanted ends : Open → Bool) (stop : GrowingTree → ℕ → Bool) (names : List (List ℕ)) : Type 0 where
   pub sought : (t : GrowingTree) (o : Open) → StandsFor t.nodes o → wanted o ≡ is_one_of t names o.id
   pub ended : (t : GrowingTree) (o : Open) → StandsFor t.nodes o → ends o ≡ stop t o.id
 
-scope_is : (wanted ends : Open → Bool) (stop : GrowingTree → ℕ → Bool) (names : List (List ℕ)) → Agree wanted ends stop names → (t : GrowingTree) (all : List Open) → IsStackOf t all →
+agree_at : (wanted ends : Open → Bool) (stop : GrowingTree → ℕ → Bool) (names : List (List ℕ)) → Agree wanted ends stop names → (t : GrowingTree) → AgreeAt t wanted ends stop names
+agree_at wanted ends stop names agree t = record { sought = agree.sought t; ended = agree.ended t }
+
+scope_is : (wanted ends : Open → Bool) (stop : GrowingTree → ℕ → Bool) (names : List (List ℕ)) (t : GrowingTree) → AgreeAt t wanted ends stop names → (all : List Open) → IsStackOf t all →
     in_scope wanted ends (reverse all) ≡ in_scope (is_one_of t names) (stop t) t.stack
-scope_is wanted ends stop names agree t all s =
-    searched wanted ends (is_one_of t names) (stop t) t (agree.sought t) (agree.ended t) (reverse all) s.nodes ∙ ap (in_scope (is_one_of t names) (stop t)) (sym s.ids)
+scope_is wanted ends stop names t agree all s =
+    searched wanted ends (is_one_of t names) (stop t) t agree.sought agree.ended (reverse all) s.nodes ∙ ap (in_scope (is_one_of t names) (stop t)) (sym s.ids)
+
+pub closed_there : (wanted ends : Open → Bool) (stop : GrowingTree → ℕ → Bool) (names : List (List ℕ)) (view old new : TreeState) (t : GrowingTree) → AgreeAt t wanted ends stop names → (place : ℕ) → view ≡ old → Builds old t →
+    IsFoundAt wanted ends view.stack (Some place) → new ≡ record old { stack = take place old.stack } → Builds new (closed_before stop names t)
+closed_there wanted ends stop names view old new t agree place v b found e =
+    let here : IsFoundAt wanted ends old.stack (Some place) = subst (λ (s : TreeState). IsFoundAt wanted ends s.stack (Some place)) v found in
+    subst (Builds new) (sym (ap (λ x. elim x [ true ↦ popped_until names t | false ↦ t ]) (sym (scope_is wanted ends stop names t agree old.stack b.stack) ∙ here.0)))
+    (built_front old new t place (past (is_one_of t names) t.stack) e b (cut_at t wanted (is_one_of t names) agree.sought old.stack place here.1 b.stack))
+
+pub nothing_there : (wanted ends : Open → Bool) (stop : GrowingTree → ℕ → Bool) (names : List (List ℕ)) (view old : TreeState) (t : GrowingTree) → AgreeAt t wanted ends stop names → view ≡ old → Builds old t →
+    IsFoundAt wanted ends view.stack None → Builds old (closed_before stop names t)
+nothing_there wanted ends stop names view old t agree v b found =
+    let here : IsFoundAt wanted ends old.stack None = subst (λ (s : TreeState). IsFoundAt wanted ends s.stack None) v found in
+    subst (Builds old) (sym (ap (λ x. elim x [ true ↦ popped_until names t | false ↦ t ]) (sym (scope_is wanted ends stop names t agree old.stack b.stack) ∙ here))) b
 
 pub closed_at : (wanted ends : Open → Bool) (stop : GrowingTree → ℕ → Bool) (names : List (List ℕ)) → Agree wanted ends stop names → (view old new : TreeState) (t : GrowingTree) (place : ℕ) → view ≡ old → Builds old t →
     IsFoundAt wanted ends view.stack (Some place) → new ≡ record old { stack = take place old.stack } → Builds new (closed_before stop names t)
 closed_at wanted ends stop names agree view old new t place v b found e =
-    let here : IsFoundAt wanted ends old.stack (Some place) = subst (λ (s : TreeState). IsFoundAt wanted ends s.stack (Some place)) v found in
-    subst (Builds new) (sym (ap (λ x. elim x [ true ↦ popped_until names t | false ↦ t ]) (sym (scope_is wanted ends stop names agree t old.stack b.stack) ∙ here.0)))
-    (built_as old new t (take place old.stack) (past (is_one_of t names) t.stack) e b (cut_at t wanted (is_one_of t names) (agree.sought t) old.stack place here.1 b.stack))
+    closed_there wanted ends stop names view old new t (agree_at wanted ends stop names agree t) place v b found e
 
 pub nothing_closed : (wanted ends : Open → Bool) (stop : GrowingTree → ℕ → Bool) (names : List (List ℕ)) → Agree wanted ends stop names → (view old : TreeState) (t : GrowingTree) → view ≡ old → Builds old t →
     IsFoundAt wanted ends view.stack None → Builds old (closed_before stop names t)
-nothing_closed wanted ends stop names agree view old t v b found =
-    let here : IsFoundAt wanted ends old.stack None = subst (λ (s : TreeState). IsFoundAt wanted ends s.stack None) v found in
-    subst (Builds old) (sym (ap (λ x. elim x [ true ↦ popped_until names t | false ↦ t ]) (sym (scope_is wanted ends stop names agree t old.stack b.stack) ∙ here))) b
+nothing_closed wanted ends stop names agree view old t v b found = nothing_there wanted ends stop names view old t (agree_at wanted ends stop names agree t) v b found
 
 headings_known : are_known headings ≡ true
 unfolding html_rows rare_rows
@@ -107,7 +124,7 @@ scope_known : are_known scope ≡ true
 unfolding html_rows rare_rows
 scope_known = refl
 
-special_known : are_known special ≡ true
+pub special_known : are_known special ≡ true
 unfolding html_rows rare_rows
 special_known = refl
 

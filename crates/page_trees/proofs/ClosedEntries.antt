@@ -1,7 +1,7 @@
 -- The entries behind the last marker and the last open element are those that the definition reconstructs.
-use Rattle.std.proofs.Common.{◌≡◌, ℕ, suc, zero, ◌<◌, ◌≤◌, ◌+◌, ◌&&◌, ◌||◌, Bool, true, false, List, [], ◌∷◌, ◌++◌, drop, map, reverse, refl, sym, ap, ◌∙◌, length, arith, inl, inr, subst, true≢false, eqb, if◌then◌else◌}
+use Rattle.std.proofs.Common.{◌≡◌, ℕ, suc, ◌<◌, ◌≤◌, ◌+◌, ◌&&◌, ◌||◌, Bool, true, false, List, [], ◌∷◌, ◌++◌, drop, map, reverse, refl, sym, ap, ◌∙◌, length, arith, inl, inr, subst, true≢false, eqb, if◌then◌else◌}
 use denote.Enum.Declared.{tag_of}
-use Rattle.std.specs.Prelude.{All, None, OnOk, Option, Result, nat_eq, not}
+use Rattle.std.specs.Prelude.{All, None, OnOk, Result, nat_eq, not}
 use Rattle.std.specs.List.{list_any}
 use Rattle.std.proofs.lemmas.Bool.{cases_Bool, eq-eqb, eqb-true, ne_eqb}
 use Rattle.std.proofs.lemmas.List.{append-nil, append_assoc, length-append, length_push, map-append, reverse-append}
@@ -13,7 +13,7 @@ use Rattle.standard_trees.specs.GrowingTree.{is_one as is_one_of}
 use Rattle.standard_trees.specs.RuleWords.{FramesetNotOk, ListMarker, ReconstructFormatting}
 use Rattle.standard_trees.specs.TreeStore.{Html, is_member}
 use Rattle.page_tokens.specs.declared.token.Tag.{Tag}
-use Rattle.page_trees.specs.Constructs.{Constructs, IsCurrentTag, Performs, WithinLimits, first_fault}
+use Rattle.page_trees.specs.Constructs.{Constructs, IsCurrentTag, Performs, first_fault}
 use Rattle.page_trees.specs.Names.{html_rows, rare_rows, text_of}
 use Rattle.page_trees.specs.Popping.{up_to_last}
 use Rattle.page_trees.specs.Reopening.{Reopens, entries_for, is_closed, is_this, stays, with_entries}
@@ -38,7 +38,7 @@ use Rattle.page_trees.proofs.NamesAgree.{for_all}
 use Rattle.page_trees.proofs.PoppingLemmas.{any_push, up_to_last_push}
 use Rattle.page_trees.proofs.ReopenedElements.{entries_apart}
 use Rattle.page_trees.proofs.ScopeLemmas.{by_ends}
-use Rattle.page_trees.proofs.StandingNames.{named_agrees, named_is_one}
+use Rattle.page_trees.proofs.StandingNames.{named_agrees}
 
 -- ---- an element is open
 
@@ -327,7 +327,7 @@ marked_as old new done tree e does within b c =
 pub still_current : (name : Name) (tag : Tag) (b : Building) → IsCurrentTag name tag b → IsCurrentTag name tag (perform ReconstructFormatting b)
 unfolding perform
 still_current name tag b c =
-    record { standard = c.standard; is = c.is; written = c.written; named = c.named; token = c.token; attrs = c.attrs }
+    record { standard = c.standard; is = c.is; written = c.written; plain = c.plain; named = c.named; token = c.token; attrs = c.attrs }
 
 -- ---- the flag of framesets
 

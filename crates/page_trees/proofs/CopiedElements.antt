@@ -1,7 +1,7 @@
 -- A copy of a formatting element is the element that the definition inserts for the same token.
-use Rattle.std.proofs.Common.{◌≡◌, ℕ, suc, zero, ◌<◌, ◌≤◌, ◌+◌, ◌&&◌, ◌||◌, Bool, true, false, not, List, [], ◌∷◌, ◌++◌, map, reverse, refl, sym, ap, ◌∙◌, length, Option, Some, None, arith, inl, inr, subst, codes, true≢false, if◌then◌else◌}
+use Rattle.std.proofs.Common.{◌≡◌, ℕ, suc, zero, ◌+◌, ◌&&◌, ◌||◌, Bool, true, false, not, List, [], ◌∷◌, ◌++◌, refl, sym, ap, ◌∙◌, length, Option, Some, None, arith, subst, codes, true≢false}
 use Rattle.std.specs.Prelude.{IfSome, cond, slice_get}
-use Rattle.std.specs.Option.{option_map, option_map_or}
+use Rattle.std.specs.Option.{option_map_or}
 use Rattle.dom_nodes.specs.Kinds.{contents_named, is_element}
 use Rattle.dom_nodes.specs.declared.name.Attr.{Attr}
 use Rattle.dom_nodes.specs.declared.node_data.NodeData.{NodeData}
@@ -15,16 +15,16 @@ use Rattle.dom_links.specs.Sound.{IsForest, IsOpenGap}
 use Rattle.dom_links.specs.declared.gap.InsertionPoint.{InsertionPoint}
 use Rattle.standard_trees.specs.Formatting.{attrs_of, local_of}
 use Rattle.standard_trees.specs.GrowingTree.{GrowingTree, inserted_at, is_among, is_html_point, is_template, kind_of}
-use Rattle.standard_trees.specs.GrowingTree.{is_named as is_of_kind}
 use Rattle.standard_trees.specs.NameLists.{html_points}
-use Rattle.standard_trees.specs.TreeStore.{ElementNode, Html, Kind, Node, NodeAttr, Place, Space, local_in, attrs_in, node_at, space_in}
+use Rattle.standard_trees.specs.TreeStore.{ElementNode, Html, Kind, Node, Place, Space, local_in, node_at, space_in}
 use Rattle.page_trees.specs.Elements.{IsElement}
 use Rattle.page_trees.specs.Insertions.{MakesNext, copied}
 use Rattle.page_trees.specs.Insertions.{with_copy as copy_made, with_copy_at as with_copied_at}
-use Rattle.page_trees.specs.Names.{html_rows, rare_rows, text_of}
+use Rattle.page_trees.specs.NameNumbers.{IsNumbered}
+use Rattle.page_trees.specs.Names.{html_rows, rare_rows}
 use Rattle.page_trees.specs.Reopening.{copy_open}
-use Rattle.page_trees.specs.SameNodes.{AreNodes, IsPointOf, copy_of, with_copy, with_copy_at, with_kind_at}
-use Rattle.page_trees.specs.Sets.{is_an_html_point, is_in_mathml, is_one, is_one_in, key_for, local_for, space_of}
+use Rattle.page_trees.specs.SameNodes.{AreNodes, IsPointOf, copy_of, with_copy_at, with_kind_at}
+use Rattle.page_trees.specs.Sets.{is_in_mathml, is_one, is_one_in, key_for, local_for, space_of}
 use Rattle.page_trees.specs.Stands.{Builds, EntryStands, IsOfKind, StandsFor, TakeAttrs, TakesAttrs, formatting_names, late_names}
 use Rattle.page_trees.specs.TreeState.{Late, TreeState, added_to, completed, late_at, with_attrs}
 use Rattle.page_trees.specs.declared.formatting.Entry.{Entry}
@@ -114,7 +114,7 @@ copy_no_template o kind s is =
     ∙ ap (is_one_in (codes "template" ∷ []) o.ns) (sym s.name) ∙ no_template o is
 
 -- what is created is the copy
-made_copy : (o : Open) (t : GrowingTree) → StandsFor t.nodes o → is_one formatting_names o ≡ true →
+pub made_copy : (o : Open) (t : GrowingTree) → StandsFor t.nodes o → is_one formatting_names o ≡ true →
     created_kind Html (local_of t o.id) (attrs_of t o.id) (length t.nodes) ≡ copy_of (kind_of t o.id)
 made_copy o t s is =
     ap (λ (b : Bool). ElementNode Html (local_of t o.id) (attrs_of t o.id) (cond b (Some (suc (length t.nodes))) None)) (copy_no_template o (kind_of t o.id) s is)
@@ -126,7 +126,7 @@ html_point kind other e same = ap (λ k. is_html_point (copy_of k)) e ∙ same �
 no_mathml : (ns : ElementNamespace) (a b : Bool) → ns ≡ ElementNamespace.Html → (is_in_mathml ns && a) ≡ (is_in_mathml ns && b)
 no_mathml ns a b e = ap (λ (n : ElementNamespace). is_in_mathml n && a) e ∙ sym (ap (λ (n : ElementNamespace). is_in_mathml n && b) e)
 
-copy_stands_for : (o : Open) (kind : Kind) (id : ℕ) → IsOfKind o kind → is_one formatting_names o ≡ true → IsOfKind (copy_open o id) (copy_of kind)
+pub copy_stands_for : (o : Open) (kind : Kind) (id : ℕ) → IsOfKind o kind → is_one formatting_names o ≡ true → IsOfKind (copy_open o id) (copy_of kind)
 copy_stands_for o kind id s is = record {
   written = s.written;
   attrs = s.attrs;
@@ -150,11 +150,11 @@ late_got late i zero k (d ∷ cs) c e got none =
     ap (λ (m : ℕ). Some (with_attrs (added_to late m) d)) same ∙ ap (λ (attrs : List Attr). Some (with_attrs attrs d)) none ∙ ap (λ (x : NodeData). Some x) (no_attrs d ∙ one)
 late_got late i (suc n) k (d ∷ cs) c e got none = late_got late (i + 1) n k cs c (omega (arith, e)) got none
 
-late_found : (late : List Late) (f : Forest) (n : ℕ) (c : NodeData) → slice_get f.content n ≡ Some c → added_to late n ≡ [] → slice_get (completed late f).content n ≡ Some c
+pub late_found : (late : List Late) (f : Forest) (n : ℕ) (c : NodeData) → slice_get f.content n ≡ Some c → added_to late n ≡ [] → slice_get (completed late f).content n ≡ Some c
 unfolding completed
 late_found late f n c got none = late_got late 0 n n f.content c (omega arith) got none
 
-copy_is : (f : Forest) (n : ℕ) (c : NodeData) → slice_get f.content n ≡ Some c → copy_made n f ≡ with_node (copied c) f
+pub copy_is : (f : Forest) (n : ℕ) (c : NodeData) → slice_get f.content n ≡ Some c → copy_made n f ≡ with_node (copied c) f
 copy_is f n c got = ap (λ (o : Option NodeData). option_map_or (λ content. with_node (copied content) f) o f) got
 
 pub late_copy_at : (late : List Late) (gap : InsertionPoint) (n : ℕ) (f : Forest) (c : NodeData) → slice_get f.content n ≡ Some c → added_to late n ≡ [] → added_to late (length f.content) ≡ [] →
@@ -164,7 +164,7 @@ late_copy_at late gap n f c got none next =
     ∙ ap (moved_to (length f.content ∷ []) gap) (ap (completed late) (copy_is f n c got) ∙ late_node late (copied c) f next ∙ sym (copy_is (completed late f) n c (late_found late f n c got none)))
     ∙ ap (λ (m : ℕ). moved_to (m ∷ []) gap (copy_made n (completed late f))) (sym (late_long late f))
 
-no_contents : (c : NodeData) → is_element c ≡ true → contents_named (copied c) ≡ None
+pub no_contents : (c : NodeData) → is_element c ≡ true → contents_named (copied c) ≡ None
 no_contents Document h = cc
 no_contents Fragment h = cc
 no_contents (Doctype name public_id system_id) h = cc
@@ -181,7 +181,7 @@ copy_put nodes f n c gap spot good are element got opens at =
     let more = copy_more f n element in
     put_stands nodes f (copy_made n f) (copy_of (node_at nodes n).kind) gap spot after are (copy_stands nodes f n are element) (omega (arith, more)) opens.0 at
 
-there : (cs : List NodeData) (n : ℕ) → option_map_or is_element (slice_get cs n) false ≡ true → (c : NodeData) × (slice_get cs n ≡ Some c)
+pub there : (cs : List NodeData) (n : ℕ) → option_map_or is_element (slice_get cs n) false ≡ true → (c : NodeData) × (slice_get cs n ≡ Some c)
 there [] n h = absurd (true≢false (sym h))
 there (c ∷ cs) zero h = (c, refl)
 there (c ∷ cs) (suc n) h = there cs n h
@@ -194,6 +194,11 @@ pub inserted_copy : (o : Open) (spot : Place) (t : GrowingTree) → StandsFor t.
 inserted_copy o spot t stands is =
     inserted_is spot Html (local_of t o.id) (attrs_of t o.id) t
     ∙ ap (λ (k : Kind). record t { nodes = with_kind_at k spot t.nodes; stack = length t.nodes ∷ t.stack }) (made_copy o t stands is)
+
+-- its name is in `Name`
+pub formatting_numbered : (numbers : List (List ℕ × ℕ)) (o : Open) (kind : Kind) → is_one formatting_names o ≡ true → IsNumbered numbers o kind
+formatting_numbered numbers o kind is other = absurd (true≢false (sym is ∙ ap (is_one_in formatting_names o.ns) other
+    ∙ ap (λ (ns : ElementNamespace). is_one_in formatting_names ns Name.Other) (formatting_html o is)))
 
 -- the copy is opened, and the elements stay
 pub record IsStacked (s : TreeState) (t : GrowingTree) (nodes : List Node) (copy : Open) : Type 0 where
@@ -223,7 +228,9 @@ copy_stacked s t h gap spot o copy stack b good element opens at stands is next 
     subst (IsOfKind (copy_open o (length t.nodes))) (sym (made_kind kind spot t.nodes)) (copy_stands_for o (kind_of t o.id) (length t.nodes) stands is) in
     let entry : EntryStands nodes (Entry.Element copy) = subst (λ (p : Open). EntryStands nodes (Entry.Element p)) (sym it) (stands_now, is) in
     record {
-      built = built_pushed (record s { forest = h }) (record t { nodes = nodes }) copy stack grown entry.0 pushed_is (length t.nodes) id;
+      built = built_pushed (record s { forest = h }) (record t { nodes = nodes }) copy stack grown entry.0
+          (subst (λ (p : Open). IsNumbered s.numbers p (node_at nodes p.id).kind) (sym it) (formatting_numbered s.numbers (copy_open o (length t.nodes)) (node_at nodes (length t.nodes)).kind is))
+          pushed_is (length t.nodes) id;
       id = id;
       stands = entry;
       keeps = kept;

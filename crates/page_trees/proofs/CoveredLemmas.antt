@@ -1,18 +1,16 @@
 -- What the tests of covered turns tell of the code's state.
-use Rattle.std.proofs.Common.{◌≡◌, Bool, true, false, ◌&&◌, ◌||◌, not, List, [], ◌∷◌, ◌++◌, map, reverse, refl, sym, ap, subst, ◌∙◌, true≢false}
-use Rattle.std.proofs.lemmas.List.{map-append, reverse-append}
+use Rattle.std.proofs.Common.{◌≡◌, Bool, true, false, ◌||◌, not, reverse, refl, sym, ap, subst, ◌∙◌, true≢false}
 use Rattle.standard_tokens.specs.Entries.{Ending, Starting, TagKind as StandardKind}
 use Rattle.standard_tokens.specs.Machine.{Tag as StandardTag, distinct, token_of}
 use Rattle.standard_tokens.specs.Tokens.{AStart, AnEnd}
-use Rattle.standard_trees.specs.Building.{Building, is_empty}
+use Rattle.standard_trees.specs.Building.{Building}
 use Rattle.standard_trees.specs.RuleWords.{Mode as StandardMode, Text}
 use Rattle.page_trees.specs.Constructs.{Constructs, is_entered_plainly, returns_later}
-use Rattle.page_trees.specs.CoveredTurns.{covers, covers_end, covers_foreign_tag, covers_tag, covers_tag_in, enters_plainly, is_in_mode, returns, returns_plainly}
+use Rattle.page_trees.specs.CoveredTurns.{covers, covers_end, covers_tag, covers_tag_in, enters_plainly, returns, returns_plainly}
 use Rattle.page_trees.specs.Modes.{mode_of}
 use Rattle.page_trees.specs.TokenSteps.{EndsPlainly, ReturnsPlainly, keeps_characters}
 use Rattle.page_trees.specs.declared.builder.Mode.{Mode}
 use Rattle.page_trees.specs.declared.builder.TreeBuilder.{TreeBuilder}
-use Rattle.page_trees.proofs.NamesAgree.{both}
 
 -- ---- the original insertion mode
 
@@ -21,11 +19,11 @@ returns_is Mode.Text = refl
 returns_is Mode.InTableText = refl
 returns_is _ = refl
 
-entered_is : (m : Mode) → enters_plainly (mode_of m) ≡ is_entered_plainly m
+pub entered_is : (m : Mode) → enters_plainly (mode_of m) ≡ is_entered_plainly m
 entered_is Mode.Initial = refl
 entered_is _ = refl
 
-original_plain : (s : TreeBuilder) (b : Building) → Constructs s b → enters_plainly b.original ≡ true → ReturnsPlainly s
+pub original_plain : (s : TreeBuilder) (b : Building) → Constructs s b → enters_plainly b.original ≡ true → ReturnsPlainly s
 original_plain s b c plain later = sym (entered_is s.original) ∙ sym (ap enters_plainly (c.original later)) ∙ plain
 
 behind_or : (x y : Bool) → x ≡ true → (not x || y) ≡ true → y ≡ true
@@ -41,14 +39,13 @@ text_returns s b c covered = original_plain s b c covered
 
 -- ---- the end of the page
 
-ending : (m : Mode) (b : Building) → covers_end (mode_of m) b ≡ true → (returns_plainly b ≡ true) × (keeps_characters m ≡ false)
-ending Mode.InTableText b h = absurd (true≢false (sym h))
-ending _ b h = (h, refl)
+ending : (m : Mode) (b : Building) → covers_end (mode_of m) b ≡ true → keeps_characters m ≡ false → returns_plainly b ≡ true
+ending Mode.InTableText b h settled = absurd (true≢false settled)
+ending _ b h settled = h
 
-pub ends_plainly : (s : TreeBuilder) (b : Building) → Constructs s b → covers_end b.mode b ≡ true → EndsPlainly s
-ends_plainly s b c covered =
-    let parts = ending s.mode b (subst (λ (m : StandardMode). covers_end m b ≡ true) c.mode covered) in
-    record { settled = parts.1; original = returns_back s b c parts.0 }
+pub ends_plainly : (s : TreeBuilder) (b : Building) → Constructs s b → covers_end b.mode b ≡ true → keeps_characters s.mode ≡ false → EndsPlainly s
+ends_plainly s b c covered settled =
+    record { settled = settled; original = returns_back s b c (ending s.mode b (subst (λ (m : StandardMode). covers_end m b ≡ true) c.mode covered) settled) }
 
 -- ---- tags
 
@@ -59,15 +56,3 @@ covers_a_tag standard b = by standard.kind
         ≡ covers_tag b
     by Starting = refl
     by Ending = refl
-
--- no tag is covered where characters are pending
-quiet : (m : Mode) (b : Building) → covers_tag_in (mode_of m) b ≡ true → keeps_characters m ≡ false
-quiet Mode.InTableText b e = absurd (true≢false (sym e))
-quiet _ b e = refl
-
-pub tag_is_quiet : (m : Mode) (b : Building) → b.mode ≡ mode_of m → covers_tag b ≡ true → keeps_characters m ≡ false
-tag_is_quiet m b mode covered = by (is_in_mode b) covered
-  where
-    by : (x : Bool) → elim x [ true ↦ covers_tag_in b.mode b | false ↦ covers_foreign_tag b ] ≡ true → keeps_characters m ≡ false
-    by true e = quiet m b (subst (λ (n : StandardMode). covers_tag_in n b ≡ true) mode e)
-    by false e = absurd (true≢false (sym e))

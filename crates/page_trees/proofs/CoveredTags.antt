@@ -11,20 +11,26 @@ use Rattle.page_tokens.specs.declared.token.Tag.{Tag}
 use Rattle.page_tokens.specs.declared.token.TagKind.{TagKind}
 use Rattle.page_trees.specs.BodyTags.{ProcessesInBody, covers_body, suits_body}
 use Rattle.page_trees.specs.Constructs.{IsCurrentTag, Outcome, ProcessesTag}
-use Rattle.page_trees.specs.CoveredTurns.{ProcessesCovered, covers_foreign_tag, covers_kind_in_body, covers_tag, covers_tag_in, has_html}
+use Rattle.page_trees.specs.CoveredTurns.{ProcessesCovered, covers_foreign_tag, covers_kind_in_body, covers_tag, covers_tag_in}
+use Rattle.standard_order.specs.Order.{has_html}
 use Rattle.page_trees.specs.CoveredTurns.{is_start_tag, passes, suits_kind_in_body, tag_name, uses_current_mode}
-use Rattle.page_trees.specs.HeadSteps.{ProcessesTagBehindHead, head_is_closed}
+use Rattle.page_trees.specs.HeadSteps.{ProcessesTagBehindHead}
+use Rattle.standard_order.specs.Order.{head_is_closed}
 use Rattle.page_trees.specs.LateMerges.{ProcessesTagInHtml}
 use Rattle.page_trees.specs.Modes.{is_start_kind, mode_of}
 use Rattle.page_trees.specs.Names.{name_of}
+use Rattle.page_trees.specs.TableSteps.{ProcessesTagWhere}
 use Rattle.page_trees.specs.TagSteps.{is_outer, way_for}
-use Rattle.page_trees.specs.TokenSteps.{ReturnsPlainly}
+use Rattle.page_trees.specs.TableTexts.{SettlesText}
+use Rattle.page_trees.specs.TokenSteps.{ReturnsPlainly, keeps_characters}
 use Rattle.page_trees.specs.declared.builder.Mode.{Mode}
 use Rattle.page_trees.specs.declared.builder.Next.{Next}
 use Rattle.page_trees.specs.declared.builder.TreeBuilder.{TreeBuilder}
 use Rattle.page_trees.specs.declared.name.Name.{Name}
 use Rattle.page_trees.proofs.CoveredLemmas.{text_returns}
 use Rattle.page_trees.proofs.NamesAgree.{both}
+use Rattle.page_trees.proofs.PendingTexts.{is_character}
+use Rattle.page_trees.proofs.SettledTexts.{no_character, text_comes}
 use Rattle.page_trees.proofs.TextTags.{tag_in_mode}
 
 -- ---- a mode
@@ -61,9 +67,17 @@ pub text_covered : (name : Name) (tag : Tag) (old new : TreeBuilder) (next : Nex
 text_covered name tag old new next text rule =
     in_the_mode old.mode Mode.Text name tag old new next text (λ within b current covered stands. rule (text_returns old b stands covered) within b current stands)
 
+-- pending table character tokens come first
+pub text_left : (name : Name) (tag : Tag) (old new : TreeBuilder) (next : Next) → old.mode ≡ Mode.InTableText → next ≡ Next.Again → SettlesText old new →
+    ProcessesCovered (mode_of old.mode) name tag old new next
+text_left name tag old new next text again rule =
+    in_the_mode old.mode Mode.InTableText name tag old new next text (λ within b current covered stands.
+    subst (λ (n : Next). Outcome (mode_of Mode.InTableText) b new n) (sym again)
+    (text_comes old new b rule within (ap keeps_characters text) (ap is_character current.token ∙ no_character current.standard) covered stands))
+
 -- ---- a test of the tag
 
-starts_is : (name : Name) (tag : Tag) (b : Building) → IsCurrentTag name tag b → is_start_tag b.token ≡ is_start_kind tag.kind
+pub starts_is : (name : Name) (tag : Tag) (b : Building) → IsCurrentTag name tag b → is_start_tag b.token ≡ is_start_kind tag.kind
 starts_is name tag b c = ap is_start_tag c.token ∙ by tag.kind c.is.kind
   where
     by : (k : TagKind) → kind_of k ≡ c.standard.kind → is_start_tag (token_of c.standard) ≡ is_start_kind k
@@ -93,6 +107,15 @@ under_test m n name tag old new next e test is rule = in_the_mode m n name tag o
     let two = both (has_html b) (test (is_start_tag b.token) (tag_name b)) (sym (is b) ∙ covered) in
     let told = sym (ap (λ s. test s (tag_name b)) (starts_is name tag b current) ∙ ap (λ n. test (is_start_kind tag.kind) n) (name_is name tag b current)) ∙ two.1 in
     rule told within b current two.0 stands)
+
+-- a test of the tag and the state
+pub under_state : (m n : Mode) (name : Name) (tag : Tag) (old new : TreeBuilder) (next : Next) → m ≡ n → (test : Bool → Name → Building → Bool) →
+    ((b : Building) → covers_tag_in (mode_of n) b ≡ passes (λ start name. test start name b) b) →
+    ProcessesTagWhere (test (is_start_kind tag.kind)) (mode_of n) name tag old new next → ProcessesCovered (mode_of m) name tag old new next
+under_state m n name tag old new next e test is rule = in_the_mode m n name tag old new next e (λ within b current covered stands.
+    let two = both (has_html b) (test (is_start_tag b.token) (tag_name b) b) (sym (is b) ∙ covered) in
+    let told = sym (ap (λ s. test s (tag_name b) b) (starts_is name tag b current) ∙ ap (λ n. test (is_start_kind tag.kind) n b) (name_is name tag b current)) ∙ two.1 in
+    rule within b current two.0 told stands)
 
 in_body : (kind : TagKind) (name : Name) → covers_kind_in_body (is_start_kind kind) name ≡ true → covers_body kind name ≡ true
 in_body TagKind.Start name covered = covered
@@ -146,12 +169,6 @@ initial_left Mode.AfterAfterFrameset outer a b c d e f g h i j = absurd (j refl)
 initial_left _ outer a b c d e f g h i j = absurd (true≢false (sym outer))
 
 -- ---- the dispatcher
-
--- where the code takes the token for one of foreign content, as the dispatcher does, none is covered
-pub foreign_not_covered : (b : Building) (foreign : Bool) → foreign ≡ true → taken b (rules Dispatcher) ≡ goes (way_for foreign) ∷ [] → covers_tag b ≡ true → ⊥
-foreign_not_covered b true e way covered =
-    true≢false (sym covered ∙ ap (λ acts. elim (uses_current_mode acts) [ true ↦ covers_tag_in b.mode b | false ↦ covers_foreign_tag b ]) way)
-foreign_not_covered b false e way covered = true≢false (sym e)
 
 pub mode_dispatched : (m : Mode) (b : Building) (new : TreeBuilder) (next : Next) (foreign : Bool) → foreign ≡ false → taken b (rules Dispatcher) ≡ goes (way_for foreign) ∷ [] →
     b.mode ≡ mode_of m → covers_tag b ≡ true → (covers_tag_in (mode_of m) b ≡ true → Outcome (mode_of m) b new next) → Outcome Dispatcher b new next

@@ -1,5 +1,5 @@
 -- Whether the adjusted current node is outside the HTML namespace.
-use Rattle.std.proofs.Common.{◌≡◌, Bool, false, not, Option, None, Some, refl, sym, ap, subst, ◌∙◌}
+use Rattle.std.proofs.Common.{◌≡◌, false, not, Option, None, Some, refl, sym, ap, subst, ◌∙◌}
 use Rattle.standard_trees.specs.GrowingTree.{GrowingTree, adjusted_current, in_foreign}
 use Rattle.standard_trees.specs.TreeStore.{is_html, space_in}
 use Rattle.page_trees.specs.Sets.{is_in_html, space_of}

@@ -19,11 +19,11 @@ first_two true y rule other e = refl
 first_two false true rule other e = refl
 first_two false false rule other e = absurd (true≢false (sym e))
 
-in_html : (b : Building) → is_html (space_in (adjusted_current b.tree)) ≡ true → taken b (rules Dispatcher) ≡ goes UseCurrentMode ∷ []
+pub in_html : (b : Building) → is_html (space_in (adjusted_current b.tree)) ≡ true → taken b (rules Dispatcher) ≡ goes UseCurrentMode ∷ []
 unfolding rules taken
 in_html b e = first_two (is_empty b.tree.stack) (is_html (space_in (adjusted_current b.tree))) (goes UseCurrentMode ∷ []) _ e
 
-comes_by_mode : (b c : Building) → taken b (rules Dispatcher) ≡ goes UseCurrentMode ∷ [] → ComesTo b.mode b c → ComesTo Dispatcher b c
+pub comes_by_mode : (b c : Building) → taken b (rules Dispatcher) ≡ goes UseCurrentMode ∷ [] → ComesTo b.mode b c → ComesTo Dispatcher b c
 unfolding run
 comes_by_mode b c e h = (suc h.0, ap (λ acts. performed (run h.0) acts b) e ∙ ap (option_and_then (λ x. Some x)) h.1)
 

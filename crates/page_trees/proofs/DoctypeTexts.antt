@@ -1,5 +1,5 @@
 -- A doctype is quirky by its bytes, as it is by its characters: each text of the lists is ASCII.
-use Rattle.std.proofs.Common.{◌≡◌, ℕ, ◌+◌, ◌/◌, ◌%◌, ◌<◌, ◌≤◌, Bool, true, false, cond, ◌&&◌, ◌||◌, not, nat_eq, nat_lt, List, [], ◌∷◌, ◌++◌, length, take, map, refl, sym, ap, ◌∙◌, arith, codes, inl, inr, Option, Some, None}
+use Rattle.std.proofs.Common.{◌≡◌, ℕ, ◌+◌, ◌/◌, ◌%◌, ◌<◌, ◌≤◌, Bool, true, false, cond, ◌&&◌, ◌||◌, not, nat_eq, nat_lt, List, [], ◌∷◌, ◌++◌, refl, sym, ap, ◌∙◌, arith, codes, inl, inr, Option, Some, None}
 use Rattle.std.specs.Char.{to_ascii_lowercase}
 use Rattle.std.specs.List.{list_all, list_any}
 use Rattle.std.specs.Option.{option_map_or}
@@ -10,17 +10,16 @@ use Rattle.std.proofs.lemmas.Bool.{and_parts, cases_lt, ltb-true, ne_eqb}
 use Rattle.std.proofs.lemmas.Bool.Decides.{same_from_decides, Decides-like}
 use Rattle.std.proofs.lemmas.Slice.Eq.{bytes_eq-Decides}
 use Rattle.std.proofs.lemmas.Str.{encode_ascii, encodes_same}
-use Rattle.dom_trees.specs.declared.quirks.QuirksMode.{QuirksMode}
 use Rattle.standard_tokens.specs.Tokens.{ADoctype, Doctype as StandardDoctype}
 use Rattle.standard_trees.specs.Building.{FullQuirks, LimitedQuirks, NoQuirks, QuirksMode as StandardQuirks, begins, is_missing, is_text, passes, quirks_of}
 use Rattle.standard_trees.specs.QuirksTexts.{either_quirks_public_begins, limited_quirks_public_begins, quirks_public_begins}
 use Rattle.standard_trees.specs.QuirksTexts.{quirks_public_is, quirks_system_is}
 use Rattle.page_tokens.specs.Standard.{IsDoctype, MaySpell}
 use Rattle.page_tokens.specs.declared.token.Doctype.{Doctype}
-use Rattle.page_trees.specs.Quirks.{bytes_in, mode_of, quirks_mode_of, token_of}
+use Rattle.page_trees.specs.Quirks.{bytes_in, mode_of, quirks_mode_of}
 use Rattle.page_trees.specs.SameNodes.{part_for}
 
-abbrev are_ascii : List ℕ → Bool
+abbrev pub are_ascii : List ℕ → Bool
 are_ascii [] = true
 are_ascii (x ∷ xs) = nat_lt x 128 && are_ascii xs
 
@@ -60,7 +59,7 @@ high_begins c h = rw (not_low c h) (each (nat_lt c 2048) (nat_lt c 65536))
 
 -- ---- a text of a list
 
-same_text : (other : List ℕ) → are_ascii other ≡ true → (cs : List ℕ) → is_text (encode_utf8_all cs) other ≡ is_text cs other
+pub same_text : (other : List ℕ) → are_ascii other ≡ true → (cs : List ℕ) → is_text (encode_utf8_all cs) other ≡ is_text cs other
 same_text [] low [] = refl
 same_text (f ∷ fs) low [] = refl
 same_text [] low (c ∷ cs) = elim (cases_lt c 128) [
@@ -122,7 +121,7 @@ html_bytes : codes "html" ≡ encode_utf8_all (codes "html")
 unfolding encode
 html_bytes = refl
 
-same_bytes : (a b xs ys : List ℕ) → a ≡ encode_utf8_all xs → b ≡ encode_utf8_all ys → bytes_eq a b ≡ bytes_eq xs ys
+pub same_bytes : (a b xs ys : List ℕ) → a ≡ encode_utf8_all xs → b ≡ encode_utf8_all ys → bytes_eq a b ≡ bytes_eq xs ys
 same_bytes a b xs ys one other =
     same_from_decides _ _ (Decides-like _ (λ e. encodes_same xs ys (sym one ∙ e ∙ other)) (λ e. one ∙ ap encode_utf8_all e ∙ sym other) (bytes_eq-Decides a b)) (bytes_eq-Decides xs ys)
 

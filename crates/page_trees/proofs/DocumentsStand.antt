@@ -27,6 +27,7 @@ pub mode_set : (s : TreeState) (t : GrowingTree) (mode : QuirksMode) → Builds 
 mode_set s t mode b = record {
   nodes = b.nodes;
   stack = b.stack;
+  numbered = b.numbered;
   listed = b.listed;
   head = b.head;
   head_named = b.head_named;

@@ -1,10 +1,10 @@
 -- Which rule is taken for a tag, where it is one of the first of a mode.
-use Rattle.std.proofs.Common.{◌≡◌, Bool, true, false, ◌||◌, List, [], ◌∷◌, ◌++◌, sym, ap, refl, ◌∙◌}
+use Rattle.std.proofs.Common.{◌≡◌, Bool, true, false, List, [], ◌∷◌, ◌++◌, sym, ap, refl, ◌∙◌}
 use Rattle.std.specs.List.{list_all, list_any}
 use Rattle.standard_tokens.specs.Machine.{token_of}
 use Rattle.standard_tokens.specs.Tokens.{Token}
 use Rattle.standard_trees.specs.Building.{Building, fits, is_met, taken}
-use Rattle.standard_trees.specs.RuleWords.{Act, Pattern, Rule, rule}
+use Rattle.standard_trees.specs.RuleWords.{Act, Rule, rule}
 use Rattle.page_tokens.specs.declared.token.Tag.{Tag}
 use Rattle.page_trees.specs.Constructs.{IsCurrentTag}
 use Rattle.page_trees.specs.Modes.{is_start_kind}

@@ -2,7 +2,7 @@
 use Rattle.std.proofs.Common.{◌≡◌, ℕ, Bool, true, false, ◌&&◌, ◌||◌, not, List, [], ◌∷◌, Option, None, Some, refl, sym, ap, subst, ◌∙◌}
 use Rattle.std.specs.Prelude.{cond, unwrap_or}
 use Rattle.standard_trees.specs.Building.{is_empty}
-use Rattle.standard_trees.specs.GrowingTree.{GrowingTree, adjusted_current, is_html_point, is_named, is_single, kind_of, top}
+use Rattle.standard_trees.specs.GrowingTree.{GrowingTree, adjusted_current, is_named, is_single, kind_of, top}
 use Rattle.standard_trees.specs.NameLists.{text_points}
 use Rattle.standard_trees.specs.TreeStore.{DocumentNode, Kind, is_html, node_at, space_in}
 use Rattle.page_trees.specs.CharacterSteps.{goes_to_mode, takes_characters}

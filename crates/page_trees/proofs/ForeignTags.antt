@@ -1,19 +1,17 @@
 -- Which rules the dispatcher takes for a tag, by the adjusted current node.
 use Rattle.std.proofs.Common.{◌≡◌, ℕ, Bool, true, false, ◌&&◌, ◌||◌, not, List, [], ◌∷◌, codes, Option, None, Some, refl, sym, ap, subst, ◌∙◌, true≢false}
 use Rattle.std.specs.Prelude.{cond, unwrap_or}
-use Rattle.standard_trees.specs.Building.{Building, is_empty, taken}
+use Rattle.standard_trees.specs.Building.{Building, is_empty}
 use Rattle.standard_trees.specs.GrowingTree.{GrowingTree, adjusted_current, is_among, is_html_point, is_named, is_single, kind_of, top}
 use Rattle.standard_trees.specs.NameLists.{text_points}
 use Rattle.standard_trees.specs.RuleWords.{Act, Dispatcher, ForeignContent, Use, UseCurrentMode, goes}
 use Rattle.standard_trees.specs.TreeRules.{rules}
 use Rattle.standard_trees.specs.TreeStore.{DocumentNode, Kind, is_html, node_at, space_in}
-use Rattle.page_tokens.specs.declared.token.Tag.{Tag}
 use Rattle.page_tokens.specs.declared.token.TagKind.{TagKind}
-use Rattle.page_trees.specs.Constructs.{IsCurrentTag}
 use Rattle.page_trees.specs.Foreign.{is_foreign_to, is_glyph_name, names_annotation, names_svg}
 use Rattle.page_trees.specs.Modes.{is_start_kind}
 use Rattle.page_trees.specs.Names.{html_rows, rare_rows, text_of}
-use Rattle.page_trees.specs.Sets.{is_a_text_point, is_an_html_point, is_in_html, is_in_mathml, is_one, is_one_in, space_of}
+use Rattle.page_trees.specs.Sets.{is_a_text_point, is_an_html_point, is_in_html, is_in_mathml, is_one_in, space_of}
 use Rattle.page_trees.specs.Stands.{Builds, IsCurrent, IsOfKind}
 use Rattle.page_trees.specs.TagSteps.{DispatchesTag, way_for}
 use Rattle.page_trees.specs.TreeState.{TreeState}
@@ -34,10 +32,10 @@ svg_is : (name : Name) → is_among (text_of name) (codes "svg" ∷ []) ≡ name
 svg_is Name.Svg = refl
 svg_is _ = refl
 
-abbrev annotation : List (List ℕ)
+abbrev pub annotation : List (List ℕ)
 annotation = codes "math annotation-xml" ∷ []
 
-annotation_is : (ns : ElementNamespace) (name : Name) → is_one_in annotation ns name ≡ (is_in_mathml ns && names_annotation name)
+pub annotation_is : (ns : ElementNamespace) (name : Name) → is_one_in annotation ns name ≡ (is_in_mathml ns && names_annotation name)
 annotation_is ElementNamespace.MathMl Name.AnnotationXml = refl
 annotation_is ElementNamespace.MathMl _ = refl
 annotation_is ElementNamespace.Html Name.A = refl
@@ -49,7 +47,7 @@ text_points_known : are_known text_points ≡ true
 unfolding html_rows rare_rows
 text_points_known = refl
 
-annotation_known : are_known annotation ≡ true
+pub annotation_known : are_known annotation ≡ true
 unfolding html_rows rare_rows
 annotation_known = refl
 

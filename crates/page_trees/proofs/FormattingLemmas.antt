@@ -1,12 +1,11 @@
 -- The list of active formatting elements, as it is looked at from its end.
-use Rattle.std.proofs.Common.{ℕ, ◌≡◌, ◌-◌, ◌+◌, ◌⊎◌, inl, inr, suc, Bool, true, false, List, [], ◌∷◌, ◌++◌, Option, Some, None, length, refl, sym, ap, subst, ◌∙◌, reverse, arith, if◌then◌else◌}
-use Rattle.std.specs.Prelude.{All, remove, slice_get}
+use Rattle.std.proofs.Common.{ℕ, ◌≡◌, inl, inr, Bool, true, false, List, [], ◌∷◌, ◌++◌, Option, Some, length, refl, sym, ap, subst, ◌∙◌, reverse, if◌then◌else◌}
 use Rattle.std.proofs.lemmas.List.{length-reverse, reverse-append}
 use Rattle.std.proofs.lemmas.List.Elements.{All-cons, All-nil, All-same}
 use Rattle.dom_links.specs.Forest.{Forest}
 use Rattle.page_trees.proofs.HeldNumbers.{entries_removed, with_entries}
 use Rattle.page_trees.specs.Elements.{AreElements, IsEntry}
-use Rattle.page_trees.specs.Formatting.{IsFirst, IsWithout, NoneHas, after_marker, alike_from_end, are_alike, last_place, place_from_end, places_alike, third_alike, up_to_marker, with_room}
+use Rattle.page_trees.specs.Formatting.{IsFirst, IsWithout, NoneHas, after_marker, last_place, place_from_end, up_to_marker}
 use Rattle.page_trees.specs.declared.formatting.Entry.{Entry}
 use Rattle.page_trees.specs.declared.formatting.Entry.TheVariants.{Element as AnEntry, Marker}
 use Rattle.page_trees.specs.declared.pointers.FormPointer.{FormPointer}

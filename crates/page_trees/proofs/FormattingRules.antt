@@ -1,5 +1,5 @@
 -- What the rules for "in body" make of the tags of formatting elements.
-use Rattle.std.proofs.Common.{◌≡◌, ℕ, ◌≤◌, ◌+◌, ◌-◌, ◌&&◌, Bool, true, false, not, List, [], ◌∷◌, codes, drop, length, map, reverse, refl, sym, ap, subst, ◌∙◌, suc, zero, arith, Option, Some, None, Result, inl, inr, ◌||◌, true≢false}
+use Rattle.std.proofs.Common.{◌≡◌, ℕ, ◌≤◌, ◌+◌, Bool, true, false, not, List, [], ◌∷◌, codes, length, reverse, refl, sym, ap, ◌∙◌, suc, arith, Option, Some, None, Result, true≢false}
 use Rattle.std.specs.Prelude.{OnOk, nat_lt}
 use Rattle.std.proofs.lemmas.List.{length-drop, length-reverse}
 use Rattle.standard_tokens.specs.Entries.{Ending, Starting}

@@ -1,5 +1,5 @@
 -- The last element with a name after the last marker of the list of active formatting elements is found.
-use Rattle.std.proofs.Common.{rules, ◌≡◌, ℕ, Bool, true, false, ◌&&◌, not, List, [], ◌∷◌, map, reverse, refl, sym, ap, ◌∙◌, Option, Some, None, inl, inr, subst, true≢false}
+use Rattle.std.proofs.Common.{rules, ◌≡◌, ℕ, Bool, true, false, ◌&&◌, not, List, [], ◌∷◌, map, reverse, refl, sym, ap, ◌∙◌, Option, Some, None, inl, inr, subst}
 use Rattle.std.specs.Prelude.{All, MatchOption}
 use Rattle.std.specs.Option.{option_map}
 use Rattle.std.proofs.lemmas.List.Elements.{All-head, All-tail}
@@ -7,14 +7,14 @@ use denote.Enum.Bare.{same_true}
 use denote.Enum.Declared.{tag_of}
 use Rattle.std.proofs.lemmas.Bool.{eq-eqb}
 use Rattle.standard_trees.specs.Formatting.{last_listed}
-use Rattle.standard_trees.specs.GrowingTree.{Formatting, GrowingTree}
+use Rattle.standard_trees.specs.GrowingTree.{GrowingTree}
 use Rattle.standard_trees.specs.GrowingTree.{is_one as is_one_of}
 use Rattle.page_trees.specs.Formatting.{IsFirst, IsNamed, NoneHas, after_marker, are_few, up_to_marker}
 use Rattle.page_trees.specs.Listing.{FindsListed}
 use Rattle.page_trees.specs.Names.{text_of}
 use Rattle.page_trees.specs.Scopes.{is_name, is_named}
-use Rattle.page_trees.specs.Sets.{is_in_html, is_one}
-use Rattle.page_trees.specs.Stands.{Builds, EntryStands, entry_of, formatting_names}
+use Rattle.page_trees.specs.Sets.{is_in_html}
+use Rattle.page_trees.specs.Stands.{Builds, EntryStands, entry_of}
 use Rattle.page_trees.specs.TreeState.{TreeState}
 use Rattle.page_trees.specs.contracts.name.Name.{the_type}
 use Rattle.page_trees.specs.declared.formatting.Entry.{Entry}

@@ -1,12 +1,12 @@
 -- What the rules for the modes of framesets make of a tag.
-use Rattle.std.proofs.Common.{◌≡◌, Bool, true, false, ◌&&◌, not, List, [], ◌∷◌, ◌+◌, ◌-◌, ◌<◌, ◌≤◌, ℕ, zero, suc, arith, length, map, reverse, codes, refl, sym, ap, subst, ◌∙◌, true≢false}
-use Rattle.std.specs.Prelude.{Some, slice_get}
+use Rattle.std.proofs.Common.{◌≡◌, Bool, true, false, ◌&&◌, not, List, [], ◌∷◌, ◌-◌, ◌<◌, ◌≤◌, ℕ, zero, suc, arith, length, reverse, codes, refl, sym, ap, subst, ◌∙◌, true≢false}
+use Rattle.std.specs.Prelude.{slice_get}
 use Rattle.std.specs.Option.{option_map_or}
 use Rattle.std.specs.List.{list_all}
 use Rattle.std.proofs.lemmas.List.{length-map, length-reverse}
-use Rattle.standard_trees.specs.Building.{Building, is_met, perform, performed, run, taken, with_tree}
+use Rattle.standard_trees.specs.Building.{Building, is_met, perform, performed, run, taken}
 use Rattle.standard_trees.specs.GrowingTree.{GrowingTree, current, is_one, is_single}
-use Rattle.standard_trees.specs.RuleWords.{Act, Action, AfterAfterFrameset, AfterFrameset, InBody, InFrameset, InHead, InsertElement, Mode as StandardMode, Pop, SwitchTo, Use, does, goes}
+use Rattle.standard_trees.specs.RuleWords.{Act, AfterAfterFrameset, AfterFrameset, InBody, InFrameset, InHead, InsertElement, Mode as StandardMode, Pop, SwitchTo, Use, does, goes}
 use Rattle.standard_trees.specs.TreeRules.{rules}
 use Rattle.page_tokens.specs.declared.token.Tag.{Tag}
 use Rattle.page_trees.specs.Constructs.{ComesTo, Constructs, IsCurrentTag, Outcome, all_performed}

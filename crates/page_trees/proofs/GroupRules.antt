@@ -1,5 +1,5 @@
 -- The groups of names are those of the rules for "in body".
-use Rattle.std.proofs.Common.{◌≡◌, true, false, Option, refl, ap, subst, ◌∙◌, sym}
+use Rattle.std.proofs.Common.{◌≡◌, true, false, Option, refl, ap, subst, ◌∙◌}
 use Rattle.std.specs.Prelude.{if◌then◌else◌}
 use Rattle.std.specs.Option.{unwrap_or}
 use Rattle.standard_trees.specs.TreeRules.{rules}

@@ -1,7 +1,6 @@
 -- An element of the head after the head is closed (13.2.6.4.6): the rules push the head element onto the stack of open elements, use those
 -- for "in head", and remove it from the stack. The code inserts the element at the end of the head element.
-use Rattle.std.proofs.Common.{◌≡◌, ◌&&◌, ◌||◌, ℕ, zero, suc, Bool, true, false, cond, not, List, [], ◌∷◌, ◌++◌, codes, drop, length, nat_eq, refl, sym, ap, subst, ◌∙◌, true≢false}
-use Rattle.std.specs.List.{list_any}
+use Rattle.std.proofs.Common.{◌≡◌, ◌&&◌, ◌||◌, ℕ, suc, Bool, true, false, cond, not, List, [], ◌∷◌, codes, length, nat_eq, refl, sym, ap, subst, ◌∙◌, true≢false}
 use Rattle.std.specs.Option.{option_and_then, option_map_or, unwrap_or}
 use Rattle.std.specs.Prelude.{None, Option, Some}
 use Rattle.std.specs.Str.{bytes_eq}
@@ -10,12 +9,13 @@ use Rattle.std.proofs.lemmas.Slice.Eq.{bytes_eq-Decides}
 use Rattle.standard_trees.specs.Building.{Building, own_name, perform, performed, run, taken, with_head, with_tree}
 use Rattle.standard_trees.specs.GrowingTree.{GrowingTree, created, foster_place, fresh, in_contents, inserted_at, is_among, is_named, is_one, is_template, kind_of, place, pushed, put, unstacked, with_stack}
 use Rattle.standard_trees.specs.NameLists.{fostering_names}
-use Rattle.standard_trees.specs.RuleWords.{Act, Action, AfterHead, InHead, InsertElement, Mode as StandardMode, Pop, PushHeadPointer, RemoveHeadFromStack, Text, Use, does, goes}
+use Rattle.standard_trees.specs.RuleWords.{AfterHead, InHead, PushHeadPointer, RemoveHeadFromStack, does}
 use Rattle.standard_trees.specs.TreeRules.{rules}
-use Rattle.standard_trees.specs.TreeStore.{ContentsNode, ElementNode, EndOf, Html, Kind, Node, NodeAttr, Place, contents_in, is_member, key_in, node_at, without}
+use Rattle.standard_trees.specs.TreeStore.{ContentsNode, ElementNode, EndOf, Html, Node, NodeAttr, Place, is_member, key_in, node_at, without}
 use Rattle.page_trees.specs.Constructs.{ComesTo, Constructs, HaveOneToken, IsCurrentTag, Outcome, all_performed}
 use Rattle.page_trees.specs.Groups.{is_metadata_name}
-use Rattle.page_trees.specs.HeadSteps.{after_element, before_element, head_is_closed, place_in_head}
+use Rattle.page_trees.specs.HeadSteps.{after_element, before_element, place_in_head}
+use Rattle.standard_order.specs.Order.{head_is_closed}
 use Rattle.page_trees.specs.Modes.{is_start_kind}
 use Rattle.page_trees.specs.Stands.{IsHeadNamed, popped}
 use Rattle.page_tokens.specs.declared.token.Tag.{Tag}

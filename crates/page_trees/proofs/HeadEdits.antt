@@ -1,32 +1,26 @@
 -- What the state of tree construction stands for after steps of the rules for "in head".
-use Rattle.std.proofs.Common.{◌≡◌, ◌≤◌, ℕ, length, suc, Bool, true, false, ◌&&◌, not, List, [], ◌∷◌, ◌++◌, drop, map, reverse, refl, sym, ap, subst, ◌∙◌, codes, true≢false}
-use Rattle.std.specs.Prelude.{None, OnOk, Option, Some, Result, Ok, Err}
+use Rattle.std.proofs.Common.{◌≡◌, true, false, ◌&&◌, List, [], ◌∷◌, ◌++◌, drop, map, reverse, refl, sym, ap, subst, ◌∙◌, codes, true≢false}
+use Rattle.std.specs.Prelude.{None, Option, Some}
 use Rattle.std.specs.List.{list_all}
 use Rattle.std.specs.Option.{option_to_list}
 use Rattle.std.proofs.lemmas.List.{append-nil, reverse-append}
 use Rattle.std.proofs.lemmas.List.Folds.{list_all-append}
-use Rattle.standard_trees.specs.Building.{Building, own_name, perform, with_tree}
-use Rattle.standard_trees.specs.GrowingTree.{GrowingTree, created, fresh, inserted_at, is_template, popped_until}
+use Rattle.standard_trees.specs.Building.{Building, perform}
+use Rattle.standard_trees.specs.GrowingTree.{GrowingTree, popped_until}
 use Rattle.standard_trees.specs.RuleWords.{ClearListToMarker, FramesetNotOk, InTemplate, ListMarker, Mode as StandardMode, Pop, PopTemplateMode, PopUntil}
 use Rattle.standard_trees.specs.RuleWords.{PushTemplateMode, TextState, These}
-use Rattle.standard_trees.specs.TreeStore.{ContentsNode, ElementNode, Html, NodeAttr, Place}
-use Rattle.page_tokens.specs.declared.token.Tag.{Tag}
 use Rattle.page_tokens.specs.declared.tokenizer.state.State.{State}
-use Rattle.page_trees.specs.Constructs.{AreTemplateModes, Constructs, IsCurrentTag, Performs, WithinLimits, all_performed, first_fault, is_entered_plainly, returns_later, state_for}
-use Rattle.page_trees.specs.HeadSteps.{after_element, before_element, place_in_head, reading_text, starting_template}
-use Rattle.page_trees.specs.Modes.{is_start_kind, mode_of}
-use Rattle.page_trees.specs.Stands.{Does, DoesIn, inserted_in, without_marker}
-use Rattle.page_trees.specs.TagInsertions.{InsertsTagAt}
+use Rattle.page_trees.specs.Constructs.{AreTemplateModes, Constructs, Performs, all_performed, is_entered_plainly, returns_later, state_for}
+use Rattle.page_trees.specs.HeadSteps.{after_element, before_element, reading_text, starting_template}
+use Rattle.page_trees.specs.Modes.{mode_of}
+use Rattle.page_trees.specs.Stands.{Does, without_marker}
 use Rattle.page_trees.specs.TokenSteps.{keeps_characters}
 use Rattle.page_trees.specs.TreeState.{TreeState}
 use Rattle.page_trees.specs.declared.builder.Mode.{Mode}
 use Rattle.page_trees.specs.declared.builder.TreeBuilder.{TreeBuilder}
-use Rattle.page_trees.specs.declared.fault.PageFault.{PageFault}
 use Rattle.page_trees.specs.declared.name.Name.{Name}
-use Rattle.page_trees.specs.declared.stack.ElementNamespace.{ElementNamespace}
-use Rattle.page_trees.proofs.BuilderSteps.{entered, moved, was_ok}
+use Rattle.page_trees.proofs.BuilderSteps.{entered, moved}
 use Rattle.page_trees.proofs.ClosedEntries.{no_frameset}
-use Rattle.page_trees.proofs.ElementSteps.{Noted, current_element}
 use Rattle.page_trees.proofs.NamesAgree.{both}
 
 -- ---- the text of an element

@@ -1,5 +1,5 @@
 -- What the rules for the modes around the head, and for templates, make of a tag.
-use Rattle.std.proofs.Common.{◌≡◌, Bool, true, false, ◌&&◌, ◌⊎◌, inl, inr, List, [], ◌∷◌, codes, refl, sym, ap, subst, ◌∙◌, true≢false}
+use Rattle.std.proofs.Common.{◌≡◌, Bool, true, false, ◌&&◌, ◌⊎◌, inl, inr, List, [], ◌∷◌, codes, refl, ap, subst, ◌∙◌, true≢false}
 use Rattle.standard_trees.specs.Building.{Building, perform, taken}
 use Rattle.standard_trees.specs.RuleWords.{Act, Action, AfterHead, InBody, InFrameset, InHead, InHeadNoscript, InTemplate, InsertElement, InsertNamed, FramesetNotOk, Mode as StandardMode}
 use Rattle.standard_trees.specs.RuleWords.{Pop, PopTemplateMode, PushHeadPointer, PushTemplateMode, RawText, RemoveHeadFromStack, SwitchTo, Use, does, goes}
@@ -462,4 +462,4 @@ of_metadata _ h = absurd (cc)
 
 pub spoiled_current : (tag : Tag) (b : Building) → IsCurrentTag Name.Body tag b → IsCurrentTag Name.Body tag (perform FramesetNotOk b)
 unfolding perform
-spoiled_current tag b c = record { standard = c.standard; is = c.is; written = c.written; named = c.named; token = c.token; attrs = c.attrs }
+spoiled_current tag b c = record { standard = c.standard; is = c.is; written = c.written; plain = c.plain; named = c.named; token = c.token; attrs = c.attrs }

@@ -8,7 +8,7 @@ use Rattle.page_tokens.specs.declared.token.Tag.{Tag}
 use Rattle.page_trees.specs.Constructs.{Constructs, IsCurrentTag, WithinLimits, first_fault}
 use Rattle.page_trees.specs.HeadSteps.{place_in_head}
 use Rattle.page_trees.specs.Modes.{is_start_kind}
-use Rattle.page_trees.specs.Stands.{Does, DoesIn, inserted_in}
+use Rattle.page_trees.specs.Stands.{DoesIn, inserted_in}
 use Rattle.page_trees.specs.TagInsertions.{InsertsTagAt}
 use Rattle.page_trees.specs.TreeState.{TreeState}
 use Rattle.page_trees.specs.declared.builder.TreeBuilder.{TreeBuilder}

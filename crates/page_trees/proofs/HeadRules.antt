@@ -5,13 +5,13 @@ use Rattle.std.proofs.lemmas.Slice.Eq.{bytes_eq-Decides}
 use Rattle.standard_trees.specs.Building.{Building, perform, taken, token_attrs, with_tree}
 use Rattle.standard_trees.specs.GrowingTree.{GrowingTree, implied_of, is_among, is_one, key, popped_until, with_stack}
 use Rattle.standard_trees.specs.NameLists.{thoroughly_implied}
-use Rattle.standard_trees.specs.RuleWords.{Act, Action, AllImpliedEndTags, ClearListToMarker, InBody, InHead, InHeadNoscript, InsertElement, PopTemplateMode, RawText}
-use Rattle.standard_trees.specs.RuleWords.{ResetMode, SwitchTo, Use, goes}
+use Rattle.standard_trees.specs.RuleWords.{Act, Action, AllImpliedEndTags, ClearListToMarker, InHead, InsertElement, PopTemplateMode}
+use Rattle.standard_trees.specs.RuleWords.{ResetMode}
 use Rattle.standard_trees.specs.TreeRules.{rules}
 use Rattle.page_tokens.specs.declared.token.Tag.{Tag}
 use Rattle.page_trees.specs.Constructs.{Constructs, HaveOneToken, IsCurrentTag, Outcome, all_performed}
 use Rattle.page_trees.specs.Groups.{is_metadata_name}
-use Rattle.page_trees.specs.HeadSteps.{after_element, before_element, closing_template, reading_text}
+use Rattle.page_trees.specs.HeadSteps.{after_element, before_element, closing_template}
 use Rattle.page_trees.specs.LateMerges.{is_open}
 use Rattle.page_trees.specs.Modes.{is_start_kind}
 use Rattle.page_trees.specs.Names.{html_rows, rare_rows}
@@ -19,7 +19,7 @@ use Rattle.page_trees.specs.declared.builder.Next.{Next}
 use Rattle.page_trees.specs.declared.builder.TreeBuilder.{TreeBuilder}
 use Rattle.page_trees.specs.declared.name.Name.{Name}
 use Rattle.page_trees.proofs.BuiltStacks.{past_beyond}
-use Rattle.page_trees.proofs.RulesRun.{outcome, outcome_by, plainly}
+use Rattle.page_trees.proofs.RulesRun.{outcome, plainly}
 use Rattle.page_trees.proofs.RulesTaken.{are_of_names, chosen, plain_tag, taken_tag}
 
 pub in_head_known : are_of_names (rules InHead) ≡ true
@@ -75,6 +75,7 @@ stays_current name tag b c same is = record {
   standard = is.standard;
   is = is.is;
   written = is.written;
+  plain = is.plain;
   named = is.named;
   token = same.token ∙ is.token;
   attrs = same.attrs ∙ is.attrs ∙ ap token_attrs (sym same.token);

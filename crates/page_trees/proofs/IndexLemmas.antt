@@ -1,13 +1,13 @@
 -- The search index of the stack of open elements: its entries, and what adding and removing one does.
-use Rattle.std.proofs.Common.{ℕ, zero, suc, ◌≡◌, ◌+◌, ◌*◌, ◌<◌, ◌≤◌, ◌⊎◌, inl, inr, Bool, true, false, ◌&&◌, not, List, [], ◌∷◌, ◌++◌, length, take, map, get_or, refl, sym, ap, ◌∙◌, subst, arith, if◌then◌else◌, eqb}
+use Rattle.std.proofs.Common.{ℕ, suc, ◌≡◌, ◌+◌, ◌<◌, ◌≤◌, inl, inr, Bool, List, [], ◌∷◌, ◌++◌, length, take, map, get_or, refl, sym, ap, ◌∙◌, subst, arith, if◌then◌else◌, eqb}
 use Rattle.std.specs.Prelude.{IfNone, None, Option, Some, slice_get}
 use Rattle.std.specs.Option.{option_to_list}
-use Rattle.std.proofs.lemmas.Bool.{cases_Bool, cases_eq, cases_lt, eqb-false, eqb-true, ne_eqb}
+use Rattle.std.proofs.lemmas.Bool.{cases_Bool, cases_eq, cases_lt, eqb-false, eqb-true}
 use Rattle.std.proofs.lemmas.List.{get_or_append_left, get_or_push, length-map, length-take-le, length_push, map-append, take-take}
 use Rattle.std.proofs.lemmas.Option.{slice_get_within}
 use Rattle.page_trees.specs.Links.{AreLinks, IsLast}
 use Rattle.page_trees.specs.Scopes.{ends_items, last_place}
-use Rattle.page_trees.specs.SearchIndex.{IsIndex, is_sought, key_of, mark_of}
+use Rattle.page_trees.specs.SearchIndex.{IsIndex, key_of, mark_of}
 use Rattle.page_trees.specs.Sets.{ends_scope, is_in_html, is_special_element}
 use Rattle.page_trees.specs.declared.stack.Open.{Open}
 use Rattle.page_trees.specs.declared.stack.marks.Mark.{Mark}

@@ -1,11 +1,11 @@
 -- The rules for a character neither switch the tokenizer nor have a line feed skipped.
-use Rattle.std.proofs.Common.{◌≡◌, ℕ, zero, suc, Bool, true, false, ◌&&◌, ◌||◌, not, List, [], ◌∷◌, reverse, refl, sym, ap, subst, ◌∙◌, true≢false, Option, None, Some, inl, inr}
+use Rattle.std.proofs.Common.{◌≡◌, ℕ, zero, suc, Bool, true, false, ◌||◌, not, List, [], ◌∷◌, reverse, refl, sym, ap, subst, ◌∙◌, true≢false, Option, None, Some, inl, inr}
 use Rattle.std.proofs.lemmas.Bool.{cases_Bool}
 use Rattle.std.proofs.lemmas.Option.{same_Some}
 use Rattle.std.specs.List.{list_all, list_any}
 use Rattle.std.specs.Option.{option_and_then}
 use Rattle.std.specs.Prelude.{option_map}
-use Rattle.standard_tokens.specs.Tokens.{AChar, AComment, ADoctype, AStart, AnEnd, AnEof, Token}
+use Rattle.standard_tokens.specs.Tokens.{AChar, Token}
 use Rattle.standard_trees.specs.Building.{Building, adjusted, each_char, fits, gone, is_met, own_name, perform, performed, renamed, run, taken, with_token}
 use Rattle.standard_trees.specs.NameLists.{svg_names}
 use Rattle.standard_trees.specs.RuleWords.{Act, Action, AdjustSvgName, Anything, Character, Dispatcher, Mode, Null, Pattern, Rename, Reprocess, Rule, SkipNextLineFeed, TokenizerTo}

@@ -1,5 +1,5 @@
 -- The elements of the definition's store stay as they are where nodes are made and moved, and texts grow.
-use Rattle.std.proofs.Common.{◌≡◌, ℕ, suc, zero, ◌<◌, ◌≤◌, ◌+◌, ◌==◌, Bool, true, false, List, [], ◌∷◌, ◌++◌, map, refl, sym, ap, ◌∙◌, length, Option, Some, None, arith, inl, inr, subst, codes, true≢false, if◌then◌else◌}
+use Rattle.std.proofs.Common.{◌≡◌, ℕ, suc, zero, ◌≤◌, ◌==◌, Bool, true, false, List, [], ◌∷◌, ◌++◌, refl, sym, ap, ◌∙◌, length, Option, Some, None, arith, subst, codes, true≢false, if◌then◌else◌}
 use Rattle.std.specs.Prelude.{All, IfSome, get_or}
 use Rattle.std.specs.Option.{option_map_or}
 use Rattle.std.proofs.lemmas.List.Elements.{All-weaker}
@@ -8,13 +8,14 @@ use Rattle.dom_links.specs.Contents.{changed_at as changed}
 use Rattle.dom_links.specs.Forest.{Forest}
 use Rattle.standard_trees.specs.GrowingTree.{FormAt, FormOfContext, FormPointer as StandardForm, GrowingTree, NoForm, is_among}
 use Rattle.standard_trees.specs.GrowingTree.{is_named as is_of_kind}
-use Rattle.standard_trees.specs.TreeStore.{CommentNode, ContentsNode, DoctypeNode, DocumentNode, ElementNode, EndOf, Kind, Node, NodeAttr, Place, Space, TextNode}
-use Rattle.standard_trees.specs.TreeStore.{changed_at, contents_in, is_document, leaf, node_at, node_before, put_at, removed, text_in}
+use Rattle.standard_trees.specs.TreeStore.{CommentNode, ContentsNode, DoctypeNode, DocumentNode, ElementNode, Kind, Node, NodeAttr, Place, Space, TextNode}
+use Rattle.standard_trees.specs.TreeStore.{changed_at, contents_in, is_document, leaf, node_at, node_before, put_at, removed, text_in, local_in}
 use Rattle.page_trees.specs.SameNodes.{AreNodes, text_after, with_kind, with_kind_at, with_text_at}
 use Rattle.page_trees.specs.Stands.{AllStand, Builds, EntryStands, IsFormNamed, IsHeadNamed, IsOfKind, StandsFor, TakeAttrs, TakesAttrs, late_names}
 use Rattle.page_trees.specs.TreeState.{Late, TreeState, added_to, completed, late_at}
 use Rattle.page_trees.specs.declared.formatting.Entry.{Entry}
 use Rattle.page_trees.specs.declared.stack.Open.{Open}
+use Rattle.page_trees.proofs.NumberedNames.{still_numbered}
 use Rattle.page_trees.proofs.StoreLemmas.{kind_at, kind_from, kinds, kinds_changed, kinds_more, kinds_put, kinds_removed, with_kind_of}
 
 -- each element of the old nodes is one of the new nodes, and no other node became a Document
@@ -128,9 +129,11 @@ named_kept old new kept names none n h = by (node_at old n).kind refl h
     by DocumentNode e named = absurd (true≢false (sym named ∙ none))
     by ContentsNode e named = absurd (true≢false (sym named ∙ none))
 
+element_kept : (old new : List Node) → Keeps old new → (o : Open) → StandsFor old o → (node_at new o.id).kind ≡ (node_at old o.id).kind
+element_kept old new kept o s = kept.elements o.id _ _ _ _ s.kind ∙ sym s.kind
+
 pub stands_kept : (old new : List Node) → Keeps old new → (o : Open) → StandsFor old o → StandsFor new o
-stands_kept old new kept o s =
-    subst (IsOfKind o) (s.kind ∙ sym (kept.elements o.id _ _ _ _ s.kind)) s
+stands_kept old new kept o s = subst (IsOfKind o) (sym (element_kept old new kept o s)) s
 
 pub all_kept : (old new : List Node) → Keeps old new → (os : List Open) → AllStand old os → AllStand new os
 all_kept old new kept [] s = tt
@@ -168,6 +171,7 @@ pub built_grown : (s : TreeState) (t : GrowingTree) (h : Forest) (nodes : List N
 built_grown s t h nodes b kept are = record {
   nodes = are;
   stack = record { ids = b.stack.ids; nodes = all_kept t.nodes nodes kept _ b.stack.nodes };
+  numbered = still_numbered s.numbers t.nodes nodes s.stack b.stack.nodes (λ o stands. ap local_in (element_kept t.nodes nodes kept o stands)) b.numbered;
   listed = record { list = b.listed.list; elements = entries_kept t.nodes nodes kept s.formatting b.listed.elements };
   head = b.head;
   head_named = head_kept t.nodes nodes kept t.head b.head_named;

@@ -1,14 +1,14 @@
 -- The attributes of later tags change neither the links of a forest nor the kinds of its nodes, so that an edit of the forest without
 -- them is the same edit of the forest with them.
-use Rattle.std.proofs.Common.{◌≡◌, ℕ, suc, zero, ◌<◌, ◌≤◌, ◌+◌, ◌==◌, ◌&&◌, ◌||◌, ◌⊎◌, Bool, true, false, not, List, [], ◌∷◌, ◌++◌, map, refl, sym, ap, ◌∙◌, length, Option, Some, None, arith, inl, inr, subst, if◌then◌else◌}
-use Rattle.std.specs.Prelude.{option_and_then, reverse, slice_get}
+use Rattle.std.proofs.Common.{◌≡◌, ℕ, suc, zero, ◌<◌, ◌+◌, ◌==◌, ◌&&◌, ◌||◌, Bool, true, false, not, List, [], ◌∷◌, ◌++◌, refl, sym, ap, ◌∙◌, length, Option, Some, None, arith, inl, inr, subst, if◌then◌else◌}
+use Rattle.std.specs.Prelude.{option_and_then, slice_get}
 use Rattle.std.specs.Option.{option_map_or, unwrap_or}
 use Rattle.std.proofs.lemmas.List.{append-nil}
 use Rattle.dom_nodes.specs.Kinds.{children_allowed, contents_named, is_element, is_fragment, is_text, is_top}
 use Rattle.dom_nodes.specs.declared.name.Attr.{Attr}
 use Rattle.dom_nodes.specs.declared.name.NameParts.{NameParts}
 use Rattle.dom_nodes.specs.declared.node_data.NodeData.{NodeData}
-use Rattle.dom_nodes.specs.declared.node_data.NodeData.TheVariants.{Comment, Doctype, Document, Element, Fragment, ProcessingInstruction, Text}
+use Rattle.dom_nodes.specs.declared.node_data.NodeData.TheVariants.{Element, Fragment, Text}
 use Rattle.dom_links.specs.AddedTexts.{lengthened, text_before, with_more, with_node_at, with_text_at}
 use Rattle.dom_links.specs.Contents.{KeepsKind, SameKind, changed_at, with_content}
 use Rattle.dom_links.specs.Forest.{Forest, StandsOnce, parent}
@@ -20,7 +20,7 @@ use Rattle.dom_links.specs.SetTexts.{is_text_at}
 use Rattle.dom_links.specs.Sound.{IsForest, IsHostAncestor, IsOpenGap, IsParentOrHost, children_allowed_at, contents_at, one_step, stays, then_step}
 use Rattle.dom_links.specs.declared.gap.InsertionPoint.{InsertionPoint}
 use Rattle.dom_links.specs.declared.gap.InsertionPoint.TheVariants.{After as after_node, Before as before_node, EndOf as end_of, FrontOf as front_of}
-use Rattle.dom_trees.specs.TreeUnderConstruction.{flagged_element, with_new_element}
+use Rattle.dom_trees.specs.TreeUnderConstruction.{with_new_element}
 use Rattle.dom_trees.specs.declared.tree.growing.ElementFlags.{ElementFlags}
 use Rattle.page_trees.specs.Insertions.{with_element_at}
 use Rattle.page_trees.specs.Placing.{foster_place_of, fosters, inner, is_a_table, is_a_template, place_of, point_of}

@@ -52,6 +52,7 @@ pub mod BuiltTests
 pub mod BuiltTexts
 pub mod BuiltLists
 pub mod BuiltStacks
+pub mod NumberedNames
 pub mod BuiltPointers
 pub mod BuiltStart
 pub mod RulesTaken
@@ -86,6 +87,7 @@ pub mod FirstRules
 pub mod AfterBodyTags
 mod TokenAnswers
 mod PageFronts
+mod PageFlags
 mod PageTurns
 mod ToldTokens
 pub mod SettledFormatting
@@ -93,6 +95,14 @@ pub mod CharactersBehind
 pub mod CharacterRules
 pub mod RunSteps
 pub mod RunOutcomes
+pub mod FollowingTurns
+pub mod PendingTexts
+pub mod TableTexts
+pub mod TableRuns
+pub mod FosteredRuns
+pub mod SettledTexts
+pub mod SettledTokens
+pub mod FosteredTags
 pub mod ForeignRuns
 pub mod CompletedTrees
 pub mod WalkedTrees
@@ -107,6 +117,12 @@ pub mod UnlistedEntries
 pub mod TableRules
 pub mod TableRows
 pub mod TableTags
+pub mod TakenOut
+pub mod SimpleEnds
+pub mod DroppedElements
+pub mod SplitLists
+pub mod WrappedElements
+pub mod AdoptedChildren
 pub mod ResetLemmas
 pub mod HeadEdits
 pub mod HeadRules
@@ -117,6 +133,10 @@ pub mod FramesetTags
 pub mod BodyRules
 pub mod BodyStarts
 pub mod ClosedElements
+pub mod OtherNamesClosed
+pub mod ObjectEnds
+pub mod LaterBodies
+pub mod PushedEntries
 pub mod BodyControls
 pub mod BodyElements
 pub mod BareElements
@@ -127,3 +147,15 @@ pub mod SpacesApart
 pub mod CharacterTurns
 pub mod FinishedPages
 pub mod BodyFormatting
+pub mod EndedForms
+pub mod BodyForms
+pub mod BodyInputs
+pub mod ReturnModes
+pub mod OrderlyPages
+pub mod TableInputs
+pub mod ForeignNames
+pub mod ForeignSteps
+pub mod ForeignStarts
+pub mod BodyImages
+pub mod ForeignEnds
+pub mod ForeignEndTags

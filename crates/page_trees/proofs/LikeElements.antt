@@ -1,5 +1,5 @@
 -- Two formatting elements of the tree are alike where those of the definition are.
-use Rattle.std.proofs.Common.{◌≡◌, ℕ, ◌<◌, ◌&&◌, ◌||◌, Bool, true, false, List, [], ◌∷◌, ◌++◌, ◌+◌, map, refl, sym, ap, ◌∙◌, length, Option, Some, None, subst, suc, zero, arith, true≢false}
+use Rattle.std.proofs.Common.{◌≡◌, ℕ, ◌<◌, ◌&&◌, ◌||◌, Bool, true, false, List, [], ◌∷◌, ◌+◌, map, refl, sym, ap, ◌∙◌, length, Option, Some, None, subst, suc, zero, arith, true≢false}
 use Rattle.std.specs.Prelude.{encode_utf8_all, slice_get}
 use Rattle.std.specs.List.{list_all, list_any}
 use Rattle.std.specs.Option.{option_and_then, option_map_or}
@@ -13,11 +13,10 @@ use Rattle.dom_nodes.specs.Names.{same_name, same_namespace, same_prefix}
 use Rattle.dom_nodes.specs.declared.name.Attr.{Attr}
 use Rattle.dom_nodes.specs.declared.node_data.NodeData.{NodeData}
 use Rattle.dom_links.specs.Forest.{Forest}
-use Rattle.dom_links.specs.ListMoves.{element_at}
 use Rattle.dom_trees.specs.Views.{node_element}
-use Rattle.standard_trees.specs.Formatting.{are_alike as are_alike_by_rules, attrs_of, holds_all, same_attr as same_attr_by_rules}
-use Rattle.standard_trees.specs.GrowingTree.{GrowingTree, key, kind_of}
-use Rattle.standard_trees.specs.TreeStore.{AttrSpace, ElementNode, Html, Kind, NoSpace, NodeAttr, XLink, Xml, XmlNs, attrs_in, key_in, key_of, node_at, same_space}
+use Rattle.standard_trees.specs.Formatting.{are_alike as are_alike_by_rules, holds_all, same_attr as same_attr_by_rules}
+use Rattle.standard_trees.specs.GrowingTree.{GrowingTree, kind_of}
+use Rattle.standard_trees.specs.TreeStore.{AttrSpace, ElementNode, Html, Kind, NoSpace, NodeAttr, XLink, Xml, XmlNs, attrs_in, key_in, same_space}
 use Rattle.page_trees.specs.Elements.{IsElement}
 use Rattle.page_trees.specs.Formatting.{are_alike, has_attr, same_attr, same_element}
 use Rattle.page_trees.specs.SameNodes.{IsKind, attr_for, attr_namespace, attr_prefix, element_for, name_for}

@@ -1,10 +1,10 @@
 -- The links as lists, which the code writes entry by entry.
-use Rattle.std.proofs.Common.{ℕ, zero, suc, ◌≡◌, ◌+◌, ◌-◌, ◌<◌, ◌≤◌, ◌⊎◌, inl, inr, List, [], ◌∷◌, ◌++◌, length, get_or, set, refl, sym, ap, ◌∙◌, subst, arith, add-one}
+use Rattle.std.proofs.Common.{ℕ, zero, suc, ◌≡◌, ◌+◌, ◌-◌, ◌<◌, ◌≤◌, inl, inr, List, [], ◌∷◌, ◌++◌, length, get_or, set, refl, sym, ap, ◌∙◌, subst, arith}
 use Rattle.std.specs.Prelude.{Option, Some, None, IfNone}
 use Rattle.std.specs.Option.{option_to_list}
 use Rattle.std.proofs.lemmas.Bool.{cases_eq, cases_lt}
 use Rattle.std.proofs.lemmas.Grind.{get_or-set_at}
-use Rattle.std.proofs.lemmas.List.{append-nil, get_or-set_other, get_or_append_left, get_or_past, get_or_push, get_or-set_same, length-set, length_push, set-get_or}
+use Rattle.std.proofs.lemmas.List.{get_or-set_other, get_or_append_left, get_or_past, get_or_push, get_or-set_same, length-set, length_push, set-get_or}
 use Rattle.page_trees.specs.Links.{IsLast, AreLinked, AreLinks, set_before, set_where_none}
 use Rattle.page_trees.proofs.LinkLemmas.{add_linked, cut_linked, linked_same, turn_linked, IsAdded, IsCut, IsExchanged, IsTurned, AreTurned}
 

@@ -1,21 +1,20 @@
 -- Elements of the list of active formatting elements are found and removed, and one is added.
-use Rattle.std.proofs.Common.{◌≡◌, ℕ, ◌<◌, ◌+◌, ◌-◌, Bool, true, false, List, [], ◌∷◌, ◌++◌, map, reverse, refl, sym, ap, ◌∙◌, length, Option, Some, None, subst, suc, zero, arith, inl, inr, true≢false, if◌then◌else◌, nat_eq}
+use Rattle.std.proofs.Common.{◌≡◌, ℕ, ◌<◌, ◌-◌, Bool, true, false, List, [], ◌∷◌, ◌++◌, map, reverse, refl, sym, ap, ◌∙◌, length, Option, Some, None, subst, suc, zero, arith, true≢false, if◌then◌else◌, nat_eq}
 use Rattle.std.specs.Prelude.{All, nat_lt, remove, slice_get}
 use Rattle.std.specs.Option.{option_map, option_map_or, option_to_list}
-use Rattle.std.proofs.lemmas.Bool.{cases_Bool}
 use Rattle.std.proofs.lemmas.List.{length-map, length-reverse, reverse-append, reverse-reverse}
 use Rattle.std.proofs.lemmas.List.Edits.{remove-append_left}
-use Rattle.std.proofs.lemmas.List.Elements.{All-append, All-cons, All-nil, All-head, All-push, All-tail}
+use Rattle.std.proofs.lemmas.List.Elements.{All-cons, All-nil, All-head, All-push, All-tail}
 use Rattle.dom_links.specs.Forest.{Forest}
 use Rattle.standard_trees.specs.Formatting.{are_alike as are_alike_by_rules, enlisted, without_third}
-use Rattle.standard_trees.specs.GrowingTree.{Entry as StandardEntry, Formatting, GrowingTree, Marker, current, kind_of}
+use Rattle.standard_trees.specs.GrowingTree.{Entry as StandardEntry, Formatting, GrowingTree, current, kind_of}
 use Rattle.standard_trees.specs.GrowingTree.{is_named as is_of_kind, is_one as is_one_of}
-use Rattle.page_trees.specs.Elements.{AreElements, IsElement, IsEntry}
+use Rattle.page_trees.specs.Elements.{IsElement, IsEntry}
 use Rattle.page_trees.specs.Formatting.{alike_from_end, are_alike, are_few, third_alike, with_room}
 use Rattle.page_trees.specs.Listing.{Enlists}
 use Rattle.page_trees.specs.Names.{html_rows, rare_rows}
 use Rattle.page_trees.specs.Sets.{is_one}
-use Rattle.page_trees.specs.Stands.{Builds, EntryStands, IsCurrent, IsListOf, IsOfKind, StandsFor, entry_of, formatting_names}
+use Rattle.page_trees.specs.Stands.{Builds, EntryStands, IsCurrent, IsOfKind, StandsFor, entry_of, formatting_names}
 use Rattle.page_trees.specs.TreeState.{TreeState}
 use Rattle.page_trees.specs.declared.formatting.Entry.{Entry}
 use Rattle.page_trees.specs.declared.stack.Open.{Open}

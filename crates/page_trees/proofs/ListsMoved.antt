@@ -1,12 +1,11 @@
 -- Lists of children after a node was put among them: how the forest and the definition's store say it.
-use Rattle.std.proofs.Common.{◌≡◌, ℕ, suc, zero, ◌<◌, ◌≤◌, ◌+◌, Bool, true, false, List, [], ◌∷◌, ◌++◌, map, refl, sym, ap, ◌∙◌, length, Option, Some, None, arith, inl, inr, subst}
+use Rattle.std.proofs.Common.{◌≡◌, ℕ, suc, zero, ◌<◌, ◌+◌, true, false, List, [], ◌∷◌, ◌++◌, refl, sym, ap, ◌∙◌, Option, Some, None, arith, inl, inr}
 use Rattle.std.specs.Prelude.{get_or, nat_eq, ◌||◌, if◌then◌else◌}
 use Rattle.std.specs.Option.{option_or}
-use Rattle.std.proofs.lemmas.Bool.{cases_Bool, cases_eq, eq-eqb, eqb-true, ne_eqb, or_parts, true≢false}
-use Rattle.std.proofs.lemmas.List.{ext_get_or}
+use Rattle.std.proofs.lemmas.Bool.{cases_Bool, eq-eqb, ne_eqb, or_parts}
 use Rattle.standard_trees.specs.TreeStore.{before_of, last_of, placed_before}
 use Rattle.dom_links.specs.Contents.{changed_at as changed}
-use Rattle.dom_links.specs.Lists.{IsDistinct, before, is_member, last, map_from, put_before, without}
+use Rattle.dom_links.specs.Lists.{IsDistinct, before, is_member, last, map_from, put_before}
 use Rattle.dom_links.specs.Moves.{children_with}
 use Rattle.dom_links.specs.declared.gap.InsertionPoint.TheVariants.{Before as before_node, EndOf as end_of}
 use Rattle.dom_links.proofs.forest.Neighbours.{around, before_here, last-cons, last-cons_cons}

@@ -21,7 +21,7 @@ use Rattle.page_trees.specs.Foreign.{attr_in}
 use Rattle.page_trees.specs.LateAttrs.{AddsAbsent, AreNamesOf, Knows, absent_in, is_present}
 use Rattle.page_trees.specs.LateMerges.{AddsAt, AddsTo, KnowsAt}
 use Rattle.page_trees.specs.SameNodes.{attr_for}
-use Rattle.page_trees.specs.TreeState.{Late, added_to, late_at, late_of}
+use Rattle.page_trees.specs.TreeState.{Late, late_at, late_of}
 use Rattle.page_trees.specs.declared.growing.late.LateAttrs.{LateAttrs}
 use Rattle.page_trees.specs.declared.stack.ElementNamespace.{ElementNamespace}
 use Rattle.page_trees.proofs.KeptElements.{added_is}

@@ -1,6 +1,6 @@
 -- Merging the attributes of a later tag into an element is a step of the definition.
-use Rattle.std.proofs.Common.{◌≡◌, ℕ, suc, zero, ◌+◌, ◌<◌, ◌≤◌, ◌==◌, ◌⊎◌, ◌&&◌, ◌||◌, Bool, true, false, List, [], ◌∷◌, ◌++◌, map, reverse, refl, sym, ap, subst, ◌∙◌, append_assoc, length, codes, Option, Some, None, arith, inl, inr, true≢false, if◌then◌else◌}
-use Rattle.std.specs.Prelude.{All, IfSome, get_or, slice_get}
+use Rattle.std.proofs.Common.{◌≡◌, ℕ, suc, zero, ◌+◌, ◌≤◌, ◌⊎◌, ◌&&◌, ◌||◌, Bool, true, false, List, [], ◌∷◌, ◌++◌, map, reverse, refl, sym, ap, subst, ◌∙◌, append_assoc, codes, Option, Some, None, arith, inl, inr, true≢false}
+use Rattle.std.specs.Prelude.{IfSome, get_or, slice_get}
 use Rattle.std.specs.Option.{option_map, option_map_or}
 use Rattle.std.specs.Str.{bytes_eq}
 use Rattle.std.proofs.lemmas.Bool.Decides.{eqb_tells}
@@ -18,18 +18,19 @@ use Rattle.page_tokens.specs.declared.attribute.TagAttr.{TagAttr}
 use Rattle.standard_trees.specs.GrowingTree.{FormAt, FormOfContext, FormPointer as StandardForm, GrowingTree, NoForm, has_value, is_among, is_html_point, merged, merged_into}
 use Rattle.standard_trees.specs.GrowingTree.{is_named as is_of_kind, is_one as is_one_of, with_attrs as with_merged}
 use Rattle.standard_trees.specs.NameLists.{html_encodings, html_points}
-use Rattle.standard_trees.specs.TreeStore.{CommentNode, ContentsNode, DoctypeNode, DocumentNode, ElementNode, Kind, Node, NodeAttr, TextNode, attrs_in, changed_at, contents_in, is_document, key_in, node_at}
+use Rattle.standard_trees.specs.TreeStore.{CommentNode, ContentsNode, DoctypeNode, DocumentNode, ElementNode, Kind, Node, NodeAttr, TextNode, attrs_in, changed_at, contents_in, is_document, key_in, local_in, node_at}
 use Rattle.page_trees.specs.Foreign.{attr_in}
 use Rattle.page_trees.specs.LateAttrs.{AreNamesOf, absent_in}
 use Rattle.page_trees.specs.LateMerges.{AddsTo, KnowsAt, MayMerge}
 use Rattle.page_trees.specs.SameNodes.{AreHosts, AreKinds, AreNodes, IsChildless, IsKind, attr_for, name_for}
-use Rattle.page_trees.specs.Stands.{AllStand, Builds, EntryStands, IsFormNamed, IsHeadNamed, IsOfKind, StandsFor, TakeAttrs, TakesAttrs, late_names}
+use Rattle.page_trees.specs.Stands.{AllStand, Builds, EntryStands, IsFormNamed, IsHeadNamed, IsOfKind, TakeAttrs, TakesAttrs, late_names}
 use Rattle.page_trees.specs.TreeState.{Late, TreeState, added_to, completed, late_at, with_attrs}
 use Rattle.page_trees.specs.declared.formatting.Entry.{Entry}
 use Rattle.page_trees.specs.declared.stack.ElementNamespace.{ElementNamespace}
 use Rattle.page_trees.specs.declared.stack.Open.{Open}
 use Rattle.page_trees.proofs.KeptElements.{added_is}
 use Rattle.page_trees.proofs.MergedAttrs.{added_by, merged_alike, pick}
+use Rattle.page_trees.proofs.NumberedNames.{still_numbered}
 use Rattle.page_trees.proofs.StoreLemmas.{kind_at, kinds, lists}
 
 -- ---- one element
@@ -90,6 +91,18 @@ IsMerged new old kind = (kind ≡ old) ⊎ ((is_of_kind late_names old ≡ true)
 still_named : (names : List (List ℕ)) (new : List NodeAttr) (old kind : Kind) → IsMerged new old kind → is_of_kind names kind ≡ is_of_kind names old
 still_named names new old kind (inl e) = ap (is_of_kind names) e
 still_named names new old kind (inr h) = ap (is_of_kind names) h.1 ∙ ap (λ key. is_among key names) (key_merged new old)
+
+local_merged : (new : List NodeAttr) (kind : Kind) → local_in (with_merged new kind) ≡ local_in kind
+local_merged new (ElementNode space name attrs contents) = refl
+local_merged new (TextNode text) = refl
+local_merged new (CommentNode text) = refl
+local_merged new (DoctypeNode doctype) = refl
+local_merged new DocumentNode = refl
+local_merged new ContentsNode = refl
+
+still_spelled : (new : List NodeAttr) (old kind : Kind) → IsMerged new old kind → local_in kind ≡ local_in old
+still_spelled new old kind (inl e) = ap local_in e
+still_spelled new old kind (inr h) = ap local_in h.1 ∙ local_merged new old
 
 still_holds : (new : List NodeAttr) (old kind : Kind) → IsMerged new old kind → contents_in kind ≡ contents_in old
 still_holds new old kind (inl e) = ap contents_in e
@@ -350,6 +363,8 @@ merged_built s t n new given later b named same adds =
     record {
       nodes = nodes_merged new t.nodes s.forest n given s.late later adds named (λ attrs e. grown attrs e ∙ ap (λ (xs : List Attr). own ++ xs) (sym now)) b.nodes;
       stack = record { ids = b.stack.ids; nodes = all_merged new t.nodes n named (reverse s.stack) b.stack.nodes };
+      numbered = still_numbered s.numbers t.nodes (merge_at new n t.nodes) s.stack b.stack.nodes (λ o stands.
+          still_spelled new (node_at t.nodes o.id).kind (node_at (merge_at new n t.nodes) o.id).kind (each_merged new t.nodes n named o.id)) b.numbered;
       listed = record {
         list = b.listed.list;
         elements = All-weaker (EntryStands t.nodes) (EntryStands (merge_at new n t.nodes)) (entry_merged new t.nodes n named) s.formatting b.listed.elements;

@@ -1,7 +1,6 @@
 -- What the state of tree construction stands for after the attributes of a later tag are merged into an element.
 use Rattle.std.proofs.Common.{◌≡◌, ℕ, List, refl, sym, ap, ◌∙◌}
 use Rattle.std.specs.Prelude.{None, OnOk, Option, Result, Some}
-use Rattle.standard_trees.specs.Building.{Building}
 use Rattle.standard_trees.specs.GrowingTree.{GrowingTree, merged_into}
 use Rattle.standard_trees.specs.TreeStore.{NodeAttr}
 use Rattle.page_tokens.specs.declared.token.Tag.{Tag}

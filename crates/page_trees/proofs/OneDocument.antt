@@ -9,7 +9,6 @@ use Rattle.dom_nodes.specs.declared.node_data.NodeData.TheVariants.{Comment, Doc
 use Rattle.dom_links.specs.Forest.{Forest, children_of}
 use Rattle.standard_tokens.specs.Tokens.{Doctype as DoctypeToken}
 use Rattle.standard_trees.specs.Building.{FullQuirks, LimitedQuirks, NoQuirks, QuirksMode as Quirks}
-use Rattle.standard_trees.specs.Parsing.{Document}
 use Rattle.standard_trees.specs.TreeStore.{AttrSpace, CommentNode, ContentsNode, DoctypeNode, DocumentNode, ElementNode, Html, Kind, MathMl, NoSpace, NodeAttr, Space, Svg}
 use Rattle.standard_trees.specs.TreeStore.{TextNode, Trees, XLink, Xml, XmlNs, attrs_in, comment_tree, contents_in, doctype_tree, element_tree, local_in, no_trees, space_in, text_tree}
 use Rattle.page_trees.specs.DocumentTrees.{AreTrees, Begins, StandsForOneDocument, attr_in_utf8, doctype_in_utf8, held_in, in_utf8}

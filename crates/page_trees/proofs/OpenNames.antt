@@ -62,7 +62,7 @@ topmost_end [] n = refl
 topmost_end (m ∷ []) n = refl
 topmost_end (m ∷ k ∷ ns) n = topmost_end (k ∷ ns) n
 
-outermost : (t : GrowingTree) (o : Open) (os : List Open) → t.stack ≡ map (λ (x : Open). x.id) (reverse (o ∷ os)) → topmost t.stack ≡ o.id
+pub outermost : (t : GrowingTree) (o : Open) (os : List Open) → t.stack ≡ map (λ (x : Open). x.id) (reverse (o ∷ os)) → topmost t.stack ≡ o.id
 outermost t o os ids =
     ap topmost (ids ∙ ap (map (λ (x : Open). x.id)) (reverse-append (o ∷ []) os) ∙ map-append (λ (x : Open). x.id) (reverse os) (o ∷ []))
     ∙ topmost_end (map (λ (x : Open). x.id) (reverse os)) o.id

@@ -1,11 +1,11 @@
 -- What the rules make of the end of the page.
-use Rattle.std.proofs.Common.{◌≡◌, ℕ, Bool, true, false, ◌&&◌, not, List, [], ◌∷◌, arith, codes, length, map, reverse, refl, sym, ap, subst, ◌∙◌, true≢false}
+use Rattle.std.proofs.Common.{◌≡◌, Bool, true, false, ◌&&◌, not, List, [], ◌∷◌, arith, codes, length, map, reverse, refl, sym, ap, subst, ◌∙◌, true≢false}
 use Rattle.std.specs.Prelude.{IfSome}
 use Rattle.std.proofs.lemmas.List.{length-map, length-reverse}
 use Rattle.standard_tokens.specs.Tokens.{AnEof}
 use Rattle.standard_trees.specs.Building.{Building, is_empty, perform, taken}
 use Rattle.standard_trees.specs.GrowingTree.{adjusted_current}
-use Rattle.standard_trees.specs.RuleWords.{Act, Action, Dispatcher, InBody, InTable, InTemplate, Mode as StandardMode, Pop, Stop, SwitchBack, SwitchTo, Text, Use, UseCurrentMode, does, goes}
+use Rattle.standard_trees.specs.RuleWords.{Act, Action, Dispatcher, InBody, InTable, InTemplate, Mode as StandardMode, Pop, Stop, SwitchBack, SwitchTo, Use, UseCurrentMode, does, goes}
 use Rattle.standard_trees.specs.TreeRules.{rules}
 use Rattle.standard_trees.specs.TreeStore.{is_html, space_in}
 use Rattle.page_trees.specs.Constructs.{Constructs, HaveOneToken, LeavesBy, Outcome, Performs, WithinLimits, all_performed, is_entered_plainly, leaving, returns_later}
@@ -34,7 +34,7 @@ unfolding rules
 end_dispatched b token =
     taken_of AnEof b token (rules Dispatcher) ∙ one_rule (is_empty b.tree.stack) (is_html (space_in (adjusted_current b.tree))) (goes UseCurrentMode ∷ [])
 
-by_current : (m : Mode) (b : Building) (new : TreeBuilder) (next : Next) → b.token ≡ AnEof → b.mode ≡ mode_of m → Outcome (mode_of m) b new next → Outcome Dispatcher b new next
+pub by_current : (m : Mode) (b : Building) (new : TreeBuilder) (next : Next) → b.token ≡ AnEof → b.mode ≡ mode_of m → Outcome (mode_of m) b new next → Outcome Dispatcher b new next
 by_current m b new next token mode o =
     let here : Outcome b.mode b new next = subst (λ (x : StandardMode). Outcome x b new next) (sym mode) o in
     record { after = here.after; stands = here.stands; runs = by_mode b next here.after (end_dispatched b token) here.runs }
@@ -186,3 +186,18 @@ unfolding rules
 body_in_template old new next some by within b token stands =
     outcome_by InBody InTemplate b new next
     (taken_of AnEof b token (rules InBody) ∙ in_some_template (does Stop [] ∷ []) (goes (Use InTemplate) ∷ []) b.template_modes (some_modes old b some stands)) (by within b token stands)
+
+-- ---- pending table character tokens come first
+
+pub text_at_end : (m : Mode) → at_end m ≡ AtEnd.EndTableText → keeps_characters m ≡ true
+text_at_end Mode.InTableText e = refl
+text_at_end _ e = absurd (cc)
+
+abbrev pub is_text_end : AtEnd → Bool
+is_text_end AtEnd.EndTableText = true
+is_text_end _ = false
+
+-- none are pending where something else is done with the end of the page
+pub no_text_at_end : (m : Mode) (at : AtEnd) → at_end m ≡ at → is_text_end at ≡ false → keeps_characters m ≡ true → ⊥
+no_text_at_end Mode.InTableText at e other keeps = true≢false (ap is_text_end e ∙ other)
+no_text_at_end _ at e other keeps = true≢false (sym keeps)

@@ -1,9 +1,8 @@
 -- How the reader goes on: the tokenizer reads on, and tree construction is told what it read.
-use Rattle.std.proofs.Common.{◌≡◌, ◌∙◌, ◌∷◌, ◌++◌, Bool, List, [], ap, false, length, map, refl, subst, sym, true, ℕ}
-use Rattle.std.specs.Borrow.{Bor}
+use Rattle.std.proofs.Common.{◌≡◌, ◌∙◌, ◌∷◌, ◌++◌, Bool, List, [], ap, length, map, refl, subst, sym, true, ℕ}
 use Rattle.std.specs.List.{list_all}
 use Rattle.std.specs.Option.{option_and_then}
-use Rattle.std.specs.Prelude.{Err, IfOk, None, Ok, OnOk, Option, Result, Some, encode_utf8_all, nat_eq, option_map, unwrap_or}
+use Rattle.std.specs.Prelude.{◌≢◌, Err, None, Ok, OnOk, Option, Result, Some, encode_utf8_all, nat_eq, option_map, unwrap_or}
 use Rattle.std.proofs.lemmas.Bool.{and_parts, eqb-true}
 use Rattle.std.proofs.lemmas.List.{append-nil, append_assoc, nil_from_length}
 use Rattle.std.proofs.lemmas.List.Folds.{list_all-append}
@@ -14,6 +13,7 @@ use Rattle.standard_tokens.specs.Reading.{Feedback, ReadsPage}
 use Rattle.standard_tokens.specs.States.{Data}
 use Rattle.standard_tokens.specs.Tokens.{AChar, AComment, ADoctype, AnEof, Token}
 use Rattle.standard_trees.specs.Building.{Building, start, tree_steps}
+use Rattle.standard_trees.specs.GrowingTree.{in_foreign}
 use Rattle.standard_trees.specs.Parsing.{state_of as parsed_state}
 use Rattle.standard_trees.specs.RuleWords.{PlainText, RawText, RcdataText, ScriptText, TextState}
 use Rattle.page_tokens.specs.PageEnds.{EndsPage}
@@ -21,21 +21,22 @@ use Rattle.page_tokens.specs.PageLaws.{CharactersAreTold, IsAnswered, PagesBegin
 use Rattle.page_tokens.specs.PlainNames.{NamesArePlain, has_plain_names}
 use Rattle.page_tokens.specs.Reading.{text_of}
 use Rattle.page_tokens.specs.Standard.{Told}
-use Rattle.page_tokens.specs.StandardPages.{BeginsPage, HasRead, IsTextState, KeepsPlace, ReadsText, ReadsUpTo, lacks_cdata, told_or}
+use Rattle.page_tokens.specs.StandardPages.{BeginsPage, HasRead, IsOfPage, IsTextState, ReadsText, ReadsUpTo, told_or}
 use Rattle.page_tokens.specs.StandardStates.{state_of}
 use Rattle.page_tokens.specs.declared.token.TokenKind.{TokenKind}
 use Rattle.page_tokens.specs.declared.token.TokenKind.TheVariants as kind
 use Rattle.page_tokens.specs.declared.tokenizer.Tokenizer.{Tokenizer}
 use Rattle.page_tokens.specs.declared.tokenizer.state.State.{State}
-use Rattle.page_trees.specs.Constructs.{Constructs, RemembersLimits, WithinLimits, first_fault, state_for}
+use Rattle.page_trees.specs.Constructs.{Constructs, RemembersLimits, WithinLimits, state_for}
 use Rattle.page_trees.specs.CoveredTurns.{FewTurns, TakesTokens, covered_turn}
-use Rattle.page_trees.specs.PagesRead.{HasBuilt, HasBuiltUpTo, HasEnded, IsBehind, IsCovered, ReadsEnd, ReadsPiece, ReadsQuietly, ReadsRest, ReadsSome, TellsAll, TellsLast}
+use Rattle.page_trees.proofs.OrderlyPages.{turns_covered}
+use Rattle.page_trees.specs.PagesRead.{HasBuilt, HasBuiltUpTo, HasEnded, IsBehind, IsCovered, ReadsEnd, ReadsPiece, ReadsRest, ReadsSome, TellsAll, TellsLast}
 use Rattle.page_trees.specs.PagesRead.{TellsRead, answered, page_feedback, page_steps}
-use Rattle.page_trees.specs.Turns.{tree_step_while, tree_steps_while}
+use Rattle.page_trees.specs.Stands.{Tells}
+use Rattle.standard_order.specs.Turns.{tree_step_while, tree_steps_while}
 use Rattle.page_trees.specs.declared.builder.TreeBuilder.{TreeBuilder}
-use Rattle.page_trees.specs.declared.fault.PageFault.{PageFault}
-use Rattle.page_trees.specs.declared.reading.Options.{Options}
 use Rattle.page_trees.specs.declared.reading.PageReader.{PageReader}
+use Rattle.page_trees.proofs.PageFlags.{flag_told, foreign_now, of_page}
 use Rattle.page_trees.proofs.PageFronts.{Later, front_of_all, one_list}
 use Rattle.page_trees.proofs.TokenAnswers.{honest, step_quiet}
 use Rattle.page_trees.proofs.TurnsPassed.{first_steps, while_all_steps, while_steps}
@@ -150,18 +151,18 @@ some_answer depth scripting told = by (tree_steps depth (start scripting) told)
     by (Some c) = (c.tokenizer, refl)
 
 -- the tokens that were told are a front of all
-told_front : (f : Feedback) (read rest : List ℕ) (told all : List Token) (t : Tokenizer) → HasRead false f Data read told t → lacks_cdata (normalized (read ++ rest)) ≡ true →
-    ReadsPage f (read ++ rest) all → Later told all
-told_front f read rest told all t has plain whole =
-    let at = has rest plain in
+told_front : (cdata : Bool) (f : Feedback) (read rest : List ℕ) (told all : List Token) (t : Tokenizer) → HasRead cdata f Data read told t →
+    IsOfPage cdata f Data (normalized (read ++ rest)) → ReadsPage f (read ++ rest) all → Later told all
+told_front cdata f read rest told all t has of whole =
+    let at = has rest of in
     let l : Later (told ++ map AChar at.kept) all = front_of_all f (read ++ rest) all _ whole at.reads in
     record { more = map AChar at.kept ++ l.more; is = l.is ∙ append_assoc told (map AChar at.kept) l.more }
 
 -- and their names are plain
-told_plain : NamesArePlain → (f : Feedback) (read rest : List ℕ) (told : List Token) (t : Tokenizer) → HasRead false f Data read told t → lacks_cdata (normalized (read ++ rest)) ≡ true →
-    list_all has_plain_names told ≡ true
-told_plain names f read rest told t has plain =
-    let at = has rest plain in
+told_plain : NamesArePlain → (cdata : Bool) (f : Feedback) (read rest : List ℕ) (told : List Token) (t : Tokenizer) → HasRead cdata f Data read told t →
+    IsOfPage cdata f Data (normalized (read ++ rest)) → list_all has_plain_names told ≡ true
+told_plain names cdata f read rest told t has of =
+    let at = has rest of in
     (and_parts (list_all has_plain_names told) (list_all has_plain_names (map AChar at.kept))
     (sym (list_all-append has_plain_names told (map AChar at.kept)) ∙ names f Data (normalized (read ++ rest)) _ at.reads)).0
 
@@ -187,11 +188,12 @@ pub record Answers (old mid new : PageReader) : Type 0 where
   pub tokens : new.tokens ≡ record old.tokens { state = unwrap_or mid.builder.switch old.tokens.state; text = new.tokens.text; in_foreign = new.tokens.in_foreign }
   pub empty : text_of new.tokens ≡ []
   pub options : new.options ≡ old.options
+  pub flag : Tells in_foreign mid.builder.tree new.tokens.in_foreign
 
 pub answers_taken : (old mid between new : PageReader) → mid ≡ record old { builder = mid.builder; tokens = record old.tokens { text = mid.tokens.text } } → text_of mid.tokens ≡ [] →
     between ≡ record mid { builder = record mid.builder { switch = None }; tokens = record mid.tokens { state = unwrap_or mid.builder.switch mid.tokens.state } } →
-    new ≡ record between { tokens = record between.tokens { in_foreign = new.tokens.in_foreign } } → Answers old mid new
-answers_taken old mid between new one empty two three =
+    new ≡ record between { tokens = record between.tokens { in_foreign = new.tokens.in_foreign } } → Tells in_foreign between.builder.tree new.tokens.in_foreign → Answers old mid new
+answers_taken old mid between new one empty two three flag =
     let flat : new.tokens ≡ record old.tokens { state = unwrap_or mid.builder.switch old.tokens.state; text = mid.tokens.text; in_foreign = new.tokens.in_foreign } =
     ap (λ (r : PageReader). r.tokens) three ∙ ap (λ (t : Tokenizer). record t { in_foreign = new.tokens.in_foreign })
     (ap (λ (r : PageReader). r.tokens) two ∙ ap (λ (t : Tokenizer). record t { state = unwrap_or mid.builder.switch t.state }) (ap (λ (r : PageReader). r.tokens) one)) in
@@ -201,6 +203,7 @@ answers_taken old mid between new one empty two three =
           (sym (ap (λ (t : Tokenizer). t.text) flat));
       empty = ap text_of flat ∙ empty;
       options = ap (λ (r : PageReader). r.options) three ∙ ap (λ (r : PageReader). r.options) two ∙ ap (λ (r : PageReader). r.options) one;
+      flag = subst (λ (s : TreeBuilder). Tells in_foreign s.tree new.tokens.in_foreign) (ap (λ (r : PageReader). r.builder) two) flag;
     }
 
 pub within_before : (n : TreeBuilder) (new : TreeBuilder) → new ≡ record n { switch = None } → WithinLimits new → WithinLimits n
@@ -213,25 +216,28 @@ within_before n new e within = record {
 
 pub token_told : (kind : TokenKind) (old mid new : PageReader) → NamesArePlain → RemembersLimits old.builder mid.builder → TellsAll (Some kind) old mid → Answers old mid new →
     TellsRead (Some kind) old new
-token_told kind old mid new names remembers tells answers scripting read ended within rest depth all end covered =
+token_told kind old mid new names remembers tells answers scripting read ended within rest cdata depth all end covered =
     let within_mid : WithinLimits mid.builder = within_before mid.builder new.builder answers.builder within in
-    let e : HasEnded depth scripting read kind old = ended (remembers within_mid) rest depth all end covered in
+    let e : HasEnded cdata depth scripting read kind old = ended (remembers within_mid) rest cdata depth all end covered in
+    let of = of_page cdata depth scripting (read ++ rest) all end covered in
     let f : Feedback = page_feedback depth scripting in
     let more : List Token = map AChar e.tokens.characters ++ e.tokens.token ∷ [] in
     let told : List Token = e.told ++ map AChar e.tokens.characters ++ e.tokens.token ∷ [] in
     let any = some_answer depth scripting told in
     let other : Tokenizer = record old.tokens { state = unwrap_or (option_map state_for any.0) old.tokens.state; text = new.tokens.text } in
-    let has : HasRead false f Data read told other = e.tokens.goes_on other (record {
+    let has : HasRead cdata f Data read told other = e.tokens.goes_on other (record {
       only = refl;
       empty = answers.empty;
       state = subst (λ answer. IsAnswered answer old.tokens other) (sym any.1) (is_answered any.0 old.tokens other refl);
     }) in
-    let c = front_steps depth scripting told all end covered.builds (told_front f read rest told all other has covered.plain covered.reads) in
-    let plain = last_of e.told (map AChar e.tokens.characters) e.tokens.token (told_plain names f read rest told other has covered.plain) in
+    let c = front_steps depth scripting told all end (turns_covered depth scripting all end covered.builds) (told_front cdata f read rest told all other has of covered.reads) in
+    let plain = last_of e.told (map AChar e.tokens.characters) e.tokens.token (told_plain names cdata f read rest told other has of) in
     let takes : TakesTokens more old.builder mid.builder = tells e.tokens.characters e.tokens.text (e.tokens.token ∷ []) e.tokens.is plain in
     let steps = next_steps depth scripting e.told more e.now c.0 e.builds
     (ap (page_steps depth scripting) (sym (append_assoc e.told (map AChar e.tokens.characters) (e.tokens.token ∷ []))) ∙ c.1) in
     let asks = token_asks depth e.now c.0 e.tokens.characters e.tokens.token old.builder mid.builder covered.few takes e.switch within_mid e.stands steps in
+    let stood : Constructs (record mid.builder { switch = None }) (answered c.0) =
+    all_stand depth e.now c.0 more old.builder mid.builder covered.few takes e.switch within_mid e.stands steps in
     record {
       told = told;
       now = c.0;
@@ -241,11 +247,10 @@ token_told kind old mid new names remembers tells answers scripting read ended w
         state = subst (λ answer. IsAnswered answer old.tokens new.tokens) (sym (switch_is depth scripting told c.0 c.1))
             (is_answered c.0.tokenizer old.tokens new.tokens (ap (λ (t : Tokenizer). t.state) answers.tokens ∙ ap (λ s. unwrap_or s old.tokens.state) (sym asks)));
       });
+      flag = flag_told depth scripting told c.0 c.1 mid.builder.tree stood.tree new.tokens.in_foreign answers.flag;
       builds = c.1;
-      stands = subst (λ (s : TreeBuilder). Constructs s (answered c.0)) (sym answers.builder)
-          (all_stand depth e.now c.0 more old.builder mid.builder covered.few takes e.switch within_mid e.stands steps);
+      stands = subst (λ (s : TreeBuilder). Constructs s (answered c.0)) (sym answers.builder) stood;
       switch = ap (λ (s : TreeBuilder). s.switch) answers.builder;
-      quiet = ap (λ (o : Options). o.errors) answers.options ∙ e.quiet;
     }
 
 -- the characters before it, and then the token
@@ -274,92 +279,81 @@ token_and_text kind old mid new only chars remembers builds cs text tokens told 
 
 pub characters_told : (old mid new : PageReader) → CharactersAreTold → RemembersLimits old.builder mid.builder →
     ((cs : List ℕ) → text_of old.tokens ≡ encode_utf8_all cs → TakesTokens (map AChar cs) old.builder mid.builder) → Answers old mid new → TellsRead None old new
-characters_told old mid new law remembers tells answers scripting read has within rest depth all end covered =
+characters_told old mid new law remembers tells answers scripting read has within rest cdata depth all end covered =
     let within_mid : WithinLimits mid.builder = within_before mid.builder new.builder answers.builder within in
-    let e : IsBehind depth scripting read old = has (remembers within_mid) rest depth all end covered in
+    let e : IsBehind cdata depth scripting read old = has (remembers within_mid) rest cdata depth all end covered in
     let f : Feedback = page_feedback depth scripting in
-    let at = e.tokens rest covered.plain in
+    let at = e.tokens rest (of_page cdata depth scripting (read ++ rest) all end covered) in
     let cs : List ℕ = at.kept in
     let told : List Token = e.told ++ map AChar cs in
-    let c = front_steps depth scripting told all end covered.builds (front_of_all f (read ++ rest) all _ covered.reads at.reads) in
+    let c = front_steps depth scripting told all end (turns_covered depth scripting all end covered.builds) (front_of_all f (read ++ rest) all _ covered.reads at.reads) in
     let steps = next_steps depth scripting e.told (map AChar cs) e.now c.0 e.builds c.1 in
     let takes : TakesTokens (map AChar cs) old.builder mid.builder = tells cs at.text in
     let none : mid.builder.switch ≡ None = chars_ask depth e.now c.0 cs old.builder mid.builder covered.few takes e.switch within_mid e.stands steps in
+    let stood : Constructs (record mid.builder { switch = None }) (answered c.0) =
+    all_stand depth e.now c.0 (map AChar cs) old.builder mid.builder covered.few takes e.switch within_mid e.stands steps in
     record {
       told = told;
       now = c.0;
-      tokens = law false f Data read e.told old.tokens new.tokens e.tokens (record {
+      tokens = law cdata f Data read e.told old.tokens new.tokens e.tokens (record {
         only = answers.tokens ∙ ap (λ s. record old.tokens { state = unwrap_or s old.tokens.state; text = new.tokens.text; in_foreign = new.tokens.in_foreign }) none;
         empty = answers.empty;
       }) cs at.text;
+      flag = flag_told depth scripting told c.0 c.1 mid.builder.tree stood.tree new.tokens.in_foreign answers.flag;
       builds = c.1;
-      stands = subst (λ (s : TreeBuilder). Constructs s (answered c.0)) (sym answers.builder)
-          (all_stand depth e.now c.0 (map AChar cs) old.builder mid.builder covered.few takes e.switch within_mid e.stands steps);
+      stands = subst (λ (s : TreeBuilder). Constructs s (answered c.0)) (sym answers.builder) stood;
       switch = ap (λ (s : TreeBuilder). s.switch) answers.builder;
-      quiet = ap (λ (o : Options). o.errors) answers.options ∙ e.quiet;
     }
 
 -- ---- the tokenizer reads on
-
--- no parse errors are collected any more
-quietly : (f : Feedback) (read : List ℕ) (told : List Token) (old new : Tokenizer) → new ≡ record old { errors = new.errors } → KeepsPlace old new → HasRead false f Data read told old →
-    HasRead false f Data read told new
-quietly f read told old new only place has = subst (λ (t : Tokenizer). HasRead false f Data read told t) (sym only) (λ rest of.
-    let at = has rest of in
-    record { machine = at.machine; ahead = at.ahead; kept = at.kept; reads = at.reads; holds = subst (λ (t : Tokenizer). KeepsPlace old t) only place at.machine at.ahead at.holds; text = at.text })
 
 ended_as : (told kind : Option TokenKind) → kind ≡ told_or told None → told ≡ kind
 ended_as None kind e = sym e
 ended_as (Some one) kind e = sym e
 
-covered_on : (depth : ℕ) (scripting : Bool) (read more rest : List ℕ) (all : List Token) (end : Building) → IsCovered depth scripting ((read ++ more) ++ rest) all end →
-    IsCovered depth scripting (read ++ (more ++ rest)) all end
-covered_on depth scripting read more rest all end covered = subst (λ text. IsCovered depth scripting text all end) (append_assoc read more rest) covered
+covered_on : (cdata : Bool) (depth : ℕ) (scripting : Bool) (read more rest : List ℕ) (all : List Token) (end : Building) →
+    IsCovered cdata depth scripting ((read ++ more) ++ rest) all end → IsCovered cdata depth scripting (read ++ (more ++ rest)) all end
+covered_on cdata depth scripting read more rest all end covered = subst (λ text. IsCovered cdata depth scripting text all end) (append_assoc read more rest) covered
 
-read_on : (kind : Option TokenKind) (old new : PageReader) → TextsAreRead → TokensAreRead → new.builder ≡ old.builder → new.options ≡ old.options →
-    (begun : Tokenizer) → begun ≡ record old.tokens { errors = begun.errors } → KeepsPlace old.tokens begun → (more : List ℕ) → ReadsText begun new.tokens more kind →
+read_on : (kind : Option TokenKind) (old new : PageReader) → TextsAreRead → TokensAreRead → new.builder ≡ old.builder →
+    (more : List ℕ) → ReadsText old.tokens new.tokens more kind →
     (scripting : Bool) (read : List ℕ) → HasBuilt scripting read old → HasBuiltUpTo kind scripting (read ++ more) new
-read_on None old new texts tokens builder options begun only place more reads scripting read has = λ within rest depth all end covered.
-    let whole = covered_on depth scripting read more rest all end covered in
-    let e : IsBehind depth scripting read old = has (subst WithinLimits builder within) (more ++ rest) depth all end whole in
+read_on None old new texts tokens builder more reads scripting read has = λ within rest cdata depth all end covered.
+    let whole = covered_on cdata depth scripting read more rest all end covered in
+    let e : IsBehind cdata depth scripting read old = has (subst WithinLimits builder within) (more ++ rest) cdata depth all end whole in
     record {
       told = e.told;
       now = e.now;
-      tokens = texts false (page_feedback depth scripting) Data read more e.told begun new.tokens (honest depth (start scripting)) tt
-          (quietly (page_feedback depth scripting) read e.told old.tokens begun only place e.tokens) reads;
+      tokens = texts cdata (page_feedback depth scripting) Data read more e.told old.tokens new.tokens (honest depth (start scripting))
+          (foreign_now cdata (page_feedback depth scripting) e.told old.tokens.in_foreign e.flag) e.tokens reads;
+      flag = e.flag ∙ sym reads.in_foreign;
       builds = e.builds;
       stands = subst (λ (s : TreeBuilder). Constructs s (answered e.now)) (sym builder) e.stands;
       switch = ap (λ (s : TreeBuilder). s.switch) builder ∙ e.switch;
-      quiet = ap (λ (o : Options). o.errors) options ∙ e.quiet;
     }
-read_on (Some kind) old new texts tokens builder options begun only place more reads scripting read has = λ within rest depth all end covered.
-    let whole = covered_on depth scripting read more rest all end covered in
-    let e : IsBehind depth scripting read old = has (subst WithinLimits builder within) (more ++ rest) depth all end whole in
+read_on (Some kind) old new texts tokens builder more reads scripting read has = λ within rest cdata depth all end covered.
+    let whole = covered_on cdata depth scripting read more rest all end covered in
+    let e : IsBehind cdata depth scripting read old = has (subst WithinLimits builder within) (more ++ rest) cdata depth all end whole in
     record {
       told = e.told;
       now = e.now;
-      tokens = tokens false (page_feedback depth scripting) Data read more e.told begun new.tokens kind (honest depth (start scripting)) tt
-          (quietly (page_feedback depth scripting) read e.told old.tokens begun only place e.tokens) reads rest covered.plain;
+      tokens = tokens cdata (page_feedback depth scripting) Data read more e.told old.tokens new.tokens kind (honest depth (start scripting))
+          (foreign_now cdata (page_feedback depth scripting) e.told old.tokens.in_foreign e.flag) e.tokens reads
+          rest (of_page cdata depth scripting ((read ++ more) ++ rest) all end covered);
       builds = e.builds;
       stands = subst (λ (s : TreeBuilder). Constructs s (answered e.now)) (sym builder) e.stands;
       switch = ap (λ (s : TreeBuilder). s.switch) builder ∙ e.switch;
-      quiet = ap (λ (o : Options). o.errors) options ∙ e.quiet;
     }
-
-pub ok_quietly : {E : Type 0} → (old begun new : Tokenizer) (text : List ℕ) (before after : Option TokenKind) (r : Result (Bor (List ℕ)) E) → begun ≡ record old { errors = begun.errors } →
-    KeepsPlace old begun → IfOk r (λ rest. ReadsUpTo begun new text rest.now before after) → IfOk r (λ rest. ReadsQuietly old new text rest.now before after)
-ok_quietly old begun new text before after (Ok rest) only place reads = record { begun = begun; only = only; place = place; reads = reads }
-ok_quietly old begun new text before after (Err e) only place reads = tt
 
 -- a call reads up to a token, and tells what it read
 pub some_read : (kind : Option TokenKind) (old mid new : PageReader) (text rest : List ℕ) → TextsAreRead → TokensAreRead → mid ≡ record old { tokens = mid.tokens } →
-    ReadsQuietly old.tokens mid.tokens text rest None kind → TellsRead kind mid new → ReadsPiece text rest old new
-some_read kind old mid new text rest texts tokens only quiet tells = record {
-  more = quiet.reads.read;
-  cut = quiet.reads.cut;
+    ReadsUpTo old.tokens mid.tokens text rest None kind → TellsRead kind mid new → ReadsPiece text rest old new
+some_read kind old mid new text rest texts tokens only up tells = record {
+  more = up.read;
+  cut = up.cut;
   reads = λ scripting read has.
-      tells scripting (read ++ quiet.reads.read) (read_on kind old mid texts tokens (ap (λ (r : PageReader). r.builder) only) (ap (λ (r : PageReader). r.options) only) quiet.begun quiet.only quiet.place
-      quiet.reads.read (subst (λ k. ReadsText quiet.begun mid.tokens quiet.reads.read k) (ended_as quiet.reads.told kind quiet.reads.kind) quiet.reads.reads) scripting read has);
+      tells scripting (read ++ up.read) (read_on kind old mid texts tokens (ap (λ (r : PageReader). r.builder) only) up.read
+      (subst (λ k. ReadsText old.tokens mid.tokens up.read k) (ended_as up.told kind up.kind) up.reads) scripting read has);
 }
 
 -- nothing is read
@@ -376,10 +370,8 @@ pieces_read text mid rest a b c one other = record {
 }
 
 -- the pieces of a call are those of the next one, too
-pub some_on : (text mid rest : List ℕ) (a b c : PageReader) → ReadsSome text mid a b → b.options ≡ a.options → RemembersLimits b.builder c.builder → ReadsSome mid rest b c →
-    ReadsSome text rest a c
-some_on text mid rest a b c one same remembers other quiet within =
-    pieces_read text mid rest a b c (one quiet (remembers within)) (other (ap (λ (o : Options). o.errors) same ∙ quiet) within)
+pub some_on : (text mid rest : List ℕ) (a b c : PageReader) → ReadsSome text mid a b → RemembersLimits b.builder c.builder → ReadsSome mid rest b c → ReadsSome text rest a c
+some_on text mid rest a b c one remembers other within = pieces_read text mid rest a b c (one (remembers within)) (other within)
 
 -- nothing is left
 pub none_left : (text rest : List ℕ) (a b : PageReader) → nat_eq (length rest) 0 ≡ true → ReadsSome text rest a b → ReadsSome text [] a b
@@ -387,11 +379,10 @@ none_left text rest a b e = subst (λ left. ReadsSome text left a b) (nil_from_l
 
 pub piece_fed : (piece cs : List ℕ) (old new : PageReader) (scripting : Bool) (read : List ℕ) → ReadsSome piece [] old new → RemembersLimits old.builder new.builder →
     piece ≡ encode_utf8_all cs → HasBuilt scripting read old → HasBuilt scripting (read ++ cs) new
-piece_fed piece cs old new scripting read reads remembers spelt has within rest depth all end covered =
-    let e : IsBehind depth scripting read old = has (remembers within) (cs ++ rest) depth all end (covered_on depth scripting read cs rest all end covered) in
-    let p : ReadsPiece piece [] old new = reads e.quiet within in
+piece_fed piece cs old new scripting read reads remembers spelt has within rest cdata depth all end covered =
+    let p : ReadsPiece piece [] old new = reads within in
     let same : p.more ≡ cs = encodes_same p.more cs (sym (append-nil (encode_utf8_all p.more)) ∙ sym p.cut ∙ spelt) in
-    subst (λ more. HasBuilt scripting (read ++ more) new) same (p.reads scripting read has) within rest depth all end covered
+    subst (λ more. HasBuilt scripting (read ++ more) new) same (p.reads scripting read has) within rest cdata depth all end covered
 
 pub on_ok : {T E : Type 0} → (r : Result T E) (A : Type 0) → A → OnOk r A
 on_ok (Ok x) A a = a
@@ -399,36 +390,35 @@ on_ok (Err e) A a = tt
 
 -- ---- the end of the page
 
-pub comment_last : (old new : PageReader) → TellsAll (Some kind.Comment) old new → TellsLast (Some kind.Comment) old new
+comment_last : (old new : PageReader) → TellsAll (Some kind.Comment) old new → TellsLast (Some kind.Comment) old new
 comment_last old new tells cs text tokens told = tells cs text tokens told (ap (list_all has_plain_names) told.1)
 
-pub doctype_last : (old new : PageReader) → TellsAll (Some kind.Doctype) old new → TellsLast (Some kind.Doctype) old new
+doctype_last : (old new : PageReader) → TellsAll (Some kind.Doctype) old new → TellsLast (Some kind.Doctype) old new
 doctype_last old new tells cs text tokens told = tells cs text tokens told (ap (list_all has_plain_names) told.1)
 
 pub none_last : (old new : PageReader) → ((cs : List ℕ) → text_of old.tokens ≡ encode_utf8_all cs → TakesTokens (map AChar cs) old.builder new.builder) → TellsLast None old new
 none_last old new tells cs text tokens told = chars_alone old.builder new.builder cs tokens told (tells cs text)
 
--- past a fault nothing is stated
-pub refused_last : (kind : Option TokenKind) (old new : PageReader) (fault : PageFault) → new.builder.fault ≡ first_fault old.builder.fault (Err fault) → TellsLast kind old new
-refused_last kind old new fault e cs text tokens told quiet within = absurd (is_fault old.builder.fault (sym e ∙ within.fault))
-  where
-    is_fault : (o : Option PageFault) → first_fault o (Err fault) ≡ None → ⊥
-    is_fault None h = cc
-    is_fault (Some other) h = cc
+-- a token that is no tag
+pub token_last : (one : TokenKind) (old new : PageReader) → Some one ≢ Some kind.Tag → TellsAll (Some one) old new → TellsLast (Some one) old new
+token_last kind.Comment old new other tells = comment_last old new tells
+token_last kind.Doctype old new other tells = doctype_last old new tells
+token_last kind.Tag old new other tells = absurd (other refl)
 
 pub rest_told : (kind : Option TokenKind) (old mid last new : PageReader) → PagesEnd → mid ≡ record old { tokens = mid.tokens } → EndsPage old.tokens mid.tokens kind →
     RemembersLimits mid.builder last.builder → TellsLast kind mid last → new.builder ≡ record last.builder { switch = None } → ReadsRest old new
-rest_told kind old mid last new law only ends remembers tells builder scripting read has within depth all end covered =
+rest_told kind old mid last new law only ends remembers tells builder scripting read has within cdata depth all end covered =
     let within_last : WithinLimits last.builder = within_before last.builder new.builder builder within in
     let same : mid.builder ≡ old.builder = ap (λ (r : PageReader). r.builder) only in
-    let whole : IsCovered depth scripting (read ++ []) all end = subst (λ text. IsCovered depth scripting text all end) (sym (append-nil read)) covered in
-    let e : IsBehind depth scripting read old = has (subst WithinLimits same (remembers within_last)) [] depth all end whole in
+    let whole : IsCovered cdata depth scripting (read ++ []) all end = subst (λ text. IsCovered cdata depth scripting text all end) (sym (append-nil read)) covered in
+    let e : IsBehind cdata depth scripting read old = has (subst WithinLimits same (remembers within_last)) [] cdata depth all end whole in
     let f : Feedback = page_feedback depth scripting in
-    let last_told = law false f Data read e.told old.tokens mid.tokens kind (honest depth (start scripting)) tt e.tokens covered.plain ends in
+    let last_told = law cdata f Data read e.told old.tokens mid.tokens kind (honest depth (start scripting)) (foreign_now cdata f e.told old.tokens.in_foreign e.flag) e.tokens
+    (of_page cdata depth scripting read all end covered) ends in
     let more : List Token = map AChar last_told.characters ++ last_told.tokens in
     let told : List Token = e.told ++ map AChar last_told.characters ++ last_told.tokens in
     let are : all ≡ told ++ AnEof ∷ [] = one_list f read (told ++ AnEof ∷ []) all last_told.whole covered.reads in
-    let c = front_steps depth scripting told all end covered.builds (record { more = AnEof ∷ []; is = are }) in
+    let c = front_steps depth scripting told all end (turns_covered depth scripting all end covered.builds) (record { more = AnEof ∷ []; is = are }) in
     let takes : TakesTokens more mid.builder last.builder = tells last_told.characters last_told.text last_told.tokens last_told.is in
     record {
       told = told;
@@ -444,21 +434,26 @@ rest_told kind old mid last new law only ends remembers tells builder scripting 
 
 -- and then the end of the file
 pub end_told : (old mid new : PageReader) → ReadsRest old mid → RemembersLimits mid.builder new.builder → TakesTokens (AnEof ∷ []) mid.builder new.builder → ReadsEnd old new
-end_told old mid new rest remembers takes scripting read has within depth all end covered =
-    let b = rest scripting read has (remembers within) depth all end covered in
-    let steps = next_steps depth scripting b.told (AnEof ∷ []) b.now end b.builds (sym (ap (page_steps depth scripting) b.are) ∙ covered.builds) in
+end_told old mid new rest remembers takes scripting read has within cdata depth all end covered =
+    let b = rest scripting read has (remembers within) cdata depth all end covered in
+    let steps = next_steps depth scripting b.told (AnEof ∷ []) b.now end b.builds (sym (ap (page_steps depth scripting) b.are) ∙ turns_covered depth scripting all end covered.builds) in
     takes b.switch within (answered b.now) b.stands depth covered.few end (first_answered depth b.now AnEof [] ∙ steps)
+
+-- and then parse errors are noted, which change nothing within the limits
+pub ended_noted : (old mid new : PageReader) → (WithinLimits new.builder → new.builder ≡ mid.builder) → ReadsEnd old mid → ReadsEnd old new
+ended_noted old mid new same ends scripting read has within cdata depth all end covered =
+    subst (λ (s : TreeBuilder). Constructs s end) (sym (same within)) (ends scripting read has (subst WithinLimits (same within) within) cdata depth all end covered)
 
 -- ---- the beginning
 
-pub page_begun : (scripting : Bool) (r : PageReader) → PagesBegin → r.options.errors ≡ false → BeginsPage r.tokens → text_of r.tokens ≡ [] → r.builder.switch ≡ None →
+pub page_begun : (scripting : Bool) (r : PageReader) → PagesBegin → BeginsPage r.tokens → text_of r.tokens ≡ [] → r.builder.switch ≡ None →
     Constructs r.builder (start scripting) → HasBuilt scripting [] r
-page_begun scripting r law quiet begins empty switch stands within rest depth all end covered = record {
+page_begun scripting r law begins empty switch stands within rest cdata depth all end covered = record {
   told = [];
   now = start scripting;
-  tokens = law false (page_feedback depth scripting) Data r.tokens begins.after_return empty begins.holds;
+  tokens = law cdata (page_feedback depth scripting) Data r.tokens begins.after_return empty begins.holds;
+  flag = sym begins.in_foreign;
   builds = refl;
   stands = stands;
   switch = switch;
-  quiet = quiet;
 }

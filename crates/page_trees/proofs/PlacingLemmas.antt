@@ -1,6 +1,5 @@
 -- The place of a foster parent, as the elements are looked at from the current node outwards.
 use Rattle.std.proofs.Common.{ℕ, ◌≡◌, Bool, false, List, [], ◌∷◌, ◌++◌, Some, sym, ap, ◌∙◌, reverse, if◌then◌else◌}
-use Rattle.std.specs.Prelude.{All}
 use Rattle.std.proofs.lemmas.List.{reverse-append}
 use Rattle.std.proofs.lemmas.List.Elements.{All-pop}
 use Rattle.dom_links.specs.Forest.{Forest}

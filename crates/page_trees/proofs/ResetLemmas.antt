@@ -1,5 +1,5 @@
 -- "Reset the insertion mode appropriately" (13.2.4.1): the code asks the last element of the stack whose name determines a mode.
-use Rattle.std.proofs.Common.{◌≡◌, ◌+◌, ◌-◌, ◌<◌, ◌≤◌, ◌==◌, ◌&&◌, ◌||◌, ℕ, zero, suc, arith, Bool, true, false, not, List, [], ◌∷◌, ◌++◌, length, map, reverse, refl, sym, ap, subst, ◌∙◌, if◌then◌else◌, codes, true≢false}
+use Rattle.std.proofs.Common.{◌≡◌, ◌+◌, ◌-◌, ◌<◌, ◌≤◌, ◌==◌, ◌&&◌, ◌||◌, ℕ, zero, suc, arith, Bool, true, false, not, List, [], ◌∷◌, ◌++◌, length, map, reverse, refl, sym, ap, subst, ◌∙◌, if◌then◌else◌, true≢false}
 use Rattle.std.specs.Prelude.{IfSome, None, Option, Some, slice_get}
 use Rattle.std.specs.List.{list_all}
 use Rattle.std.specs.Option.{is_some, option_and_then, option_map, option_or, unwrap_or}
@@ -11,7 +11,7 @@ use Rattle.standard_trees.specs.RuleWords.{Always, HeadPointerIsSet, InBody, InT
 use Rattle.standard_trees.specs.TreeRules.{resets}
 use Rattle.standard_trees.specs.TreeStore.{Kind, key_in}
 use Rattle.page_trees.specs.Constructs.{Constructs, is_entered_plainly}
-use Rattle.page_trees.specs.Modes.{mode_of, or_in_body, reset_for, reset_named}
+use Rattle.page_trees.specs.Modes.{mode_of, reset_for, reset_named}
 use Rattle.page_trees.specs.Names.{html_rows, rare_rows, text_of}
 use Rattle.page_trees.specs.Reopening.{index_at}
 use Rattle.page_trees.specs.Resetting.{last_mode}

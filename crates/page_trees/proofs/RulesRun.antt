@@ -5,7 +5,7 @@ use Rattle.std.specs.Prelude.{None, Option, Some}
 use Rattle.standard_trees.specs.Building.{Building, gone, perform, performed, run, taken}
 use Rattle.standard_trees.specs.RuleWords.{Act, Action, Dispatcher, Mode as StandardMode, Reprocess, Use, Way, does, goes}
 use Rattle.standard_trees.specs.TreeRules.{rules}
-use Rattle.page_trees.specs.Turns.{is_barred, run_while}
+use Rattle.standard_order.specs.Turns.{is_barred, run_while}
 use Rattle.page_trees.proofs.TurnsPassed.{no_turn, while_next}
 use Rattle.page_trees.specs.Constructs.{ComesTo, Constructs, HaveOneToken, Outcome, Runs, TakesTurn, all_performed}
 use Rattle.page_trees.specs.declared.builder.Next.{Next}
@@ -21,7 +21,7 @@ plain_end : (actions : List Action) (b : Building) (d : ℕ) → performed (run 
 plain_end [] b d = refl
 plain_end (action ∷ actions) b d = plain_end actions (perform action b) d
 
-plain_again : (actions : List Action) (b : Building) (d : ℕ) (c : Building) → run d Dispatcher (all_performed actions b) ≡ Some c →
+pub plain_again : (actions : List Action) (b : Building) (d : ℕ) (c : Building) → run d Dispatcher (all_performed actions b) ≡ Some c →
     performed (run d) (plainly actions Next.Again) b ≡ Some c
 plain_again [] b d c h = ap (option_and_then (λ x. Some x)) h
 plain_again (action ∷ actions) b d c h = plain_again actions (perform action b) d c h

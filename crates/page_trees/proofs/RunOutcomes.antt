@@ -1,17 +1,17 @@
 -- What comes of a run of characters, by what the code does with it.
 use Rattle.std.proofs.Common.{◌≡◌, ℕ, Bool, true, false, ◌&&◌, ◌||◌, not, List, [], ◌∷◌, refl, sym, ap, subst, ◌∙◌, true≢false, inl, inr, if◌then◌else◌}
-use Rattle.std.proofs.lemmas.Bool.{cases_Bool}
+use Rattle.std.proofs.lemmas.Bool.{cases_Bool, eqb-true}
 use Rattle.std.specs.List.{list_all}
 use Rattle.std.specs.Prelude.{IfSome}
 use Rattle.standard_tokens.specs.Tokens.{AChar}
-use Rattle.standard_trees.specs.Building.{Building, is_empty, is_space, perform, taken, with_tree}
+use Rattle.standard_trees.specs.Building.{Building, is_empty, is_space, perform, with_tree}
 use Rattle.standard_trees.specs.Formatting.{reconstructed}
 use Rattle.standard_trees.specs.GrowingTree.{GrowingTree, with_char, with_chars}
 use Rattle.standard_trees.specs.RuleWords.{Action, Dispatcher, Mode as StandardMode}
 use Rattle.standard_trees.specs.TreeRules.{rules}
 use Rattle.standard_trees.specs.TreeStore.{NodeAttr}
-use Rattle.page_trees.specs.CharacterSteps.{Completes, Inserts, InsertsInBody, InsertsLetters, ProcessesForeignRun, RunOutcome, covers_characters, covers_closed, covers_open, fits_mode}
-use Rattle.page_trees.specs.CharacterSteps.{goes_to_mode, has_begun, has_no_null, inserted_in_body, is_dropping, is_null, is_run, ok_behind, ok_behind_all, way_of, way_of_letters, way_of_nulls, way_of_spaces}
+use Rattle.page_trees.specs.CharacterSteps.{Completes, RunOutcome, covers_between, covers_characters, covers_closed, covers_in_mode, covers_open, fits_mode}
+use Rattle.page_trees.specs.CharacterSteps.{goes_to_mode, has_begun, has_no_null, inserted_in_body, is_dropping, is_null, is_run, is_white, ok_behind, ok_behind_all, way_of, way_of_letters, way_of_nulls, way_of_spaces}
 use Rattle.page_trees.specs.Constructs.{Constructs, HaveOneToken, LeavesBy, WithinLimits, all_performed, leaving}
 use Rattle.page_trees.specs.Modes.{drops_letters, joins_spaces, mode_of}
 use Rattle.page_trees.specs.declared.builder.Mode.{Mode}
@@ -21,7 +21,7 @@ use Rattle.page_trees.specs.declared.chars.Run.{Run}
 use Rattle.page_trees.specs.declared.chars.RunWay.{RunWay}
 use Rattle.page_trees.proofs.CharacterRules.{Alike, by_its_mode, char_in_body, char_in_foreign, dispatched_char, letter_alike, letters_ignored, null_alike, null_ignored, null_in_foreign, space_in_body, space_no_null}
 use Rattle.page_trees.proofs.CharacterRules.{spaces_ignored, spaces_put, taken_char, text_put}
-use Rattle.page_trees.proofs.CharactersBehind.{Treats, all_chars, all_left, all_of, all_ok, behind, completed, ComesOnlyTo}
+use Rattle.page_trees.proofs.CharactersBehind.{Treats, all_chars, all_left, all_ok, behind, completed, ComesOnlyTo}
 use Rattle.page_trees.proofs.NamesAgree.{both}
 use Rattle.page_trees.proofs.RulesRun.{outcome, plainly}
 use Rattle.page_trees.proofs.RulesTaken.{chosen}
@@ -31,28 +31,34 @@ use Rattle.page_trees.proofs.TextTags.{tag_in_mode}
 -- ---- the states of which it is stated
 
 pub covered_begun : (b : Building) → covers_characters b ≡ true → has_begun b ≡ true
-covered_begun b e = (both (has_begun b) (not (goes_to_mode b.tree) || (covers_closed b.mode || (covers_open b.mode && not (is_empty b.tree.stack)))) e).0
+covered_begun b e = (both (has_begun b) (not (goes_to_mode b.tree) || covers_in_mode b) e).0
 
-parts : (x g closed wide none : Bool) → (x && (not g || (closed || (wide && not none)))) ≡ true → g ≡ true → closed ≡ false → (wide ≡ true) × (none ≡ false)
-parts false g closed wide none e f h = absurd (true≢false (sym e))
-parts true false closed wide none e f h = absurd (true≢false (sym f))
-parts true true true wide none e f h = absurd (true≢false h)
-parts true true false false none e f h = absurd (true≢false (sym e))
-parts true true false true true e f h = absurd (true≢false (sym e))
-parts true true false true false e f h = (refl, refl)
+-- the test of the state in a mode where none is covered while no element is open
+here : (x g closed wide none between : Bool) → (x && (not g || (closed || ((wide && not none) || between)))) ≡ true → g ≡ true → closed ≡ false → ((wide && not none) || between) ≡ true
+here false g closed wide none between e f h = absurd (true≢false (sym e))
+here true false closed wide none between e f h = absurd (true≢false (sym f))
+here true true true wide none between e f h = absurd (true≢false h)
+here true true false wide none between e f h = e
 
-covered_open : (m : Mode) (b : Building) → covers_characters b ≡ true → goes_to_mode b.tree ≡ true → b.mode ≡ mode_of m → covers_closed (mode_of m) ≡ false → is_empty b.tree.stack ≡ false
-covered_open m b e goes mode closed =
-    (parts (has_begun b) (goes_to_mode b.tree) (covers_closed b.mode) (covers_open b.mode) (is_empty b.tree.stack) e goes (ap covers_closed mode ∙ closed)).1
+pub covered_here : (m : Mode) (b : Building) → covers_characters b ≡ true → goes_to_mode b.tree ≡ true → b.mode ≡ mode_of m → covers_closed (mode_of m) ≡ false →
+    ((covers_open (mode_of m) && not (is_empty b.tree.stack)) || covers_between (mode_of m) b) ≡ true
+covered_here m b e goes mode closed =
+    sym (ap (λ (n : StandardMode). (covers_open n && not (is_empty b.tree.stack)) || covers_between n b) mode)
+    ∙ here (has_begun b) (goes_to_mode b.tree) (covers_closed b.mode) (covers_open b.mode) (is_empty b.tree.stack) (covers_between b.mode b) e goes (ap covers_closed mode ∙ closed)
 
-pub uncovered : (m : Mode) (b : Building) → covers_characters b ≡ true → goes_to_mode b.tree ≡ true → b.mode ≡ mode_of m → covers_closed (mode_of m) ≡ false → covers_open (mode_of m) ≡ false → ⊥
-uncovered m b e goes mode closed wide =
-    true≢false (sym (parts (has_begun b) (goes_to_mode b.tree) (covers_closed b.mode) (covers_open b.mode) (is_empty b.tree.stack) e goes (ap covers_closed mode ∙ closed)).0
-    ∙ ap covers_open mode ∙ wide)
+only_open : (wide none between : Bool) → ((wide && not none) || between) ≡ true → between ≡ false → none ≡ false
+only_open true true between e f = absurd (true≢false (sym e ∙ f))
+only_open true false between e f = refl
+only_open false none between e f = absurd (true≢false (sym e ∙ f))
+
+covered_open : (m : Mode) (b : Building) → covers_characters b ≡ true → goes_to_mode b.tree ≡ true → b.mode ≡ mode_of m → covers_closed (mode_of m) ≡ false →
+    covers_between (mode_of m) b ≡ false → is_empty b.tree.stack ≡ false
+covered_open m b e goes mode closed between =
+    only_open (covers_open (mode_of m)) (is_empty b.tree.stack) (covers_between (mode_of m) b) (covered_here m b e goes mode closed) between
 
 -- ---- the characters of a run
 
-spaces_ok : (cs : List ℕ) (ok : Bool) → list_all is_space cs ≡ true → ok_behind_all cs ok ≡ ok
+pub spaces_ok : (cs : List ℕ) (ok : Bool) → list_all is_space cs ≡ true → ok_behind_all cs ok ≡ ok
 spaces_ok [] ok all = refl
 spaces_ok (c ∷ cs) ok all =
     let two = both (is_space c) (list_all is_space cs) all in
@@ -66,14 +72,14 @@ spoiled_stays : (cs : List ℕ) → ok_behind_all cs false ≡ false
 spoiled_stays [] = refl
 spoiled_stays (c ∷ cs) = ap (ok_behind_all cs) (same_false (is_space c)) ∙ spoiled_stays cs
 
-letters_ok : (cs : List ℕ) (ok : Bool) → list_all is_space cs ≡ false → ok_behind_all cs ok ≡ false
+pub letters_ok : (cs : List ℕ) (ok : Bool) → list_all is_space cs ≡ false → ok_behind_all cs ok ≡ false
 letters_ok [] ok some = absurd (true≢false some)
 letters_ok (c ∷ cs) ok some = elim (cases_Bool (is_space c)) [
   | inl t ↦ ap (λ (s : Bool). ok_behind_all cs (if s then ok else false)) t ∙ letters_ok cs ok (sym (ap (λ (s : Bool). s && list_all is_space cs) t) ∙ some)
   | inr f ↦ ap (λ (s : Bool). ok_behind_all cs (if s then ok else false)) f ∙ spoiled_stays cs
 ]
 
-spaces_no_null : (cs : List ℕ) → list_all is_space cs ≡ true → has_no_null cs ≡ true
+pub spaces_no_null : (cs : List ℕ) → list_all is_space cs ≡ true → has_no_null cs ≡ true
 spaces_no_null [] all = refl
 spaces_no_null (c ∷ cs) all =
     let two = both (is_space c) (list_all is_space cs) all in
@@ -83,10 +89,10 @@ pub negated : (x : Bool) → not x ≡ true → x ≡ false
 negated true e = absurd (true≢false (sym e))
 negated false e = refl
 
-no_nulls : (cs : List ℕ) → is_run Run.Letters cs ≡ true → has_no_null cs ≡ true
+pub no_nulls : (cs : List ℕ) → is_run Run.Letters cs ≡ true → has_no_null cs ≡ true
 no_nulls cs e = (both (has_no_null cs) (not (list_all is_space cs)) e).0
 
-some_letter : (cs : List ℕ) → is_run Run.Letters cs ≡ true → list_all is_space cs ≡ false
+pub some_letter : (cs : List ℕ) → is_run Run.Letters cs ≡ true → list_all is_space cs ≡ false
 some_letter cs e = negated (list_all is_space cs) (both (has_no_null cs) (not (list_all is_space cs)) e).1
 
 first_no_null : (c : ℕ) (cs : List ℕ) → is_run Run.Letters (c ∷ cs) ≡ true → is_null c ≡ false
@@ -153,14 +159,14 @@ in_foreign b = record {
 -- ---- runs
 
 -- the state once all are treated, as the code has it
-stood : (new : TreeBuilder) (b : Building) (t u : GrowingTree) (ok flag : Bool) → t ≡ u → ok ≡ flag → Constructs new (record b { tree = u; frameset_ok = flag }) →
+pub stood : (new : TreeBuilder) (b : Building) (t u : GrowingTree) (ok flag : Bool) → t ≡ u → ok ≡ flag → Constructs new (record b { tree = u; frameset_ok = flag }) →
     Constructs new (record b { tree = t; frameset_ok = ok })
 stood new b t u ok flag e f stands =
     subst (λ (v : GrowingTree). Constructs new (record b { tree = v; frameset_ok = ok })) (sym e)
     (subst (λ (g : Bool). Constructs new (record b { tree = u; frameset_ok = g })) (sym f) stands)
 
 -- the first character of a run that fits a mode which does not join white space
-begins_with_letter : (m : Mode) (c : ℕ) (cs : List ℕ) → fits_mode m Run.Letters (c ∷ cs) ≡ true → joins_spaces m ≡ false → is_space c ≡ false
+pub begins_with_letter : (m : Mode) (c : ℕ) (cs : List ℕ) → fits_mode m Run.Letters (c ∷ cs) ≡ true → joins_spaces m ≡ false → is_space c ≡ false
 begins_with_letter m c cs fits joins =
     negated (is_space c) (sym (ap (λ (x : Bool). x || not (is_space c)) joins)
     ∙ (both (joins_spaces m || not (is_space c)) (not (drops_letters m) || list_all (λ c. not (is_space c)) cs) fits).0)
@@ -245,22 +251,26 @@ run_put Run.Spaces s new c cs way is b token goes covered stands put =
 run_put Run.Letters s new c cs way is b token goes covered stands put = put_in_text s new c cs (letters_text s.mode way) b token goes covered stands put
 run_put Run.Nulls s new c cs way is b token goes covered stands put = put_in_text s new c cs (nulls_text s.mode way) b token goes covered stands put
 
-spaces_closed : (m : Mode) → way_of_spaces m ≡ RunWay.Body → covers_closed (mode_of m) ≡ false
-spaces_closed Mode.InBody e = refl
-spaces_closed Mode.InCaption e = refl
-spaces_closed Mode.InCell e = refl
-spaces_closed Mode.InTemplate e = refl
-spaces_closed Mode.AfterBody e = refl
-spaces_closed Mode.AfterAfterBody e = refl
-spaces_closed Mode.AfterAfterFrameset e = refl
-spaces_closed _ e = absurd (cc)
+-- the modes in which characters are covered while an element is open
+abbrev IsOpenMode : Mode → Type 0
+IsOpenMode m = (covers_closed (mode_of m) ≡ false) × ((b : Building) → covers_between (mode_of m) b ≡ false)
 
-letters_closed : (m : Mode) → way_of_letters m ≡ RunWay.Body → covers_closed (mode_of m) ≡ false
-letters_closed Mode.InBody e = refl
-letters_closed Mode.InCaption e = refl
-letters_closed Mode.InCell e = refl
-letters_closed Mode.InTemplate e = refl
-letters_closed _ e = absurd (cc)
+spaces_open : (m : Mode) → way_of_spaces m ≡ RunWay.Body → IsOpenMode m
+spaces_open Mode.InBody e = (refl, λ b. refl)
+spaces_open Mode.InCaption e = (refl, λ b. refl)
+spaces_open Mode.InCell e = (refl, λ b. refl)
+spaces_open Mode.InTemplate e = (refl, λ b. refl)
+spaces_open Mode.AfterBody e = (refl, λ b. refl)
+spaces_open Mode.AfterAfterBody e = (refl, λ b. refl)
+spaces_open Mode.AfterAfterFrameset e = (refl, λ b. refl)
+spaces_open _ e = absurd (cc)
+
+letters_open : (m : Mode) → way_of_letters m ≡ RunWay.Body → IsOpenMode m
+letters_open Mode.InBody e = (refl, λ b. refl)
+letters_open Mode.InCaption e = (refl, λ b. refl)
+letters_open Mode.InCell e = (refl, λ b. refl)
+letters_open Mode.InTemplate e = (refl, λ b. refl)
+letters_open _ e = absurd (cc)
 
 no_nulls_in_body : (m : Mode) → way_of_nulls m ≡ RunWay.Body → ⊥
 no_nulls_in_body Mode.InBody e = cc
@@ -270,14 +280,16 @@ pub run_in_body : (kind : Run) (s new : TreeBuilder) (c : ℕ) (cs : List ℕ) �
     goes_to_mode b.tree ≡ true → covers_characters b ≡ true → Constructs s b → Constructs new (inserted_in_body kind (c ∷ cs) b) → Completes cs b new
 run_in_body Run.Spaces s new c cs way is b token goes covered stands put =
     let two = both (is_space c) (list_all is_space cs) is in
-    let some = covered_open s.mode b covered goes stands.mode (spaces_closed s.mode way) in
+    let open_mode = spaces_open s.mode way in
+    let some = covered_open s.mode b covered goes stands.mode open_mode.0 (open_mode.1 b) in
     completed new b c cs (with_char c (reconstructed b.tree)) (ok_behind c b.frameset_ok) is_space IsSettled with_char ok_behind (covered_begun b covered) token
     (by_its_mode (mode_of s.mode) b b.tree b.frameset_ok c b.attrs _ stands.mode goes (space_in_body s.mode c two.0 way b b.tree b.frameset_ok b.attrs))
     (spaces_in_body s.mode b stands.mode way) two.1 (char_settled c (reconstructed b.tree) (settles b.tree some goes))
     (stood new b _ (with_chars (c ∷ cs) (reconstructed b.tree)) _ b.frameset_ok (all_chars cs (with_char c (reconstructed b.tree)))
     (all_ok cs (ok_behind c b.frameset_ok) ∙ spaces_ok (c ∷ cs) b.frameset_ok is) put)
 run_in_body Run.Letters s new c cs way is b token goes covered stands put =
-    let some = covered_open s.mode b covered goes stands.mode (letters_closed s.mode way) in
+    let open_mode = letters_open s.mode way in
+    let some = covered_open s.mode b covered goes stands.mode open_mode.0 (open_mode.1 b) in
     completed new b c cs (with_char c (reconstructed b.tree)) (ok_behind c b.frameset_ok) (λ c. not (is_null c)) IsSettled with_char ok_behind (covered_begun b covered) token
     (by_its_mode (mode_of s.mode) b b.tree b.frameset_ok c b.attrs _ stands.mode goes (char_in_body s.mode c (first_no_null c cs is) way b b.tree b.frameset_ok b.attrs))
     (in_body s.mode b stands.mode way) (rest_no_null c cs is) (char_settled c (reconstructed b.tree) (settles b.tree some goes))
@@ -318,7 +330,7 @@ dropping_is Mode.InColumnGroup = refl
 dropping_is _ = refl
 
 -- a run that begins with a letter fits a mode that does not drop letters
-fits_plainly : (m : Mode) (c : ℕ) (cs : List ℕ) → is_space c ≡ false → drops_letters m ≡ false → fits_mode m Run.Letters (c ∷ cs) ≡ true
+pub fits_plainly : (m : Mode) (c : ℕ) (cs : List ℕ) → is_space c ≡ false → drops_letters m ≡ false → fits_mode m Run.Letters (c ∷ cs) ≡ true
 fits_plainly m c cs letter keeps =
     ap (λ (x : Bool). (joins_spaces m || not x) && (not (drops_letters m) || list_all (λ c. not (is_space c)) cs)) letter
     ∙ ap (λ (x : Bool). (joins_spaces m || true) && (not x || list_all (λ c. not (is_space c)) cs)) keeps
@@ -390,12 +402,9 @@ letters_leave Mode.InCell e = absurd (cc)
 letters_leave Mode.InTemplate e = absurd (cc)
 letters_leave _ e = refl
 
--- the other modes that are left there are not covered
-abbrev AreUncovered : Mode → Type 0
-AreUncovered m = (covers_closed (mode_of m) ≡ false) × (covers_open (mode_of m) ≡ false)
-
-left_otherwise : (m : Mode) → way_of_letters m ≡ RunWay.Leave → left_plainly m ≡ false → AreUncovered m
-left_otherwise Mode.InColumnGroup e h = (refl, refl)
+-- the other mode that is left there
+left_otherwise : (m : Mode) → way_of_letters m ≡ RunWay.Leave → left_plainly m ≡ false → m ≡ Mode.InColumnGroup
+left_otherwise Mode.InColumnGroup e h = refl
 left_otherwise _ e h = absurd (cc)
 
 nulls_leave : (m : Mode) → way_of_nulls m ≡ RunWay.Leave → way_of_letters m ≡ RunWay.Leave
@@ -417,64 +426,26 @@ no_spaces_leave : (m : Mode) → way_of_spaces m ≡ RunWay.Leave → ⊥
 no_spaces_leave Mode.InBody e = cc
 no_spaces_leave _ e = cc
 
-plainly_left : (m : Mode) (b : Building) → way_of_letters m ≡ RunWay.Leave → covers_characters b ≡ true → goes_to_mode b.tree ≡ true → b.mode ≡ mode_of m → left_plainly m ≡ true
-plainly_left m b way covered goes mode = by (left_plainly m) refl
+null_no_space : (c : ℕ) → is_null c ≡ true → is_space c ≡ false
+null_no_space c e = ap is_space (eqb-true c 0 e)
+
+plainly_left : (m : Mode) (b : Building) (c : ℕ) → b.token ≡ AChar c → is_space c ≡ false → way_of_letters m ≡ RunWay.Leave → covers_characters b ≡ true → goes_to_mode b.tree ≡ true →
+    b.mode ≡ mode_of m → left_plainly m ≡ true
+plainly_left m b c token other way covered goes mode = by (left_plainly m) refl
   where
     by : (x : Bool) → left_plainly m ≡ x → x ≡ true
     by true e = refl
-    by false e = (let two = left_otherwise m way e in absurd (uncovered m b covered goes mode two.0 two.1))
+    by false e = absurd (true≢false (sym (covered_here Mode.InColumnGroup b covered goes (mode ∙ ap mode_of (left_otherwise m way e)) refl) ∙ ap is_white token ∙ other))
 
 pub run_left : (kind : Run) (old new : TreeBuilder) (next : Next) (c : ℕ) (cs : List ℕ) → way_of kind old.mode ≡ RunWay.Leave → is_run kind (c ∷ cs) ≡ true →
     fits_mode old.mode kind (c ∷ cs) ≡ true → IfSome (leaving old.mode) (λ actions. LeavesBy actions old new next) → WithinLimits new → (b : Building) → b.token ≡ AChar c →
     goes_to_mode b.tree ≡ true → covers_characters b ≡ true → Constructs old b → RunOutcome kind c cs b new next
 run_left Run.Letters old new next c cs way is fits by within b token goes covered stands =
     let letter = begins_with_letter old.mode c cs fits (letters_leave old.mode way) in
-    letter_leaves Run.Letters old.mode (plainly_left old.mode b way covered goes stands.mode) old new next c cs (letter_alike c (first_no_null c cs is) letter)
+    letter_leaves Run.Letters old.mode (plainly_left old.mode b c token letter way covered goes stands.mode) old new next c cs (letter_alike c (first_no_null c cs is) letter)
     (λ keeps. fits_plainly new.mode c cs letter keeps) by refl within b token goes stands
 run_left Run.Nulls old new next c [] way is fits by within b token goes covered stands =
-    null_leaves Run.Nulls old.mode (plainly_left old.mode b (nulls_leave old.mode way) covered goes stands.mode) old new next c [] (null_alike c is)
+    null_leaves Run.Nulls old.mode (plainly_left old.mode b c token (null_no_space c is) (nulls_leave old.mode way) covered goes stands.mode) old new next c [] (null_alike c is)
     (λ keeps. refl) by refl within b token goes stands
 run_left Run.Nulls old new next c (d ∷ cs) way is fits by within b token goes covered stands = absurd (true≢false (sym is))
 run_left Run.Spaces old new next c cs way is fits by within b token goes covered stands = absurd (no_spaces_leave old.mode way)
-
--- ---- tables
-
-table_spaces : (m : Mode) → way_of_spaces m ≡ RunWay.Table → AreUncovered m
-table_spaces Mode.InTable e = (refl, refl)
-table_spaces Mode.InTableBody e = (refl, refl)
-table_spaces Mode.InRow e = (refl, refl)
-table_spaces _ e = absurd (cc)
-
-table_nulls : (m : Mode) → way_of_nulls m ≡ RunWay.Table → AreUncovered m
-table_nulls Mode.InTable e = (refl, refl)
-table_nulls Mode.InTableBody e = (refl, refl)
-table_nulls Mode.InRow e = (refl, refl)
-table_nulls _ e = absurd (cc)
-
-table_letters : (m : Mode) → way_of_letters m ≡ RunWay.Table → AreUncovered m
-table_letters Mode.InTable e = (refl, refl)
-table_letters Mode.InTableBody e = (refl, refl)
-table_letters Mode.InRow e = (refl, refl)
-table_letters _ e = absurd (cc)
-
-pub no_table : (kind : Run) (m : Mode) (b : Building) → way_of kind m ≡ RunWay.Table → covers_characters b ≡ true → goes_to_mode b.tree ≡ true → b.mode ≡ mode_of m → ⊥
-no_table Run.Spaces m b way covered goes mode = (let two = table_spaces m way in uncovered m b covered goes mode two.0 two.1)
-no_table Run.Nulls m b way covered goes mode = (let two = table_nulls m way in uncovered m b covered goes mode two.0 two.1)
-no_table Run.Letters m b way covered goes mode = (let two = table_letters m way in uncovered m b covered goes mode two.0 two.1)
-
-pending_spaces : (m : Mode) → way_of_spaces m ≡ RunWay.Pending → AreUncovered m
-pending_spaces Mode.InTableText e = (refl, refl)
-pending_spaces _ e = absurd (cc)
-
-pending_nulls : (m : Mode) → way_of_nulls m ≡ RunWay.Pending → AreUncovered m
-pending_nulls Mode.InTableText e = absurd (cc)
-pending_nulls _ e = absurd (cc)
-
-pending_letters : (m : Mode) → way_of_letters m ≡ RunWay.Pending → AreUncovered m
-pending_letters Mode.InTableText e = (refl, refl)
-pending_letters _ e = absurd (cc)
-
-pub no_pending : (kind : Run) (m : Mode) (b : Building) → way_of kind m ≡ RunWay.Pending → covers_characters b ≡ true → goes_to_mode b.tree ≡ true → b.mode ≡ mode_of m → ⊥
-no_pending Run.Spaces m b way covered goes mode = (let two = pending_spaces m way in uncovered m b covered goes mode two.0 two.1)
-no_pending Run.Nulls m b way covered goes mode = (let two = pending_nulls m way in uncovered m b covered goes mode two.0 two.1)
-no_pending Run.Letters m b way covered goes mode = (let two = pending_letters m way in uncovered m b covered goes mode two.0 two.1)

@@ -1,12 +1,12 @@
 -- What the state of tree construction stands for once characters are inserted.
-use Rattle.std.proofs.Common.{◌≡◌, ℕ, Bool, true, false, List, [], ◌∷◌, refl, sym, ap, subst, ◌∙◌}
+use Rattle.std.proofs.Common.{◌≡◌, ℕ, false, List, [], ◌∷◌, refl, sym, ap, subst, ◌∙◌}
 use Rattle.std.specs.Prelude.{None, OnOk, Result}
 use Rattle.standard_trees.specs.Building.{Building, perform, with_tree}
 use Rattle.standard_trees.specs.Formatting.{reconstructed}
 use Rattle.standard_trees.specs.GrowingTree.{GrowingTree, with_char, with_chars}
 use Rattle.standard_trees.specs.RuleWords.{ReconstructFormatting}
-use Rattle.page_trees.specs.CharacterSteps.{Inserts, InsertsInBody, InsertsLetters, inserted_in_body}
-use Rattle.page_trees.specs.Constructs.{Constructs, Performs, RemembersLimits, WithinLimits, first_fault}
+use Rattle.page_trees.specs.CharacterSteps.{Inserts, InsertsInBody}
+use Rattle.page_trees.specs.Constructs.{Constructs, Performs, RemembersLimits, first_fault}
 use Rattle.page_trees.specs.Stands.{DoesAtAnyDepth}
 use Rattle.page_trees.specs.TreeState.{TreeState}
 use Rattle.page_trees.specs.declared.builder.TreeBuilder.{TreeBuilder}

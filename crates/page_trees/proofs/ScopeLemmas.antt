@@ -1,7 +1,7 @@
 -- Where the last element that passes a test stands, and what is in scope.
-use Rattle.std.proofs.Common.{ℕ, zero, suc, ◌≡◌, ◌+◌, ◌<◌, ◌≤◌, max, Bool, true, false, ◌&&◌, ◌||◌, not, List, [], ◌∷◌, ◌++◌, length, take, reverse, refl, sym, ap, ◌∙◌, subst, arith, add-one, if◌then◌else◌}
+use Rattle.std.proofs.Common.{ℕ, zero, suc, ◌≡◌, ◌+◌, ◌<◌, ◌≤◌, max, Bool, true, false, ◌&&◌, ◌||◌, not, List, [], ◌∷◌, ◌++◌, length, take, reverse, refl, sym, ap, ◌∙◌, subst, arith, if◌then◌else◌}
 use Rattle.std.specs.Prelude.{Some, slice_get}
-use Rattle.std.proofs.lemmas.List.{append-nil, append_assoc, length_push, reverse-append, take_all}
+use Rattle.std.proofs.lemmas.List.{append-nil, append_assoc, length_push, reverse-append}
 use Rattle.page_trees.specs.Popping.{up_to_last}
 use Rattle.standard_trees.specs.GrowingTree.{in_scope}
 use Rattle.page_trees.specs.Scopes.{last_place}

@@ -1,12 +1,12 @@
 -- Characters that are inserted leave the open elements as they are, and after the active formatting elements are reconstructed none is left
 -- to be reconstructed.
-use Rattle.std.proofs.Common.{◌≡◌, ℕ, suc, zero, Bool, true, false, ◌&&◌, ◌||◌, List, [], ◌∷◌, ◌++◌, drop, length, reverse, refl, sym, ap, ◌∙◌, Option, Some, None, subst, true≢false, codes, arith, inl, inr}
-use Rattle.std.specs.Prelude.{cond, nat_eq, unwrap_or}
+use Rattle.std.proofs.Common.{◌≡◌, ℕ, suc, Bool, true, false, ◌&&◌, ◌||◌, List, [], ◌∷◌, ◌++◌, drop, length, reverse, refl, sym, ap, ◌∙◌, Option, Some, None, subst, true≢false, codes, arith, inl, inr}
+use Rattle.std.specs.Prelude.{cond, unwrap_or}
 use Rattle.std.proofs.lemmas.Bool.{cases_Bool, eq-eqb}
 use Rattle.standard_trees.specs.Building.{is_empty}
 use Rattle.standard_trees.specs.Formatting.{attrs_of, closed_entries, local_of, reconstructed, reopened}
-use Rattle.standard_trees.specs.GrowingTree.{Entry, Formatting, GrowingTree, Marker, adjusted_current, created, created_at, created_element, current, fresh, has_value, inserted, is_among}
-use Rattle.standard_trees.specs.GrowingTree.{is_single, is_template, kind_of, place, place_is_document, put, text_behind, with_char, with_text}
+use Rattle.standard_trees.specs.GrowingTree.{Entry, Formatting, GrowingTree, Marker, created, created_at, created_element, current, fresh, has_value, inserted, is_among}
+use Rattle.standard_trees.specs.GrowingTree.{is_single, is_template, kind_of, place, place_is_document, text_behind, with_char, with_text}
 use Rattle.standard_trees.specs.NameLists.{html_encodings, html_points, text_points}
 use Rattle.standard_trees.specs.TreeStore.{ContentsNode, ElementNode, Html, Kind, Node, NodeAttr, Place, Space, TextNode, attrs_in, is_html, is_member, key_in, leaf, node_at, node_before}
 use Rattle.standard_trees.specs.TreeStore.{put_at, space_in, text_in}
@@ -81,7 +81,7 @@ char_nodes c t = by_place (place_is_document t (place t)) refl
         told (with_char c t) (h.0, same ∙ h.1)
 
 -- nodes look as before
-char_looks : (c : ℕ) (t : GrowingTree) (n : ℕ) → Looks (kind_of t n) (kind_of (with_char c t) n)
+pub char_looks : (c : ℕ) (t : GrowingTree) (n : ℕ) → Looks (kind_of t n) (kind_of (with_char c t) n)
 char_looks c t n = by_place (place_is_document t (place t)) refl
   where
     spot : Place

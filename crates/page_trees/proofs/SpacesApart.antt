@@ -1,15 +1,15 @@
 -- White space at the beginning of a text, and nulls in it, by its characters and by their bytes.
-use Rattle.std.proofs.Common.{◌≡◌, ◌≤◌, ◌<◌, ◌+◌, ◌/◌, ◌%◌, ℕ, zero, suc, Bool, true, false, cond, nat_lt, ◌&&◌, ◌||◌, not, List, [], ◌∷◌, ◌++◌, length, drop, take, refl, sym, ap, subst, ◌∙◌, true≢false, arith, inl, inr, if◌then◌else◌}
+use Rattle.std.proofs.Common.{◌≡◌, ◌≤◌, ◌<◌, ◌+◌, ◌/◌, ◌%◌, ℕ, zero, suc, Bool, true, false, cond, nat_lt, ◌&&◌, ◌||◌, not, List, [], ◌∷◌, ◌++◌, length, drop, take, refl, sym, ap, ◌∙◌, true≢false, arith, inl, inr, if◌then◌else◌}
 use Rattle.std.specs.List.{list_all, list_any}
 use Rattle.std.specs.Prelude.{encode_utf8_all, get_or, ◌==◌}
 use Rattle.std.specs.Str.{IsCharBoundary, IsUtf8}
 use lib.Utf8.{encode, scalars}
-use Rattle.std.proofs.lemmas.Bool.{cases_Bool, cases_lt, eqb-true, ne_eqb}
+use Rattle.std.proofs.lemmas.Bool.{cases_Bool, cases_lt, ne_eqb}
 use Rattle.std.proofs.lemmas.Str.{IsCharBoundary-at_seam, encode_ascii}
 use Rattle.standard_trees.specs.Building.{is_empty, is_space}
 use Rattle.page_trees.specs.CharacterSteps.{has_no_null, is_null}
 use Rattle.page_trees.specs.CharacterTexts.{front_spaces, past_spaces, unskipped}
-use Rattle.page_trees.proofs.DoctypeTexts.{BeginsHigh, high_begins, not_low}
+use Rattle.page_trees.proofs.DoctypeTexts.{high_begins, not_low}
 use Rattle.page_trees.proofs.NamesAgree.{both}
 
 -- ---- the two parts

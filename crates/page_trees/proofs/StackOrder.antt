@@ -96,7 +96,7 @@ pairs_inserted R xs n y known h before behind i (suc j) d lt within =
 
 -- ---- the stack
 
-open_at : (f : Forest) (os : List Open) (i : ℕ) (d : Open) → AreOpen f os → i < length os → IsElement f (get_or os i d).id
+pub open_at : (f : Forest) (os : List Open) (i : ℕ) (d : Open) → AreOpen f os → i < length os → IsElement f (get_or os i d).id
 open_at f os i d are within = All-get_or (λ (o : Open). IsElement f o.id) os i d within are
 
 pub element_there : (f : Forest) (os : List Open) (n : ℕ) (o : Open) → AreOpen f os → slice_get os n ≡ Some o → IsElement f o.id
@@ -151,7 +151,7 @@ order_copied f g os n copy furthest good grows inside are there order =
 -- ---- the last move of the adoption agency
 
 -- an are element is and holds none of those that stand before it
-none_before : (f : Forest) (os : List Open) (n j : ℕ) (d : Open) → n ≤ j → j < length os → IsInOrder f os → All (λ (o : Open). AtOrBelow f (get_or os j d).id o.id → ⊥) (take n os)
+pub none_before : (f : Forest) (os : List Open) (n j : ℕ) (d : Open) → n ≤ j → j < length os → IsInOrder f os → All (λ (o : Open). AtOrBelow f (get_or os j d).id o.id → ⊥) (take n os)
 none_before f os n j d le within order =
     All-from_get_or (λ (o : Open). AtOrBelow f (get_or os j d).id o.id → ⊥) (take n os) d (λ i lt.
     (let short = length-take n os in

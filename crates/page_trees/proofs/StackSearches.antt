@@ -1,9 +1,9 @@
 -- Searches of the stack of open elements by its index, and what the stack's methods do to the index.
-use Rattle.std.proofs.Common.{ℕ, zero, suc, ◌≡◌, ◌+◌, ◌-◌, ◌<◌, ◌≤◌, ◌⊎◌, inl, inr, max, Bool, true, false, ◌||◌, List, [], ◌∷◌, ◌++◌, length, take, set, refl, sym, ap, ◌∙◌, subst, arith, if◌then◌else◌}
+use Rattle.std.proofs.Common.{ℕ, zero, suc, ◌≡◌, ◌+◌, ◌-◌, ◌<◌, ◌≤◌, ◌⊎◌, inl, inr, max, Bool, true, false, List, [], ◌∷◌, ◌++◌, length, take, set, refl, sym, ap, ◌∙◌, subst, arith, if◌then◌else◌}
 use Rattle.std.specs.Prelude.{Option, Some, None, remove, slice_get}
 use Rattle.std.specs.List.{list_any}
 use Rattle.std.specs.Option.{option_to_list}
-use Rattle.std.proofs.lemmas.List.{append-nil, length-append, length-set, take-append-le, take-set-le, take_all}
+use Rattle.std.proofs.lemmas.List.{append-nil, length-append, length-set, take-append-le, take-set-le}
 use Rattle.page_trees.specs.Popping.{up_to_last}
 use Rattle.page_trees.specs.Scopes.{is_among, is_named, last_place}
 use Rattle.page_trees.specs.SearchIndex.{AreExchanged, IsIndex}

@@ -1,22 +1,20 @@
 -- What the edits of tree construction make of the nodes of a forest, and of those of the definition.
-use Rattle.std.proofs.Common.{◌≡◌, ℕ, suc, zero, ◌<◌, ◌≤◌, ◌+◌, Bool, true, false, List, [], ◌∷◌, ◌++◌, map, refl, sym, ap, ◌∙◌, length, Option, Some, None, arith, inl, inr, subst}
+use Rattle.std.proofs.Common.{◌≡◌, ℕ, suc, zero, ◌<◌, ◌+◌, Bool, true, false, List, [], ◌∷◌, ◌++◌, map, refl, sym, ap, ◌∙◌, length, Option, Some, None, arith, inl, inr, subst}
 use Rattle.std.proofs.Common.{Result, Ok, Err, IfOk}
-use Rattle.std.specs.Prelude.{MatchResult, OnOk, chars, get_or, if◌then◌else◌, option_and_then, slice_get, string_bytes, ◌||◌, nat_eq}
-use Rattle.std.specs.Option.{option_map, option_map_or}
+use Rattle.std.specs.Prelude.{MatchResult, OnOk, chars, get_or, if◌then◌else◌, slice_get, string_bytes, ◌||◌, nat_eq}
+use Rattle.std.specs.Option.{option_map_or}
 use Rattle.std.specs.Str.{IsUtf8}
 use Rattle.std.proofs.lemmas.Str.{encodes-chars}
-use Rattle.dom_nodes.specs.Attrs.{attrs_in as attrs_in_data, element_of}
 use Rattle.dom_nodes.specs.declared.fault.EditFault.{EditFault}
-use Rattle.std.proofs.lemmas.Bool.{cases_Bool, cases_eq, eq-eqb, eqb-true, ne_eqb, or_right, true≢false}
+use Rattle.std.proofs.lemmas.Bool.{cases_Bool, cases_eq, eq-eqb, ne_eqb, or_right, true≢false}
 use Rattle.std.proofs.lemmas.List.{ext_get_or, get_or_past, length-map, length_push}
 use Rattle.dom_nodes.specs.declared.name.Attr.{Attr}
 use Rattle.dom_nodes.specs.declared.name.NameParts.{NameParts}
-use Rattle.dom_nodes.specs.Elements.{Element as Parts}
 use Rattle.dom_nodes.specs.Kinds.{contents_named, is_element, is_top}
 use Rattle.dom_nodes.specs.declared.node_data.NodeData.{NodeData}
 use Rattle.dom_nodes.specs.declared.node_data.NodeData.TheVariants.{Comment, Doctype, Document, Element, Fragment, ProcessingInstruction, Text}
 use Rattle.dom_links.specs.Contents.{changed_at as changed}
-use Rattle.dom_links.specs.Forest.{Forest, StandsOnce, children_of, parent}
+use Rattle.dom_links.specs.Forest.{Forest, children_of, parent}
 use Rattle.dom_links.specs.AddedTexts.{with_node_at, with_text_at as text_at}
 use Rattle.dom_links.specs.Growth.{with_child, with_lone_template, with_node}
 use Rattle.dom_links.specs.ListMoves.{element_at, reparented}
@@ -31,10 +29,9 @@ use Rattle.dom_links.proofs.forest.Templates.{lone_template_kept}
 use Rattle.dom_links.proofs.forest.Neighbours.{without_one-none}
 use Rattle.dom_links.proofs.forest.Places.{children_mapped, get_or-map_all, length-map_from}
 use Rattle.dom_trees.specs.Edits.{Edits, Makes, appending, removing}
-use Rattle.dom_trees.specs.Views.{node_attrs, node_qual_name}
 use Rattle.dom_trees.specs.TreeUnderConstruction.{adding_text, flagged_element, making_element, with_new_element}
 use Rattle.dom_trees.specs.declared.tree.growing.ElementFlags.{ElementFlags}
-use Rattle.standard_trees.specs.TreeStore.{ContentsNode, DocumentNode, DoctypeNode, CommentNode, ElementNode, EndOf, Kind, Node, NodeAttr, Place, Space, TextNode}
+use Rattle.standard_trees.specs.TreeStore.{ContentsNode, DocumentNode, DoctypeNode, CommentNode, ElementNode, EndOf, Kind, Node, Place, TextNode}
 use Rattle.standard_trees.specs.TreeStore.{changed_at, contents_in, leaf, node_at, put_at, removed}
 use Rattle.page_tokens.specs.declared.token.Tag.{Tag}
 use Rattle.page_trees.specs.Elements.{IsCopy, IsRooted, limit_of}

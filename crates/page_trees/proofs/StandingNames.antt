@@ -1,5 +1,5 @@
 -- An open element is one of a list of names exactly where the node that it stands for is.
-use Rattle.std.proofs.Common.{◌≡◌, ◌⊎◌, inl, inr, ℕ, Bool, true, false, ◌&&◌, ◌||◌, not, List, [], ◌∷◌, cond, drop, map, nat_eq, eqb, ◌++◌, reverse, rules, refl, sym, ap, subst, ◌∙◌, codes, if◌then◌else◌, true≢false}
+use Rattle.std.proofs.Common.{◌≡◌, ◌⊎◌, inl, inr, ℕ, Bool, true, false, ◌&&◌, ◌||◌, not, List, [], ◌∷◌, cond, drop, map, nat_eq, ◌++◌, reverse, rules, refl, sym, ap, subst, ◌∙◌, codes, if◌then◌else◌, true≢false}
 use Rattle.std.proofs.lemmas.Slice.Eq.{bytes_eq-Decides}
 use Rattle.std.specs.List.{find, list_all, starts_with}
 use Rattle.std.specs.Option.{option_map_or, unwrap_or}
@@ -71,7 +71,7 @@ covers ElementNamespace.Html key = is_member 32 key || knows key
 covers ElementNamespace.Svg key = not (starts_with nat_eq key (codes "svg ")) || knows (lower (drop 4 key))
 covers ElementNamespace.MathMl key = not (starts_with nat_eq key (codes "math ")) || knows (drop 5 key)
 
-lower_adjusted : (names : List (List ℕ)) (name : List ℕ) → lower name ≡ name → lower (adjusted names name) ≡ name
+pub lower_adjusted : (names : List (List ℕ)) (name : List ℕ) → lower name ≡ name → lower (adjusted names name) ≡ name
 lower_adjusted [] name e = e
 lower_adjusted (one ∷ names) name e = by_test (lower_adjusted names name e) (bytes_eq (lower one) name) refl
   where
@@ -154,7 +154,7 @@ or_false : (b : Bool) → b ≡ (b || false)
 or_false true = refl
 or_false false = refl
 
-same_text : (name other : Name) → bytes_eq (text_of name) (text_of other) ≡ is_name name other
+pub same_text : (name other : Name) → bytes_eq (text_of name) (text_of other) ≡ is_name name other
 same_text name other = same_bool (bytes_eq (text_of name) (text_of other)) (is_name name other)
     (λ e. subst (λ n. is_name name n ≡ true) (sym (again name) ∙ ap name_of ((bytes_eq-Decides (text_of name) (text_of other)).0 e) ∙ again other) (is_name_self name))
     (λ e. subst (λ n. bytes_eq (text_of name) (text_of n) ≡ true) (tag_one the_type (search rules) name other (eqb-true (tag_of the_type name) (tag_of the_type other) e))

@@ -1,25 +1,23 @@
 -- The nodes of a forest stay those of the definition where both are changed alike.
-use Rattle.std.proofs.Common.{◌≡◌, ℕ, suc, zero, ◌<◌, ◌≤◌, ◌+◌, Bool, true, false, List, [], ◌∷◌, ◌++◌, map, refl, sym, ap, ◌∙◌, length, Option, Some, None, arith, inl, inr, subst}
-use Rattle.std.specs.Prelude.{encode_utf8_all, get_or, nat_eq, option_and_then, if◌then◌else◌, slice_get}
+use Rattle.std.proofs.Common.{◌≡◌, ℕ, suc, zero, ◌<◌, ◌+◌, Bool, true, false, List, [], ◌∷◌, ◌++◌, map, refl, sym, ap, ◌∙◌, length, Option, Some, None, arith, inl, subst}
+use Rattle.std.specs.Prelude.{encode_utf8_all, get_or, option_and_then, if◌then◌else◌, slice_get}
 use Rattle.std.specs.Option.{option_map_or}
-use Rattle.std.proofs.lemmas.Bool.{cases_Bool, cond-false, eqb-true, or_cases, true≢false}
-use Rattle.std.proofs.lemmas.List.{length-map, length_push}
+use Rattle.std.proofs.lemmas.Bool.{cond-false, true≢false}
+use Rattle.std.proofs.lemmas.List.{length_push}
 use Rattle.std.proofs.lemmas.Str.{encodes-append}
-use Rattle.dom_nodes.specs.Elements.{Element as Parts}
-use Rattle.dom_nodes.specs.Kinds.{contents_named, is_element, is_text, is_top}
+use Rattle.dom_nodes.specs.Kinds.{contents_named, is_text, is_top}
 use Rattle.dom_nodes.specs.declared.node_data.NodeData.{NodeData}
 use Rattle.dom_nodes.specs.declared.node_data.NodeData.TheVariants.{Comment, Doctype, Document, Element, Fragment, ProcessingInstruction, Text}
-use Rattle.dom_links.specs.AddedTexts.{lengthened, text_before, with_more, with_node_at, with_text_at as text_at}
+use Rattle.dom_links.specs.AddedTexts.{lengthened, with_more, with_node_at, with_text_at as text_at}
 use Rattle.dom_links.specs.Contents.{changed_at as changed, with_content}
-use Rattle.dom_links.specs.Forest.{Forest, StandsOnce, children_of, parent, siblings}
+use Rattle.dom_links.specs.Forest.{Forest, children_of, parent}
 use Rattle.dom_links.specs.Growth.{with_lone_template, with_node}
-use Rattle.dom_links.specs.ListMoves.{element_at}
-use Rattle.dom_links.specs.Lists.{before, is_member, last, without}
+use Rattle.dom_links.specs.Lists.{before, is_member, without}
 use Rattle.dom_links.specs.Moves.{before_gap, detach, moved_to}
 use Rattle.dom_links.specs.SetTexts.{is_text_at}
 use Rattle.dom_links.specs.Sound.{IsForest, IsOpenGap, contents_at, target}
 use Rattle.dom_links.specs.declared.gap.InsertionPoint.{InsertionPoint}
-use Rattle.dom_links.specs.declared.gap.InsertionPoint.TheVariants.{Before as TheBefore, EndOf as TheEndOf}
+use Rattle.dom_links.specs.declared.gap.InsertionPoint.TheVariants.{Before as TheBefore}
 use Rattle.dom_links.proofs.forest.Depth.{step_inside}
 use Rattle.dom_links.proofs.forest.Neighbours.{before-stands, last-stands}
 use Rattle.dom_links.proofs.forest.Places.{siblings_child}
@@ -28,9 +26,9 @@ use Rattle.dom_links.proofs.moves.Cuts.{no_other, parent-detach}
 use Rattle.standard_trees.specs.TreeStore.{Before, CommentNode, ContentsNode, DoctypeNode, DocumentNode, ElementNode, EndOf, Kind, Node, Place, TextNode}
 use Rattle.standard_trees.specs.TreeStore.{changed_at, contents_in, is_member as has_number, last_of, leaf, node_at, node_before, parent_from, parent_of}
 use Rattle.standard_trees.specs.TreeStore.{before_of, placed_before, put_at, removed, text_in, without as drop_one}
-use Rattle.page_trees.specs.SameNodes.{AreHosts, AreKinds, AreNodes, IsChildless, IsKind, IsPointOf, element_for, text_after, with_kind, with_kind_at, with_text_at}
+use Rattle.page_trees.specs.SameNodes.{AreHosts, AreKinds, AreNodes, IsChildless, IsKind, IsPointOf, text_after, with_kind, with_kind_at, with_text_at}
 use Rattle.page_trees.proofs.ListsMoved.{StandsIn, before_is, last_is, put_beside, put_last}
-use Rattle.page_trees.proofs.StoreLemmas.{children_at, kind_at, kind_from, kinds, kinds_changed, kinds_more, kinds_put, kinds_removed, length_nodes, lists}
+use Rattle.page_trees.proofs.StoreLemmas.{children_at, kind_at, kind_from, kinds, kinds_changed, kinds_more, kinds_put, kinds_removed, length_nodes}
 use Rattle.page_trees.proofs.StoreLemmas.{lists_changed, lists_kept, lists_more, lists_removed, old_node, with_children, with_kind_of}
 use Rattle.page_trees.proofs.StandingParents.{parent_is}
 

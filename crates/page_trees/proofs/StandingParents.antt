@@ -1,6 +1,6 @@
 -- The parent of a node, in a forest and in the definition's store.
 use Rattle.std.proofs.Common.{◌≡◌, ℕ, suc, ◌+◌, Bool, true, false, List, [], ◌∷◌, map, nat_eq, refl, sym, ap, ◌∙◌, ◌==◌, ◌||◌, add-one, inl, inr, if◌then◌else◌}
-use Rattle.std.specs.Prelude.{None, Option, Some}
+use Rattle.std.specs.Prelude.{Option, Some}
 use Rattle.std.proofs.lemmas.Bool.{eq-eqb, ne_eqb}
 use Rattle.std.proofs.lemmas.Bool.Decides.{eqb_tells}
 use Rattle.dom_links.specs.Forest.{Forest, owner_from, parent}

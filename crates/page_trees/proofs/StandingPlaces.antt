@@ -1,5 +1,5 @@
 -- The appropriate place for a node is the definition's place.
-use Rattle.std.proofs.Common.{◌≡◌, ℕ, Bool, true, false, ◌&&◌, List, [], ◌∷◌, ◌++◌, map, reverse, refl, sym, ap, ◌∙◌, codes, length, subst, if◌then◌else◌}
+use Rattle.std.proofs.Common.{◌≡◌, ℕ, Bool, true, false, ◌&&◌, List, [], ◌∷◌, map, reverse, refl, sym, ap, ◌∙◌, codes, length, subst, if◌then◌else◌}
 use Rattle.std.specs.Option.{unwrap_or}
 use Rattle.std.specs.Option.{option_map_or}
 use Rattle.std.specs.Prelude.{None, Option, Some, nat_le, option_and_then, slice_get}
@@ -7,12 +7,12 @@ use Rattle.dom_nodes.specs.Kinds.{contents_named, is_fragment}
 use Rattle.dom_nodes.specs.declared.node_data.NodeData.{NodeData}
 use Rattle.dom_nodes.specs.declared.node_data.NodeData.TheVariants.{Fragment}
 use Rattle.dom_links.specs.Forest.{Forest, parent}
-use Rattle.dom_links.specs.Sound.{IsForest, contents_at}
+use Rattle.dom_links.specs.Sound.{IsForest}
 use Rattle.dom_links.specs.declared.gap.InsertionPoint.{InsertionPoint}
 use Rattle.dom_links.specs.declared.gap.InsertionPoint.TheVariants.{Before as TheBefore, EndOf as TheEndOf}
 use Rattle.standard_trees.specs.GrowingTree.{GrowingTree, current, foster_place, in_contents, is_among, is_one as is_one_of, kind_of, place, top}
 use Rattle.standard_trees.specs.NameLists.{fostering_names}
-use Rattle.standard_trees.specs.TreeStore.{Before, EndOf, Node, Place, contents_in, key_in, node_at, parent_of}
+use Rattle.standard_trees.specs.TreeStore.{Before, EndOf, Node, Place, contents_in, key_in, parent_of}
 use Rattle.page_trees.specs.Names.{html_rows, rare_rows}
 use Rattle.page_trees.specs.Placing.{foster_place_of, fosters, inner, is_a_table, is_a_template, place_of, place_outside, place_within, point_of}
 use Rattle.page_trees.specs.SameNodes.{AreNodes, IsPointOf}

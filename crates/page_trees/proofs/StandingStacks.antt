@@ -2,14 +2,14 @@
 use Rattle.std.proofs.Common.{◌≡◌, ℕ, Bool, true, false, ◌&&◌, not, List, [], ◌∷◌, ◌++◌, map, reverse, refl, sym, ap, subst, ◌∙◌, if◌then◌else◌}
 use Rattle.std.specs.Prelude.{IfSome, None, Option, Some}
 use Rattle.std.proofs.lemmas.List.{reverse-append}
-use Rattle.standard_trees.specs.GrowingTree.{GrowingTree, beyond, implied_of, is_foreign, is_html_point, kind_of, popped_up_to, with_stack}
+use Rattle.standard_trees.specs.GrowingTree.{GrowingTree, beyond, implied_of, is_foreign, kind_of, popped_up_to, with_stack}
 use Rattle.standard_trees.specs.GrowingTree.{is_one as is_one_of}
 use Rattle.standard_trees.specs.NameLists.{implied, text_points}
 use Rattle.standard_trees.specs.TreeStore.{Node, is_html, space_in}
-use Rattle.page_trees.specs.Names.{html_rows, rare_rows, text_of}
+use Rattle.page_trees.specs.Names.{html_rows, rare_rows}
 use Rattle.page_trees.specs.Popping.{up_to_last}
-use Rattle.page_trees.specs.Scopes.{has_name, is_excepted, is_implied_but, is_name, is_named}
-use Rattle.page_trees.specs.Sets.{context_names, ends_context, has_foreign_content, has_html_content, is_a_text_point, is_an_html_point, is_implied, is_in_html}
+use Rattle.page_trees.specs.Scopes.{has_name, is_excepted, is_implied_but, is_name}
+use Rattle.page_trees.specs.Sets.{context_names, ends_context, has_foreign_content, has_html_content, is_a_text_point, is_an_html_point, is_in_html}
 use Rattle.page_trees.specs.Sets.{space_of}
 use Rattle.page_trees.specs.Stands.{AllStand, IsStackOf, StandsFor, text_list}
 use Rattle.page_trees.specs.declared.name.Name.{Name}

@@ -1,11 +1,11 @@
 -- The nodes of the definition's store: what changes of them leave as it is.
-use Rattle.std.proofs.Common.{◌≡◌, ℕ, suc, zero, ◌<◌, ◌≤◌, ◌+◌, Bool, true, false, List, [], ◌∷◌, ◌++◌, map, refl, sym, ap, ◌∙◌, length, Option, Some, None, arith, cond, inl, inr}
+use Rattle.std.proofs.Common.{◌≡◌, ℕ, suc, zero, ◌<◌, Bool, true, false, List, [], ◌∷◌, ◌++◌, map, refl, sym, ap, ◌∙◌, length, arith, cond, inl, inr}
 use Rattle.std.specs.Prelude.{get_or, not, nat_eq, ◌||◌}
 use Rattle.std.proofs.lemmas.Bool.{eq-eqb, ne_eqb, cases_Bool, eqb-true, true≢false}
-use Rattle.standard_trees.specs.TreeStore.{Before, ContentsNode, EndOf, Kind, Node, Place, changed_at, leaf, node_at, parent_from, parent_of, placed_before, put_at}
+use Rattle.standard_trees.specs.TreeStore.{Before, ContentsNode, EndOf, Kind, Node, Place, changed_at, leaf, node_at, placed_before, put_at}
 use Rattle.standard_trees.specs.TreeStore.{removed, without as drop_one}
 use Rattle.dom_links.specs.Contents.{changed_at as changed}
-use Rattle.dom_links.specs.Lists.{is_member, without}
+use Rattle.dom_links.specs.Lists.{without}
 
 abbrev pub lists : List Node → List (List ℕ)
 lists nodes = map {A = Node} (λ node. node.children) nodes

@@ -1,9 +1,8 @@
 -- The rules for tags in the modes of tables, by the name of the tag.
-use Rattle.std.proofs.Common.{◌≡◌, ◌&&◌, ◌||◌, Bool, true, false, List, [], ◌∷◌, codes, refl}
+use Rattle.std.proofs.Common.{◌≡◌, ◌&&◌, true, false, List, [], ◌∷◌, codes, refl}
 use Rattle.standard_trees.specs.Building.{Building, is_set, own_name}
-use Rattle.standard_trees.specs.GrowingTree.{has_value}
-use Rattle.standard_trees.specs.RuleWords.{Act, Action, ClearListToMarker, FosterOff, FosterOn, InBody, InCaption, InCell, InColumnGroup, InHead, InRow, InTable, InTableBody, InsertElement}
-use Rattle.standard_trees.specs.RuleWords.{ImpliedEndTags, InsertNamed, ListMarker, Own, Pop, PopUntil, ResetMode, SetFormPointer, SwitchTo, These, Use, does, goes}
+use Rattle.standard_trees.specs.RuleWords.{Action, ClearListToMarker, InBody, InCaption, InCell, InColumnGroup, InHead, InRow, InTable, InTableBody, InsertElement}
+use Rattle.standard_trees.specs.RuleWords.{ImpliedEndTags, InsertNamed, ListMarker, Own, Pop, PopUntil, SetFormPointer, SwitchTo, Use, goes}
 use Rattle.standard_trees.specs.TreeRules.{rules}
 use Rattle.page_trees.specs.Groups.{is_cell_name, is_dropped_end_name, is_part_name, is_section_name}
 use Rattle.page_trees.specs.LateMerges.{is_open}

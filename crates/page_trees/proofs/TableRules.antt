@@ -1,16 +1,15 @@
 -- Steps of the rules for the modes of tables: elements are closed, and a rule is taken where an element is found.
-use Rattle.std.proofs.Common.{◌≡◌, ◌&&◌, ◌||◌, ℕ, Bool, true, false, not, List, [], ◌∷◌, Option, inl, inr, codes, refl, reverse, sym, ap, subst, ◌∙◌, true≢false}
+use Rattle.std.proofs.Common.{◌≡◌, ◌&&◌, ◌||◌, ℕ, Bool, true, false, not, List, [], ◌∷◌, inl, inr, refl, reverse, sym, ap, subst, ◌∙◌, true≢false}
 use Rattle.std.specs.List.{list_all}
-use Rattle.std.specs.Prelude.{if◌then◌else◌}
 use Rattle.std.specs.Str.{bytes_eq}
 use Rattle.std.proofs.lemmas.Slice.Eq.{bytes_eq-Decides}
 use Rattle.standard_tokens.specs.Entries.{Ending, Starting, TagKind}
 use Rattle.standard_tokens.specs.Machine.{Tag as StandardTag, distinct, token_of}
 use Rattle.standard_tokens.specs.Tokens.{AStart, AnEnd}
 use Rattle.standard_trees.specs.Building.{Building, own_name, perform, taken, with_tree}
-use Rattle.standard_trees.specs.GrowingTree.{GrowingTree, beyond, current, ends_scope, has_in_scope, implied_of, in_scope, is_among, is_one, key, past, popped_until, popped_up_to, with_stack}
+use Rattle.standard_trees.specs.GrowingTree.{GrowingTree, beyond, ends_scope, has_in_scope, implied_of, in_scope, is_among, is_one, key, past, popped_until, popped_up_to, with_stack}
 use Rattle.standard_trees.specs.NameLists.{implied}
-use Rattle.standard_trees.specs.RuleWords.{Act, Action, ClearListToMarker, ImpliedEndTags, Mode as StandardMode, Pop, PopUntil, PopUpTo, TableScope, These}
+use Rattle.standard_trees.specs.RuleWords.{Act, Action, ClearListToMarker, ImpliedEndTags, Mode as StandardMode, PopUntil, TableScope, These}
 use Rattle.standard_trees.specs.TreeRules.{rules}
 use Rattle.page_tokens.specs.declared.token.Tag.{Tag}
 use Rattle.page_trees.specs.Constructs.{Constructs, HaveOneToken, IsCurrentTag, Outcome, all_performed}

@@ -4,27 +4,25 @@ use Rattle.std.specs.List.{list_all}
 use Rattle.standard_trees.specs.Building.{Building, is_set, own_name, perform, taken, token_attrs, with_tree}
 use Rattle.standard_trees.specs.GrowingTree.{GrowingTree, current, inserted_at, is_among, is_one, place}
 use Rattle.standard_trees.specs.NameLists.{implied}
-use Rattle.standard_trees.specs.RuleWords.{Act, Action, AdjustForeignAttributes, AdjustMathmlAttributes, AdjustSvgAttributes, AdjustSvgName, ClearListToMarker, ImpliedEndTags, InCell, InRow, InTable, InTableBody, InsertElement, Mode as StandardMode}
-use Rattle.standard_trees.specs.RuleWords.{Own, Pop, PopUntil, Rename, SetFormPointer, SwitchTo, These, Use, goes}
+use Rattle.standard_trees.specs.RuleWords.{Act, Action, AdjustForeignAttributes, AdjustMathmlAttributes, AdjustSvgAttributes, AdjustSvgName, ClearListToMarker, ImpliedEndTags, InBody, InRow, InTable, InsertElement, Mode as StandardMode}
+use Rattle.standard_trees.specs.RuleWords.{Own, Pop, PopUntil, Rename, SetFormPointer, SwitchTo, Use, goes}
 use Rattle.standard_trees.specs.TreeRules.{rules}
 use Rattle.standard_trees.specs.TreeStore.{Html}
 use Rattle.page_tokens.specs.declared.token.Tag.{Tag}
 use Rattle.page_tokens.specs.declared.token.TagKind.{TagKind}
-use Rattle.page_trees.specs.BodyTags.{covers_body, ends_in, starts_in, suits_body}
-use Rattle.page_trees.specs.Groups.{group_named}
-use Rattle.page_trees.specs.Constructs.{Constructs, HaveOneToken, IsCurrentTag, Outcome, all_performed}
+use Rattle.page_trees.specs.BodyTags.{ProcessesInBody, covers_body, suits_body}
+use Rattle.page_trees.specs.Constructs.{Constructs, HaveOneToken, IsCurrentTag, Outcome, WithinLimits, all_performed}
 use Rattle.page_trees.specs.Groups.{is_cell_name, is_dropped_end_name, is_metadata_name, is_section_name}
-use Rattle.page_trees.specs.LateMerges.{is_open}
+use Rattle.page_trees.specs.LateMerges.{HasHtml, is_open}
 use Rattle.page_trees.specs.Modes.{is_start_kind, next_of}
 use Rattle.page_trees.specs.Names.{text_of}
 use Rattle.page_trees.specs.Scopes.{is_name}
 use Rattle.page_trees.specs.Stands.{Builds, with_form}
-use Rattle.page_trees.specs.TableSteps.{closing_cell, closing_row, closing_section, covers_cell, covers_content, covers_other, ends_cell_name, if_found, is_again, is_in_table, is_stateless}
-use Rattle.page_trees.specs.TableSteps.{is_hidden_content_name, names_form, names_table, names_template}
+use Rattle.page_trees.specs.TableSteps.{closing_cell, closing_row, covers_cell, covers_content, ends_cell_name, if_found, is_again, is_in_table}
+use Rattle.page_trees.specs.TableSteps.{is_hidden_content_name, is_hidden_input, names_form, names_table, names_template}
 use Rattle.page_trees.specs.TreeState.{TreeState}
 use Rattle.page_trees.specs.declared.builder.Next.{Next}
 use Rattle.page_trees.specs.declared.builder.TreeBuilder.{TreeBuilder}
-use Rattle.page_trees.specs.declared.modes.groups.Group.{Group}
 use Rattle.page_trees.specs.declared.name.Name.{Name}
 use Rattle.page_trees.proofs.BuilderSteps.{moved}
 use Rattle.page_trees.proofs.NamesAgree.{both}
@@ -77,8 +75,9 @@ pub no_template : (name : Name) → (name ≡ Name.Template → ⊥) → names_t
 no_template Name.Template h = absurd (h refl)
 no_template _ h = refl
 
-pub no_input : (name : Name) → name ≡ Name.Input → covers_other name ≡ true → ⊥
-no_input name e h = true≢false (sym h ∙ ap covers_other e)
+pub no_hidden_input : (name : Name) (b : Building) → (name ≡ Name.Input → ⊥) → is_hidden_input name b ≡ false
+no_hidden_input Name.Input b h = absurd (h refl)
+no_hidden_input _ b h = refl
 
 pub hidden_is_metadata : (name : Name) → is_hidden_content_name name ≡ true → is_metadata_name name ≡ true
 hidden_is_metadata Name.Style h = refl
@@ -87,40 +86,25 @@ hidden_is_metadata Name.Template h = refl
 hidden_is_metadata _ h = absurd (cc)
 
 -- the end tags that are left to the rules for "in body" in a cell
-pub content_left : (name : Name) → is_cell_name name ≡ false → is_dropped_end_name name ≡ false → ends_cell_name name ≡ false → covers_cell false name ≡ true → covers_content false name ≡ true
-content_left Name.Td h i j k = absurd (true≢false h)
-content_left Name.Th h i j k = absurd (true≢false h)
-content_left Name.Body h i j k = absurd (true≢false i)
-content_left Name.Caption h i j k = absurd (true≢false i)
-content_left Name.Col h i j k = absurd (true≢false i)
-content_left Name.Colgroup h i j k = absurd (true≢false i)
-content_left Name.Html h i j k = absurd (true≢false i)
-content_left Name.Table h i j k = absurd (true≢false j)
-content_left Name.Tbody h i j k = absurd (true≢false j)
-content_left Name.Tfoot h i j k = absurd (true≢false j)
-content_left Name.Thead h i j k = absurd (true≢false j)
-content_left Name.Tr h i j k = absurd (true≢false j)
-content_left _ h i j k = k
+pub content_left : (name : Name) (b : Building) → is_cell_name name ≡ false → is_dropped_end_name name ≡ false → ends_cell_name name ≡ false → covers_cell false name b ≡ true → covers_content false name b ≡ true
+content_left Name.Td b h i j k = absurd (true≢false h)
+content_left Name.Th b h i j k = absurd (true≢false h)
+content_left Name.Body b h i j k = absurd (true≢false i)
+content_left Name.Caption b h i j k = absurd (true≢false i)
+content_left Name.Col b h i j k = absurd (true≢false i)
+content_left Name.Colgroup b h i j k = absurd (true≢false i)
+content_left Name.Html b h i j k = absurd (true≢false i)
+content_left Name.Table b h i j k = absurd (true≢false j)
+content_left Name.Tbody b h i j k = absurd (true≢false j)
+content_left Name.Tfoot b h i j k = absurd (true≢false j)
+content_left Name.Thead b h i j k = absurd (true≢false j)
+content_left Name.Tr b h i j k = absurd (true≢false j)
+content_left _ b h i j k = k
 
-pub content_of : (kind : TagKind) (start : Bool) (name : Name) → is_start_kind kind ≡ start → covers_content start name ≡ true → covers_body kind name ≡ true
-content_of TagKind.Start start name e h = (both (is_stateless (group_named name)) (covers_body TagKind.Start name) (ap (λ (s : Bool). covers_content s name) e ∙ h)).1
-content_of TagKind.End start name e h = (both (is_stateless (group_named name)) (covers_body TagKind.End name) (ap (λ (s : Bool). covers_content s name) e ∙ h)).1
-
-starts_anywhere : (group : Group) (b : Building) → is_stateless group ≡ true → starts_in group b ≡ true
-starts_anywhere Group.A b h = absurd (true≢false (sym h))
-starts_anywhere Group.Formatting b h = absurd (true≢false (sym h))
-starts_anywhere _ b h = refl
-
-ends_anywhere : (group : Group) (b : Building) → is_stateless group ≡ true → ends_in group b ≡ true
-ends_anywhere Group.A b h = absurd (true≢false (sym h))
-ends_anywhere Group.Formatting b h = absurd (true≢false (sym h))
-ends_anywhere Group.Nobr b h = absurd (true≢false (sym h))
-ends_anywhere _ b h = refl
-
--- these tags are covered in every state
-pub content_suits : (kind : TagKind) (start : Bool) (name : Name) (b : Building) → is_start_kind kind ≡ start → covers_content start name ≡ true → suits_body kind name b ≡ true
-content_suits TagKind.Start start name b e h = starts_anywhere (group_named name) b (both (is_stateless (group_named name)) (covers_body TagKind.Start name) (ap (λ (s : Bool). covers_content s name) e ∙ h)).0
-content_suits TagKind.End start name b e h = ends_anywhere (group_named name) b (both (is_stateless (group_named name)) (covers_body TagKind.End name) (ap (λ (s : Bool). covers_content s name) e ∙ h)).0
+-- these tags are covered by the rules for "in body", and the state suits them
+pub content_of : (kind : TagKind) (start : Bool) (name : Name) (b : Building) → is_start_kind kind ≡ start → covers_content start name b ≡ true → (covers_body kind name ≡ true) × (suits_body kind name b ≡ true)
+content_of TagKind.Start start name b e h = both (covers_body TagKind.Start name) (suits_body TagKind.Start name b) (ap (λ (s : Bool). covers_content s name b) e ∙ h)
+content_of TagKind.End start name b e h = both (covers_body TagKind.End name) (suits_body TagKind.End name b) (ap (λ (s : Bool). covers_content s name b) e ∙ h)
 
 -- ---- actions that leave the current token as it is
 
@@ -156,6 +140,7 @@ current_kept action h name tag b c =
       standard = c.standard;
       is = c.is;
       written = c.written;
+      plain = c.plain;
       named = c.named;
       token = one.token ∙ c.token;
       attrs = one.attrs ∙ c.attrs ∙ ap token_attrs (sym one.token);
@@ -182,6 +167,14 @@ tag_ignored mode known name tag start b new c e row stands = tag_does mode known
 pub tag_uses : (mode other : StandardMode) → are_of_names (rules mode) ≡ true → (name : Name) (tag : Tag) (start : Bool) (b : Building) (new : TreeBuilder) (next : Next) →
     IsCurrentTag name tag b → is_start_kind tag.kind ≡ start → chosen (plain_tag start name) b (rules mode) ≡ goes (Use other) ∷ [] → Outcome other b new next → Outcome mode b new next
 tag_uses mode other known name tag start b new next c e row o = outcome_by mode other b new next (taken_tag name tag b c start e (rules mode) known ∙ row) o
+
+-- a tag that a mode leaves to the rules for "in body"
+pub content_done : (mode : StandardMode) → are_of_names (rules mode) ≡ true → (name : Name) (tag : Tag) (start : Bool) (b : Building) (old new : TreeBuilder) (next : Next) →
+    IsCurrentTag name tag b → is_start_kind tag.kind ≡ start → chosen (plain_tag start name) b (rules mode) ≡ goes (Use InBody) ∷ [] → covers_content start name b ≡ true →
+    WithinLimits new → HasHtml b → Constructs old b → ProcessesInBody name tag old new next → Outcome mode b new next
+content_done mode known name tag start b old new next c e row covered within html stands body =
+    let two = content_of tag.kind start name b e covered in
+    tag_uses mode InBody known name tag start b new next c e row (body two.0 within b c html stands two.1)
 
 -- the actions of a rule, where an element is found; the token is done with, or reprocessed
 pub tag_closes : (mode : StandardMode) → are_of_names (rules mode) ≡ true → (name : Name) (tag : Tag) (start : Bool) (b : Building) (new : TreeBuilder) (actions : List Action) (found test : Bool) →

@@ -1,22 +1,21 @@
 -- The element that a tag makes is the one that the definition makes of the token.
-use Rattle.std.proofs.Common.{◌≡◌, ℕ, ◌&&◌, ◌||◌, Bool, true, false, List, [], ◌∷◌, map, reverse, refl, sym, ap, ◌∙◌, length, Option, Some, None, inl, inr, subst, codes, true≢false}
+use Rattle.std.proofs.Common.{◌≡◌, ℕ, ◌&&◌, ◌||◌, Bool, true, false, List, [], ◌∷◌, map, reverse, refl, sym, ap, ◌∙◌, length, None, inl, inr, subst, codes, true≢false}
 use Rattle.std.specs.Prelude.{encode_utf8_all, string_bytes}
 use Rattle.std.specs.Str.{bytes_eq}
 use Rattle.std.proofs.lemmas.Slice.Eq.{bytes_eq-Decides}
 use Rattle.dom_nodes.specs.declared.name.Attr.{Attr as TheAttr}
-use Rattle.dom_nodes.specs.declared.name.NameParts.{NameParts}
 use Rattle.dom_nodes.specs.declared.name.Namespace.{Namespace}
 use Rattle.page_tokens.specs.Standard.{AreAttrs, IsTag}
 use Rattle.page_tokens.specs.declared.attribute.TagAttr.{TagAttr}
 use Rattle.page_tokens.specs.declared.token.Tag.{Tag}
 use Rattle.standard_tokens.specs.Entries.{Ending, Starting, TagKind}
 use Rattle.standard_tokens.specs.Machine.{Tag as StandardTag, distinct, token_of}
-use Rattle.standard_tokens.specs.Tokens.{AStart, AnEnd, Attr, Token}
+use Rattle.standard_tokens.specs.Tokens.{AStart, AnEnd, Attr}
 use Rattle.standard_trees.specs.Building.{token_attrs}
 use Rattle.standard_trees.specs.GrowingTree.{GrowingTree, current, has_value, inserted_at, is_among, kind_of}
 use Rattle.standard_trees.specs.GrowingTree.{is_one as is_one_of}
 use Rattle.standard_trees.specs.NameLists.{html_encodings}
-use Rattle.standard_trees.specs.TreeStore.{Html, Kind, NoSpace, NodeAttr, Place, Space, is_member, key_in, key_of}
+use Rattle.standard_trees.specs.TreeStore.{Kind, NoSpace, NodeAttr, Place, Space, is_member, key_in, key_of}
 use Rattle.page_trees.specs.Foreign.{attr_in, html_local}
 use Rattle.page_trees.specs.Names.{name_of, text_of}
 use Rattle.page_trees.specs.SameNodes.{attr_for}
@@ -73,6 +72,7 @@ html_tag name tag written attrs is known spelt are = record {
   tag_name = is;
   known = known;
   local = local_is name (string_bytes tag.name) (λ image. spelt ∙ image_text written (sym known ∙ image)) ∙ spelt;
+  spelt = λ other. spelt;
   same_attrs = attrs_are tag.attrs.items attrs are;
   point = sym (ap (λ b. (b || false) && has_value (codes "encoding") html_encodings (map plain attrs)) (no_annotation written is.unspaced));
 }

@@ -1,14 +1,14 @@
 -- Characters that join a text at a place, one after the other, are one text that joins it.
-use Rattle.std.proofs.Common.{◌≡◌, ℕ, suc, zero, ◌<◌, ◌≤◌, ◌+◌, Bool, true, false, List, [], ◌∷◌, ◌++◌, map, refl, sym, ap, ◌∙◌, length, Option, Some, None, arith, inl, inr, append_assoc}
-use Rattle.std.specs.Prelude.{cond, get_or, nat_eq, not, ◌||◌}
-use Rattle.std.proofs.lemmas.Bool.{cases_Bool, eq-eqb, eqb-true, ne_eqb}
+use Rattle.std.proofs.Common.{◌≡◌, ℕ, suc, zero, ◌<◌, true, false, List, [], ◌∷◌, ◌++◌, map, refl, sym, ap, ◌∙◌, length, Option, Some, None, arith, inl, inr, append_assoc}
+use Rattle.std.specs.Prelude.{cond, nat_eq, not, ◌||◌}
+use Rattle.std.proofs.lemmas.Bool.{cases_Bool, eqb-true, ne_eqb}
 use Rattle.standard_trees.specs.GrowingTree.{GrowingTree, created_at, kind_of, text_behind, with_text}
 use Rattle.standard_trees.specs.TreeStore.{Before, ContentsNode, EndOf, Kind, Node, Place, TextNode, before_of, changed_at, is_member, last_of, leaf, node_at}
-use Rattle.standard_trees.specs.TreeStore.{node_before, parent_from, parent_of, placed_before, put_at, removed, text_in, without, contents_in}
+use Rattle.standard_trees.specs.TreeStore.{node_before, placed_before, put_at, removed, text_in, without, contents_in}
 use Rattle.dom_links.specs.Contents.{changed_at as changed}
 use Rattle.dom_links.specs.Lists.{without as drop_all}
 use Rattle.page_trees.specs.SameNodes.{text_after, with_kind, with_kind_at, with_text_at}
-use Rattle.page_trees.proofs.StoreLemmas.{children_at, children_from, kind_at, kinds, kinds_changed, kinds_kept, kinds_more, kinds_put, kinds_removed, length_nodes, lists}
+use Rattle.page_trees.proofs.StoreLemmas.{children_from, kinds, kinds_changed, kinds_more, kinds_put, length_nodes, lists}
 use Rattle.page_trees.proofs.StoreLemmas.{kind_from, same_test, lists_changed, lists_kept, lists_more, lists_removed, new_node, old_node, same_nodes, with_children, with_kind_of}
 
 -- ---- kinds

@@ -1,5 +1,5 @@
 -- What the rules for "text" make of a tag, and the dispatcher of one that it leaves to the current mode.
-use Rattle.std.proofs.Common.{◌≡◌, Bool, true, false, ◌||◌, List, [], ◌∷◌, codes, refl, sym, ap, subst, ◌∙◌, true≢false}
+use Rattle.std.proofs.Common.{◌≡◌, Bool, true, false, ◌||◌, List, [], ◌∷◌, codes, refl, sym, ap, subst, ◌∙◌}
 use Rattle.standard_trees.specs.Building.{Building, perform, taken}
 use Rattle.standard_trees.specs.GrowingTree.{is_among}
 use Rattle.standard_trees.specs.RuleWords.{Act, Dispatcher, Mode as StandardMode, Pop, SwitchBack, SwitchTo, Text, UseCurrentMode, goes}

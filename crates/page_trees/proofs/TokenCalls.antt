@@ -1,30 +1,31 @@
 -- What the builder's calls come to, each for one token.
 use Rattle.std.proofs.Common.{◌≡◌, Bool, true, false, ◌||◌, [], ◌∷◌, List, ℕ, refl, reverse, sym, ap, ◌∙◌, subst, true≢false}
 use Rattle.std.specs.Option.{option_and_then, option_or}
-use Rattle.std.specs.Prelude.{Err, None, Option, Some, encode_utf8_all, string_bytes}
+use Rattle.std.specs.Prelude.{Err, None, Option, Some, string_bytes}
 use Rattle.std.specs.Borrow.{Bor}
 use Rattle.standard_tokens.specs.Entries.{Ending, Starting, TagKind as StandardKind}
 use Rattle.standard_tokens.specs.Machine.{Tag as StandardTag, distinct, token_of}
 use Rattle.standard_tokens.specs.Tokens.{AComment, ADoctype, AnEof, AStart, AnEnd, Doctype as StandardDoctype, Token as StandardToken}
-use Rattle.standard_trees.specs.Building.{Building, is_line_feed, token_attrs, with_next}
+use Rattle.standard_trees.specs.Building.{Building, is_line_feed, token_attrs}
 use Rattle.standard_trees.specs.RuleWords.{AfterBody, Dispatcher, Mode as StandardMode}
+use Rattle.page_tokens.specs.PlainNames.{has_plain_names}
 use Rattle.page_tokens.specs.Standard.{IsTag}
 use Rattle.page_tokens.specs.declared.token.Tag.{Tag}
-use Rattle.page_trees.specs.Constructs.{Constructs, IsCurrentTag, Outcome, RemembersLimits, WithinLimits, first_fault}
-use Rattle.page_trees.specs.CoveredTurns.{ProcessesToken, TakesTokens, covered_turn, covers, covers_comment, covers_doctype, covers_end, has_html}
-use Rattle.page_trees.specs.Modes.{mode_of}
+use Rattle.page_trees.specs.Constructs.{IsCurrentTag, RemembersLimits, WithinLimits, first_fault}
+use Rattle.page_trees.specs.CoveredTurns.{ProcessesToken, TakesTokens, covered_turn, covers, covers_comment, covers_doctype}
+use Rattle.standard_order.specs.Order.{has_html}
 use Rattle.page_trees.specs.Names.{name_of}
-use Rattle.page_trees.specs.Stands.{IsTagName}
-use Rattle.page_trees.specs.TokenSteps.{EndsInHtml, ProcessesBy, TakesComment, keeps_characters}
+use Rattle.page_trees.specs.TableTexts.{SettlesText}
+use Rattle.page_trees.specs.TokenSteps.{ProcessesBy, TakesComment, keeps_characters}
 use Rattle.page_trees.specs.declared.builder.Met.{Met}
-use Rattle.page_trees.specs.declared.builder.Mode.{Mode}
 use Rattle.page_trees.specs.declared.builder.Next.{Next}
 use Rattle.page_trees.specs.declared.builder.TreeBuilder.{TreeBuilder}
 use Rattle.page_trees.specs.declared.fault.PageFault.{PageFault}
 use Rattle.page_trees.specs.declared.modes.Token.{Token}
 use Rattle.page_trees.proofs.BuilderSteps.{was_ok}
-use Rattle.page_trees.proofs.CoveredLemmas.{covers_a_tag, tag_is_quiet}
 use Rattle.page_trees.proofs.NamesSpelled.{name_spelled}
+use Rattle.page_trees.proofs.ToldTokens.{tag_named}
+use Rattle.page_trees.proofs.SettledTokens.{taken_settled}
 use Rattle.page_trees.proofs.TokenTurns.{taken_alone, taken_at_once}
 use Rattle.page_trees.proofs.TurnsPassed.{turn_passes}
 
@@ -95,19 +96,18 @@ no_line_feed standard = by standard.kind
     by Starting = refl
     by Ending = refl
 
-pub tag_taken : (standard : StandardTag) (tag : Bor Tag) (old mid new : TreeBuilder) → IsTag standard tag.now → IsTagName standard.name →
-    (keeps_characters old.mode ≡ false → mid ≡ record old { skip_line_feed = false }) → ProcessesToken (Token.Tag (name_of (string_bytes tag.now.name)) tag) mid new →
-    TakesTokens (token_of standard ∷ []) old new
-tag_taken standard tag old mid new is written settled rule =
-    taken_alone (token_of standard) old mid new (no_line_feed standard)
-    (λ b stands covered. settled (tag_is_quiet old.mode (with_next (token_of standard) b) stands.mode (sym (covers_a_tag standard (with_next (token_of standard) b)) ∙ covered)))
+pub tag_taken : (standard : StandardTag) (tag : Bor Tag) (old mid new : TreeBuilder) → IsTag standard tag.now → has_plain_names (token_of standard) ≡ true →
+    mid ≡ record old { skip_line_feed = false } → ProcessesToken (Token.Tag (name_of (string_bytes tag.now.name)) tag) mid new → TakesTokens (token_of standard ∷ []) old new
+tag_taken standard tag old mid new is plain e rule =
+    taken_alone (token_of standard) old mid new (no_line_feed standard) (λ b stands covered. e)
     (λ within b token attrs stands depth few c runs. rule within [] b (current b token attrs, refl) stands depth few c (ap (option_and_then (λ x. Some x)) runs))
   where
     current : (b : Building) → b.token ≡ token_of standard → b.attrs ≡ token_attrs (token_of standard) → IsCurrentTag (name_of (string_bytes tag.now.name)) tag.now b
     current b token attrs = record {
       standard = standard;
       is = is;
-      written = written;
+      written = tag_named standard plain;
+      plain = plain;
       named = ap name_of is.name ∙ name_spelled standard.name;
       token = token;
       attrs = attrs ∙ ap token_attrs (sym token);
@@ -120,47 +120,29 @@ none_kept old new fault token e within others b current stands depth few c h =
 
 -- ---- the end of the page
 
-end_is_quiet : (m : Mode) (b : Building) → covers_end (mode_of m) b ≡ true → keeps_characters m ≡ false
-end_is_quiet Mode.InTableText b e = absurd (true≢false (sym e))
-end_is_quiet _ b e = refl
-
-pub end_taken : (old mid new : TreeBuilder) → (keeps_characters old.mode ≡ false → mid ≡ record old { skip_line_feed = false }) → ProcessesToken Token.End mid new →
-    TakesTokens (AnEof ∷ []) old new
-end_taken old mid new settled rule =
-    taken_alone AnEof old mid new refl
-    (λ b stands covered. settled (end_is_quiet old.mode (with_next AnEof b) (subst (λ (m : StandardMode). covers_end m (with_next AnEof b) ≡ true) stands.mode covered)))
+pub end_taken : (old mid new : TreeBuilder) → mid ≡ record old { skip_line_feed = false } → ProcessesToken Token.End mid new → TakesTokens (AnEof ∷ []) old new
+end_taken old mid new e rule =
+    taken_alone AnEof old mid new refl (λ b stands covered. e)
     (λ within b token attrs stands depth few c runs. rule within [] b (token, refl) stands depth few c (ap (option_and_then (λ x. Some x)) runs))
 
 -- ---- comments and doctypes
 
-comment_is_quiet : (m : Mode) (b : Building) → covers_comment (mode_of m) b ≡ true → keeps_characters m ≡ false
-comment_is_quiet Mode.InTableText b e = absurd (true≢false (sym e))
-comment_is_quiet _ b e = refl
-
 in_html : (m : StandardMode) (b : Building) → covers_comment m b ≡ true → m ≡ AfterBody → has_html b ≡ true
 in_html m b covered e = subst (λ (x : StandardMode). covers_comment x b ≡ true) e covered
 
-pub comment_whole : (cs : List ℕ) (old mid new : TreeBuilder) → (keeps_characters old.mode ≡ false → mid ≡ record old { skip_line_feed = false }) →
-    (keeps_characters mid.mode ≡ false → TakesComment cs mid new) → TakesTokens (AComment cs ∷ []) old new
-comment_whole cs old mid new settled rule =
-    taken_alone (AComment cs) old mid new refl
-    (λ b stands covered. settled (comment_is_quiet old.mode (with_next (AComment cs) b)
-    (subst (λ (m : StandardMode). covers_comment m (with_next (AComment cs) b) ≡ true) stands.mode covered)))
-    (λ within b token attrs stands depth few c runs.
+-- pending table character tokens come first
+pub comment_whole : (cs : List ℕ) (old first mid new : TreeBuilder) → first ≡ record old { skip_line_feed = false } → (keeps_characters first.mode ≡ false → mid ≡ first) → SettlesText first mid →
+    RemembersLimits mid new → (keeps_characters mid.mode ≡ false → TakesComment cs mid new) → TakesTokens (AComment cs ∷ []) old new
+comment_whole cs old first mid new e same settles limits rule =
+    taken_settled (AComment cs) old first mid new refl refl e same settles limits
+    (λ b keeps covered. subst (λ (m : StandardMode). covers_comment m b ≡ true) keeps covered)
+    (λ early within b token stands depth c runs.
     let covered : covers_comment b.mode b ≡ true = sym (ap (λ (t : StandardToken). covers t b) token) ∙ turn_passes covered_turn depth b c runs in
-    let early = comment_is_quiet mid.mode b (subst (λ (m : StandardMode). covers_comment m b ≡ true) stands.mode covered) in
     taken_at_once b c new depth (rule early within b (in_html b.mode b covered) token stands) runs)
 
-doctype_is_quiet : (m : Mode) → covers_doctype (mode_of m) ≡ true → keeps_characters m ≡ false
-doctype_is_quiet Mode.InTableText e = absurd (true≢false (sym e))
-doctype_is_quiet _ e = refl
-
-pub doctype_whole : (d : StandardDoctype) (old mid new : TreeBuilder) → (keeps_characters old.mode ≡ false → mid ≡ record old { skip_line_feed = false }) →
-    (keeps_characters mid.mode ≡ false → ProcessesBy Dispatcher (ADoctype d) mid new Next.Done) → TakesTokens (ADoctype d ∷ []) old new
-doctype_whole d old mid new settled rule =
-    taken_alone (ADoctype d) old mid new refl
-    (λ b stands covered. settled (doctype_is_quiet old.mode (subst (λ (m : StandardMode). covers_doctype m ≡ true) stands.mode covered)))
-    (λ within b token attrs stands depth few c runs.
-    let covered : covers_doctype b.mode ≡ true = sym (ap (λ (t : StandardToken). covers t b) token) ∙ turn_passes covered_turn depth b c runs in
-    let early = doctype_is_quiet mid.mode (subst (λ (m : StandardMode). covers_doctype m ≡ true) stands.mode covered) in
-    taken_at_once b c new depth (rule early within b token stands) runs)
+pub doctype_whole : (d : StandardDoctype) (old first mid new : TreeBuilder) → first ≡ record old { skip_line_feed = false } → (keeps_characters first.mode ≡ false → mid ≡ first) →
+    SettlesText first mid → RemembersLimits mid new → (keeps_characters mid.mode ≡ false → ProcessesBy Dispatcher (ADoctype d) mid new Next.Done) → TakesTokens (ADoctype d ∷ []) old new
+doctype_whole d old first mid new e same settles limits rule =
+    taken_settled (ADoctype d) old first mid new refl refl e same settles limits
+    (λ b keeps covered. subst (λ (m : StandardMode). covers_doctype m b ≡ true) keeps covered)
+    (λ early within b token stands depth c runs. taken_at_once b c new depth (rule early within b token stands) runs)

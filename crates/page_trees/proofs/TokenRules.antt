@@ -1,13 +1,12 @@
 -- Which rules are taken for a token that is no tag, and what comes of it.
-use Rattle.std.proofs.Common.{◌≡◌, ℕ, Bool, true, false, ◌&&◌, ◌||◌, not, List, [], ◌∷◌, refl, sym, ap, suc, subst, ◌∙◌, true≢false, inl, inr}
+use Rattle.std.proofs.Common.{◌≡◌, ℕ, Bool, true, false, ◌&&◌, not, List, [], ◌∷◌, refl, sym, ap, subst, ◌∙◌, true≢false, inl, inr}
 use Rattle.std.specs.List.{list_all, list_any}
-use Rattle.std.specs.Option.{option_and_then}
 use Rattle.std.specs.Prelude.{Some, cond, unwrap_or}
 use Rattle.std.proofs.lemmas.Bool.{cases_Bool}
 use Rattle.standard_tokens.specs.Tokens.{AComment, ADoctype, Doctype as StandardDoctype, Token}
-use Rattle.standard_trees.specs.Building.{Building, fits, is_empty, is_line_feed, is_met, perform, performed, run, taken, tree_step, with_next}
+use Rattle.standard_trees.specs.Building.{Building, fits, is_empty, is_line_feed, is_met, perform, run, taken, tree_step, with_next}
 use Rattle.standard_trees.specs.GrowingTree.{GrowingTree, adjusted_current, in_foreign, is_single, kind_of, top}
-use Rattle.standard_trees.specs.RuleWords.{Act, Action, AppendDoctype, BeforeHtml, Dispatcher, ForeignContent, InBody, InHead, InTable, InsertComment, InsertCommentInDocument}
+use Rattle.standard_trees.specs.RuleWords.{Action, AppendDoctype, BeforeHtml, Dispatcher, ForeignContent, InBody, InHead, InTable, InsertComment, InsertCommentInDocument}
 use Rattle.standard_trees.specs.RuleWords.{InsertCommentInHtml, Mode as StandardMode, Rule, SetQuirksByDoctype, SwitchTo, Use, goes, rule}
 use Rattle.standard_trees.specs.TreeRules.{rules}
 use Rattle.standard_trees.specs.TreeStore.{DocumentNode, is_html, node_at, space_in}

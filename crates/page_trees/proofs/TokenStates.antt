@@ -1,6 +1,6 @@
 -- What the state of tree construction stands for once a token begins, and after a comment or a doctype is inserted.
-use Rattle.std.proofs.Common.{◌≡◌, ℕ, Bool, true, false, List, [], ◌∷◌, refl, sym, ap, subst, ◌∙◌, true≢false}
-use Rattle.std.specs.Prelude.{None, OnOk, Option, Result, encode_utf8_all}
+use Rattle.std.proofs.Common.{◌≡◌, ℕ, false, List, [], ◌∷◌, refl, sym, ap, subst, ◌∙◌, true≢false}
+use Rattle.std.specs.Prelude.{None, OnOk, Option, Result}
 use Rattle.standard_tokens.specs.Tokens.{AComment, ADoctype, Doctype as StandardDoctype, Token}
 use Rattle.standard_trees.specs.Building.{Building, NoQuirks, QuirksMode as StandardQuirks, comment_of, perform, quirks_of, with_doctype, with_next, with_tree}
 use Rattle.standard_trees.specs.GrowingTree.{GrowingTree, created_at, place, topmost, with_comment}

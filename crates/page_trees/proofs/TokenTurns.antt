@@ -1,9 +1,10 @@
 -- What the turns of a token come to.
-use Rattle.std.proofs.Common.{◌≡◌, ◌≤◌, ◌+◌, ℕ, zero, suc, Bool, true, false, ◌&&◌, ◌||◌, not, List, [], ◌∷◌, map, refl, sym, ap, subst, ◌∙◌, true≢false, arith}
+use Rattle.std.proofs.Common.{◌≡◌, ◌≤◌, ◌+◌, ℕ, zero, suc, Bool, true, false, ◌&&◌, ◌||◌, not, List, [], ◌∷◌, map, refl, sym, ap, subst, ◌∙◌, true≢false, inl, inr, arith}
 use Rattle.std.specs.Borrow.{Bor}
 use Rattle.std.specs.List.{list_all}
+use Rattle.std.proofs.lemmas.Bool.{cases_Bool}
 use Rattle.std.specs.Option.{option_and_then}
-use Rattle.std.specs.Prelude.{None, Option, Some}
+use Rattle.std.specs.Prelude.{Some}
 use Rattle.standard_tokens.specs.Tokens.{AChar, AnEof, Token as StandardToken}
 use Rattle.standard_trees.specs.Building.{Building, is_line_feed, is_space, run, token_attrs, tree_steps, with_next}
 use Rattle.standard_trees.specs.RuleWords.{Dispatcher, Mode as StandardMode}
@@ -12,8 +13,9 @@ use Rattle.page_trees.specs.CharacterSteps.{Completes as RunCompletes, IsRun, Pr
 use Rattle.page_trees.specs.Constructs.{Constructs, HaveOneToken, IsCurrentTag, Outcome, RemembersLimits, WithinLimits}
 use Rattle.page_trees.specs.CoveredTurns.{Completes, DispatchesCovered, FewTurns, IsCurrent, ProcessesOnce, ProcessesToken, Reprocesses, TakesTokens, TurnEnds, covered_turn, covers, covers_end}
 use Rattle.page_trees.specs.Modes.{drops_letters, joins_spaces, mode_of}
-use Rattle.page_trees.specs.TokenSteps.{EndsPlainly, ProcessesBy}
-use Rattle.page_trees.specs.Turns.{run_while, tree_step_while, tree_steps_while}
+use Rattle.page_trees.specs.TableTexts.{LeavesText}
+use Rattle.page_trees.specs.TokenSteps.{EndsPlainly, ProcessesBy, keeps_characters}
+use Rattle.standard_order.specs.Turns.{run_while, tree_step_while, tree_steps_while}
 use Rattle.page_trees.specs.declared.builder.Mode.{Mode}
 use Rattle.page_trees.specs.declared.builder.Next.{Next}
 use Rattle.page_trees.specs.declared.builder.TreeBuilder.{TreeBuilder}
@@ -23,8 +25,10 @@ use Rattle.page_trees.specs.declared.name.Name.{Name}
 use Rattle.page_trees.proofs.CoveredRuns.{is_covered}
 use Rattle.page_trees.proofs.CoveredLemmas.{covers_a_tag, ends_plainly}
 use Rattle.page_trees.proofs.RulesRun.{only_some}
+use Rattle.page_trees.proofs.SettledTexts.{text_ends}
 use Rattle.page_trees.proofs.TokenStates.{begun}
 use Rattle.page_trees.proofs.DeeperRuns.{then_below}
+use Rattle.page_trees.proofs.FollowingTurns.{in_turn}
 use Rattle.page_trees.proofs.TurnsPassed.{no_turn, turn_passes, while_all_steps, while_is, while_next, while_runs}
 
 -- ---- one turn
@@ -40,6 +44,7 @@ same_tag name tag b c same current = record {
   standard = current.standard;
   is = current.is;
   written = current.written;
+  plain = current.plain;
   named = current.named;
   token = same.token ∙ current.token;
   attrs = same.attrs ∙ current.attrs ∙ ap token_attrs (sym same.token);
@@ -70,10 +75,15 @@ end_ends others b new Next.Again current o = record {
   runs = o.runs;
 }
 
-pub end_turn : (old new : TreeBuilder) (next : Next) → (EndsPlainly old → ProcessesBy Dispatcher AnEof old new next) → ProcessesOnce Token.End old new next
-end_turn old new next rule within others b current covered stands =
+pub end_turn : (old new : TreeBuilder) (next : Next) → (EndsPlainly old → ProcessesBy Dispatcher AnEof old new next) → (keeps_characters old.mode ≡ true → LeavesText old new next) →
+    ProcessesOnce Token.End old new next
+end_turn old new next rule pending within others b current covered stands =
     let ends : covers_end b.mode b ≡ true = sym (ap (λ (t : StandardToken). covers t b) current.0) ∙ covered in
-    end_ends others b new next current (rule (ends_plainly old b stands ends) within b current.0 stands)
+    end_ends others b new next current (elim (cases_Bool (keeps_characters old.mode)) [
+      | inl keeps ↦ (let leaves = pending keeps in
+          subst (λ (n : Next). Outcome Dispatcher b new n) (sym leaves.again) (text_ends old new b leaves.rule within keeps current.0 ends stands))
+      | inr other ↦ rule (ends_plainly old b stands ends other) within b current.0 stands
+    ])
 
 -- ---- runs of characters
 
@@ -181,11 +191,6 @@ pub under_way_over : (token : Token) (others : List StandardToken) (depth turns 
 under_way_over token others depth turns last now few many way =
     no_turn covered_turn Dispatcher way.b last
     (subst (λ (n : ℕ). run_while covered_turn n Dispatcher way.b ≡ Some last) (omega (arith, way.count, few, many)) way.runs)
-
--- what one thing and then another come to
-pub in_turn : (o : Option Building) (f : Building → Option Building) (c : Building) → option_and_then f o ≡ Some c → (x : Building) × (o ≡ Some x) × (f x ≡ Some c)
-in_turn None f c h = absurd (cc)
-in_turn (Some x) f c h = (x, refl, h)
 
 -- ---- a token that stands alone
 

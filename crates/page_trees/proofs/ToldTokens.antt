@@ -37,7 +37,7 @@ lower_kept c plain = elim (cases_lt c 65) [
       ]
 ]
 
-lower_same : (name : List ℕ) → is_plain name ≡ true → lower name ≡ name
+pub lower_same : (name : List ℕ) → is_plain name ≡ true → lower name ≡ name
 lower_same [] h = refl
 lower_same (c ∷ name) h =
     let parts = and_parts (is_name_char c) (is_plain name) h in
@@ -73,11 +73,11 @@ head_of : (t u : Token) → t ∷ [] ≡ u ∷ [] → t ≡ u
 head_of t u e = cc
 
 pub tag_told : (t : Tokenizer) (tag : Tag) (token : Token) (a b : TreeBuilder) → t.ended ≡ Some tag →
-    ((one : StandardTag) → IsTag one tag → IsTagName one.name → TakesTokens (token_of one ∷ []) a b) → Told (Some kind.Tag) t (token ∷ []) → has_plain_names token ≡ true →
+    ((one : StandardTag) → IsTag one tag → has_plain_names (token_of one) ≡ true → TakesTokens (token_of one ∷ []) a b) → Told (Some kind.Tag) t (token ∷ []) → has_plain_names token ≡ true →
     TakesTokens (token ∷ []) a b
 tag_told t tag token a b ended takes told plain =
     subst (λ ts. TakesTokens ts a b) (sym told.1)
-    (takes told.0 (subst (λ o. IsSomeAnd o (IsTag told.0)) ended told.2) (tag_named told.0 (ap has_plain_names (sym (head_of token (token_of told.0) told.1)) ∙ plain)))
+    (takes told.0 (subst (λ o. IsSomeAnd o (IsTag told.0)) ended told.2) (ap has_plain_names (sym (head_of token (token_of told.0) told.1)) ∙ plain))
 
 pub no_tag_told : (t : Tokenizer) (token : Token) (a b : TreeBuilder) → t.ended ≡ None → Told (Some kind.Tag) t (token ∷ []) → TakesTokens (token ∷ []) a b
 no_tag_told t token a b none told = absurd (subst (λ o. IsSomeAnd o (IsTag told.0)) none told.2)

@@ -2,12 +2,12 @@
 use Rattle.std.specs.Prelude.{◌≡◌, ℕ, zero, suc, Bool, true, false, ◌&&◌, not, List, [], ◌∷◌, ◌++◌, Option, None, Some, refl}
 use Rattle.std.specs.Option.{option_and_then}
 use Rattle.std.proofs.lemmas.Option.{same_Some}
-use mathlib.Core.Path.{◌∙◌, ap, sym}
+use mathlib.Core.Path.{◌∙◌, sym}
 use Rattle.standard_tokens.specs.Tokens.{Token}
 use Rattle.standard_trees.specs.Building.{Building, is_line_feed, performed, run, taken, tree_step, tree_steps, with_next}
 use Rattle.standard_trees.specs.RuleWords.{Dispatcher, Mode}
 use Rattle.standard_trees.specs.TreeRules.{rules}
-use Rattle.page_trees.specs.Turns.{is_barred, run_while, tree_step_while, tree_steps_while}
+use Rattle.standard_order.specs.Turns.{is_barred, run_while, tree_step_while, tree_steps_while}
 use Rattle.page_trees.proofs.DeeperRuns.{BelowIn, more, performed_below, run_left, run_right, then_below}
 
 -- ---- one turn

@@ -1,6 +1,6 @@
 -- An element of the list of active formatting elements is removed.
-use Rattle.std.proofs.Common.{◌≡◌, ℕ, ◌<◌, ◌==◌, ◌&&◌, ◌||◌, not, Bool, true, false, List, [], ◌∷◌, filter, map, reverse, refl, sym, ap, ◌∙◌, length, Option, Some, None, subst, suc, arith, true≢false, if◌then◌else◌}
-use Rattle.std.specs.Prelude.{All, remove}
+use Rattle.std.proofs.Common.{◌≡◌, ℕ, ◌<◌, ◌==◌, ◌||◌, not, Bool, true, false, List, [], ◌∷◌, filter, map, reverse, refl, sym, ap, ◌∙◌, length, Option, Some, None, subst, suc, arith, true≢false, if◌then◌else◌}
+use Rattle.std.specs.Prelude.{remove}
 use Rattle.std.specs.List.{list_any}
 use Rattle.std.specs.Option.{option_map_or}
 use Rattle.std.proofs.lemmas.Bool.{eqb-true}

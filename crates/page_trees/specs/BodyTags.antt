@@ -1,22 +1,24 @@
 -- What the rules for "in body" make of a tag (13.2.6.4.7): which tags are covered, and what comes before an element is made.
-use Rattle.std.specs.Prelude.{◌≡◌, Bool, List, [], ◌∷◌, codes, false, if◌then◌else◌, true, ℕ}
+use Rattle.std.specs.Prelude.{◌≡◌, ◌&&◌, Bool, List, [], ◌∷◌, codes, false, if◌then◌else◌, true, ℕ}
 use Rattle.std.specs.List.{list_all}
 use Rattle.standard_tokens.specs.Tokens.{AStart, AnEnd, Token as StandardToken}
 use Rattle.standard_trees.specs.Building.{Building, is_met, perform, with_tree}
-use Rattle.standard_trees.specs.GrowingTree.{GrowingTree, has_in_scope, implied_of}
+use Rattle.standard_trees.specs.GrowingTree.{GrowingTree, adjusted_current, has_in_scope, implied_of}
+use Rattle.standard_trees.specs.GrowingTree.{popped_until}
 use Rattle.standard_trees.specs.RuleWords.{Act, Action, ButtonScope, CloseP, FramesetNotOk}
 use Rattle.standard_trees.specs.NameLists.{implied}
-use Rattle.standard_trees.specs.RuleWords.{InBody, InScope, InsertNamed, ReconstructFormatting, Scope as DefaultScope, These, does}
-use Rattle.standard_trees.specs.RuleWords.{goes, isnt}
+use Rattle.standard_trees.specs.RuleWords.{InBody, InScope, InsertNamed, Mode as StandardMode, ReconstructFormatting}
+use Rattle.standard_trees.specs.RuleWords.{Scope as DefaultScope, These, does, goes, isnt}
+use Rattle.standard_trees.specs.TreeStore.{is_html, space_in}
 use Rattle.page_tokens.specs.declared.token.Tag.{Tag}
 use Rattle.page_tokens.specs.declared.token.TagKind.{TagKind}
 use Rattle.page_trees.specs.Constructs.{Constructs, IsCurrentTag, Outcome, RemembersLimits, WithinLimits, all_performed}
 use Rattle.page_trees.specs.Groups.{closes_p, group_named, reconstructs, spoils_frameset}
 use Rattle.page_trees.specs.LateMerges.{HasHtml}
-use Rattle.page_trees.specs.Listing.{ends_adoption, lists_few, lists_no_a}
+use Rattle.page_trees.specs.Listing.{ends_adoption, lists_few, starts_a, starts_nobr}
 use Rattle.page_trees.specs.Modes.{is_start_kind}
 use Rattle.page_trees.specs.Names.{name_of}
-use Rattle.page_trees.specs.Stands.{popped_if}
+use Rattle.page_trees.specs.Stands.{popped_if, without_marker}
 use Rattle.page_trees.specs.declared.builder.Next.{Next}
 use Rattle.page_trees.specs.declared.builder.TreeBuilder.{TreeBuilder}
 use Rattle.page_trees.specs.declared.modes.groups.Group.{Group}
@@ -30,6 +32,7 @@ covers_start Group.Block = true
 covers_start Group.P = true
 covers_start Group.Heading = true
 covers_start Group.Pre = true
+covers_start Group.Form = true
 covers_start Group.Li = true
 covers_start Group.Description = true
 covers_start Group.Button = true
@@ -48,6 +51,9 @@ covers_start Group.Noembed = true
 covers_start Group.Noscript = true
 covers_start Group.Table = true
 covers_start Group.Hr = true
+covers_start Group.Image = true
+covers_start Group.Input = true
+covers_start Group.Select = true
 covers_start Group.RubyBase = true
 covers_start Group.RubyText = true
 covers_start Group.Option = true
@@ -55,7 +61,11 @@ covers_start Group.Optgroup = true
 covers_start Group.Ordinary = true
 covers_start Group.A = true
 covers_start Group.Formatting = true
-covers_start _ = false
+covers_start Group.Nobr = true
+covers_start Group.Math = true
+covers_start Group.Svg = true
+covers_start Group.Body = true
+covers_start Group.Frameset = true
 
 -- the groups whose end tags the rules process like any other end tag, but for `br`
 abbrev pub ends_otherwise : Group → Bool
@@ -77,7 +87,7 @@ ends_otherwise Group.Form = false
 ends_otherwise Group.Li = false
 ends_otherwise _ = true
 
--- the groups, and the names, of which it is stated that their end tags are processed by the rules
+-- the groups of which it is stated that their end tags are processed by the rules
 abbrev pub covers_end_of : Group → Bool
 covers_end_of Group.Block = true
 covers_end_of Group.Button = true
@@ -87,15 +97,17 @@ covers_end_of Group.Heading = true
 covers_end_of Group.Description = true
 covers_end_of Group.Li = true
 covers_end_of Group.P = true
+covers_end_of Group.Form = true
 covers_end_of Group.Body = true
 covers_end_of Group.Html = true
 covers_end_of Group.A = true
 covers_end_of Group.Formatting = true
 covers_end_of Group.Nobr = true
+covers_end_of Group.Object = true
+covers_end_of Group.Template = true
 covers_end_of group = ends_otherwise group
 
 abbrev pub covers_end : Name → Bool
-covers_end Name.Other = false
 covers_end name = covers_end_of (group_named name)
 
 abbrev pub covers_body : TagKind → Name → Bool
@@ -108,10 +120,21 @@ covers_in_body (AStart name attrs closing) = covers_start (group_named (name_of 
 covers_in_body (AnEnd name) = covers_end (name_of name)
 covers_in_body _ = false
 
--- what is asked of the state in which the start tag of a group is processed: for formatting elements, of their list
+abbrev pub is_body_mode : StandardMode → Bool
+is_body_mode InBody = true
+is_body_mode _ = false
+
+-- "Change the token's tag name to 'img' and reprocess it": it comes to the rules for "in body" again
+abbrev pub comes_back : Building → Bool
+comes_back b = is_body_mode b.mode && is_html (space_in (adjusted_current b.tree))
+
+-- what is asked of the state in which the start tag of a group is processed: for formatting elements, of their list; for `image`, of the
+-- insertion mode
 abbrev pub starts_in : Group → Building → Bool
-starts_in Group.A b = lists_no_a b
+starts_in Group.A b = starts_a b
 starts_in Group.Formatting b = lists_few b
+starts_in Group.Nobr b = starts_nobr b
+starts_in Group.Image b = comes_back b
 starts_in _ b = true
 
 -- and for end tags: for formatting elements, the adoption agency algorithm ends in its first round
@@ -148,6 +171,12 @@ Acts acts old new = WithinLimits new → (b : Building) → Constructs old b →
 abbrev pub ActsFor : Name → Tag → List Act → TreeBuilder → TreeBuilder → Type 0
 ActsFor name tag acts old new =
     is_start_kind tag.kind ≡ true → WithinLimits new → (b : Building) → IsCurrentTag name tag b → Constructs old b →
+    Constructs new (acted acts b)
+
+-- within the limits, these acts for a start tag lead from an old state that passes a test to the new one
+abbrev pub ActsWhere : (Building → Bool) → Name → Tag → List Act → TreeBuilder → TreeBuilder → Type 0
+ActsWhere test name tag acts old new =
+    is_start_kind tag.kind ≡ true → WithinLimits new → (b : Building) → test b ≡ true → IsCurrentTag name tag b → Constructs old b →
     Constructs new (acted acts b)
 
 -- ---- start tags
@@ -223,6 +252,10 @@ EndsInBody name tag old new next =
 -- within the limits, the tree is changed so, and nothing else
 abbrev pub ChangesTree : (GrowingTree → GrowingTree) → TreeBuilder → TreeBuilder → Type 0
 ChangesTree step old new = WithinLimits new → (b : Building) → Constructs old b → Constructs new (with_tree b (step b.tree))
+
+-- an element in scope is closed, and the list of active formatting elements is cleared up to the last marker
+abbrev pub closed_to_marker : List (List ℕ) → GrowingTree → GrowingTree
+closed_to_marker names t = elim (has_in_scope DefaultScope names t) [ true ↦ without_marker (popped_until names t) | false ↦ t ]
 
 -- the end tag `p`: an element for it is inserted where no `p` is in button scope
 abbrev pub implying_p : Act

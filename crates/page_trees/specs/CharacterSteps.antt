@@ -1,17 +1,18 @@
 -- Characters come as runs. A run stands for the tokens of its characters: the rules process the first character, and then each of the
 -- others as a token of its own (13.2.6).
-use Rattle.std.specs.Prelude.{◌≡◌, ◌==◌, ◌&&◌, ◌||◌, ◌∷◌, Bool, List, None, Option, Some, [], encode_utf8_all, false, if◌then◌else◌}
+use Rattle.std.specs.Prelude.{◌≡◌, ◌==◌, ◌&&◌, ◌||◌, ◌∷◌, Bool, List, None, Option, Some, [], codes, encode_utf8_all, false, if◌then◌else◌}
 use Rattle.std.specs.Prelude.{map, not, true, ℕ}
 use Rattle.std.specs.List.{list_all}
 use Rattle.std.specs.Option.{option_and_then}
 use Rattle.standard_tokens.specs.Tokens.{AChar, Token}
 use Rattle.standard_trees.specs.Building.{Building, is_empty, is_space, run, tree_steps, with_tree}
 use Rattle.standard_trees.specs.Formatting.{reconstructed}
-use Rattle.standard_trees.specs.GrowingTree.{GrowingTree, adjusted_current, is_html_point, is_named, with_chars}
+use Rattle.standard_trees.specs.GrowingTree.{GrowingTree, adjusted_current, current, is_html_point, is_named, is_one, with_chars}
 use Rattle.standard_trees.specs.NameLists.{text_points}
 use Rattle.standard_trees.specs.RuleWords.{AfterAfterBody, AfterAfterFrameset, AfterBody, AfterFrameset, AfterHead, BeforeHead}
 use Rattle.standard_trees.specs.RuleWords.{BeforeHtml, Dispatcher}
-use Rattle.standard_trees.specs.RuleWords.{InBody, InCaption, InCell, InColumnGroup, InFrameset, InHead, InHeadNoscript, InTemplate}
+use Rattle.standard_trees.specs.RuleWords.{InBody, InCaption, InCell, InColumnGroup, InFrameset, InHead, InHeadNoscript, InRow, InTable}
+use Rattle.standard_trees.specs.RuleWords.{InTableBody, InTableText, InTemplate}
 use Rattle.standard_trees.specs.RuleWords.{Initial, Mode as StandardMode, Text, TextState}
 use Rattle.standard_trees.specs.TreeStore.{Kind, is_html, space_in}
 use Rattle.page_trees.specs.Constructs.{Constructs, Outcome, WithinLimits}
@@ -138,6 +139,26 @@ takes_characters kind = is_html (space_in kind) || (is_named text_points kind ||
 abbrev pub goes_to_mode : GrowingTree → Bool
 goes_to_mode t = is_empty t.stack || takes_characters (adjusted_current t)
 
+-- ---- tables
+
+-- "in table": the elements in which characters are pending table character tokens
+abbrev pub pending_names : List (List ℕ)
+pending_names =
+    codes "table" ∷ codes "tbody" ∷ codes "template" ∷ codes "tfoot" ∷ codes "thead" ∷ codes "tr" ∷ []
+
+-- the current node is one of them
+abbrev pub keeps_text : GrowingTree → Bool
+keeps_text t = is_one t pending_names (current t)
+
+-- foster parenting is enabled, or disabled
+abbrev pub with_foster : Bool → GrowingTree → GrowingTree
+with_foster on t = record t { fostering = on }
+
+-- An element is open, and the current node is no such element once the active formatting elements are reconstructed with foster
+-- parenting: then it is none behind a character that is moved out of the table, either.
+abbrev pub fosters_text : GrowingTree → Bool
+fosters_text t = not (is_empty t.stack) && not (keeps_text (reconstructed (with_foster true t)))
+
 -- ---- what a run does
 
 -- the characters are inserted, and nothing else changes
@@ -197,6 +218,7 @@ covers_closed InHead = true
 covers_closed InHeadNoscript = true
 covers_closed AfterHead = true
 covers_closed Text = true
+covers_closed InTableText = true
 covers_closed InFrameset = true
 covers_closed AfterFrameset = true
 covers_closed _ = false
@@ -211,9 +233,26 @@ covers_open AfterAfterBody = true
 covers_open AfterAfterFrameset = true
 covers_open _ = false
 
+abbrev pub is_white : Token → Bool
+is_white (AChar c) = is_space c
+is_white _ = false
+
+-- in tables, where characters become pending table character tokens or are moved out of the table; in column groups, white space
+abbrev pub covers_in_table : GrowingTree → Bool
+covers_in_table t = keeps_text t || fosters_text t
+
+abbrev pub covers_between : StandardMode → Building → Bool
+covers_between InTable b = covers_in_table b.tree
+covers_between InTableBody b = covers_in_table b.tree
+covers_between InRow b = covers_in_table b.tree
+covers_between InColumnGroup b = is_white b.token
+covers_between _ b = false
+
+abbrev pub covers_in_mode : Building → Bool
+covers_in_mode b = covers_closed b.mode || ((covers_open b.mode && not (is_empty b.tree.stack)) || covers_between b.mode b)
+
 abbrev pub covers_characters : Building → Bool
-covers_characters b =
-    has_begun b && (not (goes_to_mode b.tree) || (covers_closed b.mode || (covers_open b.mode && not (is_empty b.tree.stack))))
+covers_characters b = has_begun b && (not (goes_to_mode b.tree) || covers_in_mode b)
 
 -- within the limits, a run whose first character is the current token is processed by the dispatcher's rules
 abbrev pub ProcessesRun : Run → ℕ → List ℕ → TreeBuilder → TreeBuilder → Next → Type 0

@@ -5,7 +5,7 @@ use Rattle.standard_trees.specs.Building.{Building, is_empty, is_space}
 use Rattle.page_trees.specs.CharacterSteps.{fits_mode, has_begun, is_run}
 use Rattle.page_trees.specs.Constructs.{Constructs, WithinLimits}
 use Rattle.page_trees.specs.CoveredTurns.{FewTurns, covered_turn}
-use Rattle.page_trees.specs.Turns.{tree_steps_while}
+use Rattle.standard_order.specs.Turns.{tree_steps_while}
 use Rattle.page_trees.specs.declared.builder.Mode.{Mode}
 use Rattle.page_trees.specs.declared.builder.TreeBuilder.{TreeBuilder}
 use Rattle.page_trees.specs.declared.chars.Run.{Run}

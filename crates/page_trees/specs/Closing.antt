@@ -2,8 +2,8 @@
 -- searches find, and what is done to the stack.
 use Rattle.std.specs.Prelude.{◌≡◌, ◌+◌, ◌≤◌, ◌<◌, ◌&&◌, Bool, List, None, Option, Some, [], ◌∷◌, codes, false, not, reverse, true, ℕ}
 use Rattle.standard_trees.specs.GrowingTree.{GrowingTree, in_scope, is_one, popped_until}
-use Rattle.standard_trees.specs.NameLists.{crossed_by_items, headings, special}
-use Rattle.page_trees.specs.Scopes.{is_among, last_place}
+use Rattle.standard_trees.specs.NameLists.{crossed_by_items, special}
+use Rattle.page_trees.specs.Scopes.{last_place}
 use Rattle.page_trees.specs.declared.name.Name.{Name}
 use Rattle.page_trees.specs.declared.stack.Open.{Open}
 

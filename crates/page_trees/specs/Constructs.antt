@@ -10,7 +10,8 @@ use Rattle.standard_trees.specs.Building.{run, token_attrs}
 use Rattle.standard_trees.specs.RuleWords.{Action, AfterHead, BeforeHead, BeforeHtml, Dispatcher, InBody, InHead, InsertNamed}
 use Rattle.standard_trees.specs.RuleWords.{InsertRootNamed, Mode as StandardMode, PlainText, Pop, RawText, RcdataText, ScriptText}
 use Rattle.standard_trees.specs.RuleWords.{SetHeadPointer, SetQuirks, SwitchTo, TextState}
-use Rattle.page_trees.specs.Turns.{run_while}
+use Rattle.standard_order.specs.Turns.{run_while}
+use Rattle.page_tokens.specs.PlainNames.{has_plain_names}
 use Rattle.page_tokens.specs.Standard.{IsTag, Spells}
 use Rattle.page_tokens.specs.declared.token.Tag.{Tag}
 use Rattle.page_tokens.specs.declared.tokenizer.state.State.{State}
@@ -97,11 +98,12 @@ all_performed (action ∷ actions) b = all_performed actions (perform action b)
 abbrev pub Performs : List Action → TreeBuilder → TreeBuilder → Type 0
 Performs actions old new = WithinLimits new → (b : Building) → Constructs old b → Constructs new (all_performed actions b)
 
--- the current token is the one of the tag
+-- the current token is the one of the tag, whose names are those that the tokenizer makes
 pub record IsCurrentTag (name : Name) (tag : Tag) (b : Building) : Type 0 where
   pub standard : StandardTag
   pub is : IsTag standard tag
   pub written : IsTagName standard.name
+  pub plain : has_plain_names (token_of standard) ≡ true
   pub named : name ≡ name_of standard.name
   pub token : b.token ≡ token_of standard
   pub attrs : b.attrs ≡ token_attrs b.token

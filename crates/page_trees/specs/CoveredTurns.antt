@@ -1,18 +1,18 @@
 -- In which turns of tree construction (13.2.6) the code is proved to process the token by the rules, and what is stated of a whole token.
-use Rattle.std.specs.Prelude.{◌≡◌, ◌≤◌, ◌∷◌, ◌&&◌, ◌||◌, Bool, List, None, Option, Some, [], codes, encode_utf8_all, false, map, not, true}
+use Rattle.std.specs.Prelude.{◌≡◌, ◌≤◌, ◌∷◌, ◌&&◌, ◌||◌, Bool, List, None, Some, [], encode_utf8_all, false, map, not, true}
 use Rattle.std.specs.Prelude.{ℕ}
 use Rattle.std.specs.Option.{option_and_then}
 use Rattle.standard_tokens.specs.Tokens.{AChar, AComment, ADoctype, AStart, AnEnd, AnEof, Token as StandardToken}
-use Rattle.standard_trees.specs.Building.{Building, is_empty, is_space, own_name, taken}
-use Rattle.standard_trees.specs.GrowingTree.{is_one, topmost}
+use Rattle.standard_trees.specs.Building.{Building, is_space, own_name, perform, taken}
+use Rattle.standard_trees.specs.GrowingTree.{in_foreign}
 use Rattle.standard_trees.specs.RuleWords.{Act, AfterAfterBody, AfterAfterFrameset, AfterBody, AfterFrameset, AfterHead, BeforeHead}
 use Rattle.standard_trees.specs.RuleWords.{BeforeHtml, Dispatcher, ForeignContent, InBody, InCaption, InCell, InColumnGroup, InFrameset}
 use Rattle.standard_trees.specs.RuleWords.{InHead, InHeadNoscript, InRow, InTable, InTableBody, InTableText, InTemplate, Initial}
-use Rattle.standard_trees.specs.RuleWords.{Mode as StandardMode, Text, UseCurrentMode, goes}
+use Rattle.standard_trees.specs.RuleWords.{Mode as StandardMode, PopForeignElements, Text, UseCurrentMode, does, goes}
 use Rattle.standard_trees.specs.TreeRules.{rules}
-use Rattle.page_trees.specs.Turns.{run_while, tree_steps_while}
-use Rattle.page_trees.specs.CharacterSteps.{covers_characters, fits_in, goes_to_mode, is_dropping, is_null, is_run}
-use Rattle.page_trees.specs.HeadSteps.{head_is_closed}
+use Rattle.standard_order.specs.Turns.{run_while, tree_steps_while}
+use Rattle.page_trees.specs.CharacterSteps.{covers_characters, fits_in, goes_to_mode, has_no_null, is_dropping, is_null, is_run}
+use Rattle.standard_order.specs.Order.{has_html, head_is_closed}
 use Rattle.page_trees.specs.Constructs.{Constructs, IsCurrentTag, Outcome, Runs, WithinLimits}
 use Rattle.page_tokens.specs.declared.token.Tag.{Tag}
 use Rattle.page_tokens.specs.declared.token.TagKind.{TagKind}
@@ -44,9 +44,9 @@ enters_plainly mode = not (returns mode)
 abbrev pub returns_plainly : Building → Bool
 returns_plainly b = not (returns b.mode) || enters_plainly b.original
 
--- the outermost open element is `html`
-abbrev pub has_html : Building → Bool
-has_html b = is_one b.tree (codes "html" ∷ []) (topmost b.tree.stack)
+-- No pending table character token is a null, and the mode to return to is one that is entered plainly.
+abbrev pub suits_settling : Building → Bool
+suits_settling b = enters_plainly b.original && has_no_null b.pending
 
 -- ---- which rules process the token
 
@@ -98,34 +98,50 @@ covers_tag_in AfterFrameset b = has_html b
 covers_tag_in AfterAfterFrameset b = has_html b
 covers_tag_in InTemplate b = true
 covers_tag_in Text b = enters_plainly b.original
-covers_tag_in InTable b = passes covers_table b
-covers_tag_in InCaption b = passes covers_caption b
+covers_tag_in InTableText b = suits_settling b
+covers_tag_in InTable b = passes (λ start name. covers_table start name b) b
+covers_tag_in InCaption b = passes (λ start name. covers_caption start name b) b
 covers_tag_in InColumnGroup b = passes (λ start name. covers_group name) b
-covers_tag_in InTableBody b = passes covers_table_body b
-covers_tag_in InRow b = passes covers_row b
-covers_tag_in InCell b = passes covers_cell b
+covers_tag_in InTableBody b = passes (λ start name. covers_table_body start name b) b
+covers_tag_in InRow b = passes (λ start name. covers_row start name b) b
+covers_tag_in InCell b = passes (λ start name. covers_cell start name b) b
 covers_tag_in _ b = false
 
--- tags in foreign content
+-- foreign elements are popped, and the token is reprocessed "according to the rules given in the section corresponding to the current
+-- insertion mode in HTML content"
+abbrev pub leaving_foreign : List Act
+leaving_foreign = does PopForeignElements [] ∷ goes UseCurrentMode ∷ []
+
+-- These acts for a tag are covered: where the rules for the current mode process it, it is covered there.
+abbrev pub covers_acts : List Act → Building → Bool
+covers_acts (does PopForeignElements [] ∷ acts) b = covers_acts acts (perform PopForeignElements b)
+covers_acts (goes UseCurrentMode ∷ []) b = covers_tag_in b.mode b
+covers_acts acts b = true
+
+-- tags in foreign content, in every mode but "in table text"; end tags where the outermost open element is `html`
+abbrev pub covers_foreign_in : StandardMode → Building → Bool
+covers_foreign_in InTableText b = false
+covers_foreign_in mode b = (is_start_tag b.token || has_html b) && covers_acts (taken b (rules ForeignContent)) b
+
 abbrev pub covers_foreign_tag : Building → Bool
-covers_foreign_tag b = false
+covers_foreign_tag b = covers_foreign_in b.mode b
 
 abbrev pub covers_tag : Building → Bool
 covers_tag b = elim (is_in_mode b) [ true ↦ covers_tag_in b.mode b | false ↦ covers_foreign_tag b ]
 
 -- comments; the rules for "after body" put one into `html`
 abbrev pub covers_comment : StandardMode → Building → Bool
-covers_comment InTableText b = false
+covers_comment InTableText b = is_in_mode b && suits_settling b
 covers_comment AfterBody b = has_html b
 covers_comment mode b = true
 
-abbrev pub covers_doctype : StandardMode → Bool
-covers_doctype InTableText = false
-covers_doctype mode = true
+abbrev pub covers_doctype : StandardMode → Building → Bool
+covers_doctype InTableText b = is_in_mode b && suits_settling b
+covers_doctype mode b = true
 
 -- the end of the page
 abbrev pub covers_end : StandardMode → Building → Bool
-covers_end InTableText b = false
+covers_end InTableText b = suits_settling b
 covers_end mode b = returns_plainly b
 
 -- characters; no nulls, and where a mode may ignore other characters than white space, no others; in "text" where the dispatcher leaves
@@ -143,7 +159,7 @@ abbrev pub covers : StandardToken → Building → Bool
 covers (AStart name attrs closing) b = covers_tag b
 covers (AnEnd name) b = covers_tag b
 covers (AComment text) b = covers_comment b.mode b
-covers (ADoctype doctype) b = covers_doctype b.mode
+covers (ADoctype doctype) b = covers_doctype b.mode b
 covers AnEof b = covers_end b.mode b
 covers (AChar c) b = covers_character c b
 
@@ -199,6 +215,19 @@ DispatchesCovered name tag old new next =
 abbrev pub ProcessesCovered : StandardMode → Name → Tag → TreeBuilder → TreeBuilder → Next → Type 0
 ProcessesCovered mode name tag old new next =
     WithinLimits new → (b : Building) → IsCurrentTag name tag b → covers_tag_in mode b ≡ true → Constructs old b → Outcome mode b new next
+
+-- within the limits, a tag is processed by the rules for foreign content, if it is covered and the adjusted current node is a foreign one
+abbrev pub ProcessesForeign : Name → Tag → TreeBuilder → TreeBuilder → Next → Type 0
+ProcessesForeign name tag old new next =
+    WithinLimits new → (b : Building) → IsCurrentTag name tag b → in_foreign b.tree ≡ true → covers_foreign_tag b ≡ true →
+    Constructs old b → Outcome ForeignContent b new next
+
+-- within the limits, foreign elements are popped and the rules for the current mode process a tag, if that is what the rules for foreign
+-- content say, and it is covered
+abbrev pub LeavesForeign : Name → Tag → TreeBuilder → TreeBuilder → Next → Type 0
+LeavesForeign name tag old new next =
+    WithinLimits new → (b : Building) → IsCurrentTag name tag b → taken b (rules ForeignContent) ≡ leaving_foreign →
+    covers_acts leaving_foreign b ≡ true → Constructs old b → Outcome ForeignContent b new next
 
 -- within the limits, one turn processes the token, if it is covered
 abbrev pub ProcessesOnce : Token → TreeBuilder → TreeBuilder → Next → Type 0

@@ -1,8 +1,7 @@
 -- Foreign content, SVG and MathML (13.2.6.1 and 13.2.6.5): names in their proper case, attributes that have a namespace, and the
 -- tokens that are processed by the rules for foreign content.
-use Rattle.std.specs.Prelude.{ℕ, Bool, true, false, not, ◌==◌, ◌&&◌, ◌||◌, List, [], ◌∷◌, Option, None, Some, codes, find, map, position}
+use Rattle.std.specs.Prelude.{ℕ, Bool, true, false, not, ◌==◌, ◌&&◌, ◌||◌, List, [], Option, None, Some, codes, find, position}
 use Rattle.std.specs.Prelude.{string_bytes, if◌then◌else◌}
-use Rattle.std.specs.Global.{Vec}
 use Rattle.std.specs.List.{after_first, before_first}
 use Rattle.std.specs.Option.{is_some, option_map, option_map_or, unwrap_or}
 use Rattle.std.specs.Str.{bytes_eq, str_eq_ignore_ascii_case}

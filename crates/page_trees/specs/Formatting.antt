@@ -1,8 +1,8 @@
 -- The list of active formatting elements (13.2.4.3).
-use Rattle.std.specs.Prelude.{ℕ, ◌≡◌, ◌⊎◌, Bool, true, false, ◌==◌, ◌&&◌, List, [], ◌∷◌, Option, None, Some, All, length, nat_lt, remove}
+use Rattle.std.specs.Prelude.{ℕ, ◌≡◌, ◌⊎◌, Bool, false, ◌==◌, ◌&&◌, List, [], ◌∷◌, Option, None, Some, All, length, nat_lt, remove}
 use Rattle.std.specs.Prelude.{reverse, slice_get, if◌then◌else◌}
 use Rattle.std.specs.List.{list_all, list_any}
-use Rattle.std.specs.Option.{option_and_then, option_map_or}
+use Rattle.std.specs.Option.{option_map_or}
 use Rattle.std.specs.Str.{bytes_eq}
 use Rattle.dom_nodes.specs.Elements.{Element}
 use Rattle.dom_nodes.specs.Names.{same_name}

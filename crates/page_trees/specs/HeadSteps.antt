@@ -1,5 +1,5 @@
 -- What the rules for "in head" do for elements of the head and for templates (13.2.6.4.4).
-use Rattle.std.specs.Prelude.{◌≡◌, [], ◌∷◌, Bool, List, codes, false, not, true}
+use Rattle.std.specs.Prelude.{◌≡◌, [], ◌∷◌, Bool, List, codes, false, true}
 use Rattle.std.specs.Option.{option_map_or}
 use Rattle.standard_trees.specs.Building.{Building}
 use Rattle.standard_trees.specs.GrowingTree.{GrowingTree, place}
@@ -9,8 +9,9 @@ use Rattle.standard_trees.specs.RuleWords.{PopTemplateMode}
 use Rattle.standard_trees.specs.RuleWords.{PopUntil, PushTemplateMode, RawText, RcdataText, ResetMode, ScriptText, SwitchTo, Text}
 use Rattle.standard_trees.specs.RuleWords.{TextState}
 use Rattle.standard_trees.specs.RuleWords.{These, TokenizerTo}
-use Rattle.standard_trees.specs.TreeStore.{EndOf, Place, is_member}
+use Rattle.standard_trees.specs.TreeStore.{EndOf, Place}
 use Rattle.page_tokens.specs.declared.token.Tag.{Tag}
+use Rattle.standard_order.specs.Order.{head_is_closed}
 use Rattle.page_trees.specs.Constructs.{Constructs, IsCurrentTag, Outcome, WithinLimits}
 use Rattle.page_trees.specs.LateMerges.{HasHtml}
 use Rattle.page_trees.specs.declared.builder.Mode.{Mode}
@@ -71,10 +72,6 @@ content_mode Name.Tr = Mode.InTableBody
 content_mode Name.Td = Mode.InRow
 content_mode Name.Th = Mode.InRow
 content_mode _ = Mode.InBody
-
--- the head element is not open: where the rules push it onto the stack, it is there once
-abbrev pub head_is_closed : Building → Bool
-head_is_closed b = option_map_or (λ n. not (is_member n b.tree.stack)) b.tree.head true
 
 -- there, and where the outermost open element is `html`, a tag is processed by the rules for a mode, within the limits
 abbrev pub ProcessesTagBehindHead : StandardMode → Name → Tag → TreeBuilder → TreeBuilder → Next → Type 0

@@ -1,5 +1,5 @@
 -- What a later tag `html` or `body` does to the state of tree construction (13.2.6.4.7): its attributes are merged into the element.
-use Rattle.std.specs.Prelude.{◌≡◌, ◌++◌, ◌==◌, ◌∷◌, IfSome, List, None, Option, Some, [], codes, if◌then◌else◌, map, option_map, slice_get}
+use Rattle.std.specs.Prelude.{◌≡◌, ◌++◌, ◌==◌, ◌∷◌, IfSome, List, Option, Some, [], codes, if◌then◌else◌, map, option_map, slice_get}
 use Rattle.std.specs.Prelude.{slice_set}
 use Rattle.std.specs.Prelude.{Bool, true, ℕ}
 use Rattle.std.specs.List.{list_any}
@@ -12,7 +12,7 @@ use Rattle.page_tokens.specs.declared.attribute.TagAttr.{TagAttr}
 use Rattle.page_tokens.specs.declared.token.Tag.{Tag}
 use Rattle.page_trees.specs.Constructs.{Constructs, IsCurrentTag, Outcome, WithinLimits}
 use Rattle.page_trees.specs.Foreign.{attr_in}
-use Rattle.page_trees.specs.LateAttrs.{AddsAbsent, AreNamesOf, Knows, absent_in}
+use Rattle.page_trees.specs.LateAttrs.{AddsAbsent, AreNamesOf, absent_in}
 use Rattle.page_trees.specs.Modes.{is_start_kind}
 use Rattle.page_trees.specs.SameNodes.{attr_for}
 use Rattle.page_trees.specs.Stands.{Builds, late_names}

@@ -1,25 +1,28 @@
 -- What is done to the list of active formatting elements (13.2.4.3) as the definition does it, where the list has fewer entries than are
 -- searched by an index.
-use Rattle.std.specs.Prelude.{◌≡◌, Bool, None, Option, Some, [], ◌∷◌, List, codes, false, not, true, ℕ, ◌&&◌, ◌||◌, nat_eq}
+use Rattle.std.specs.Prelude.{◌≡◌, Bool, IfSome, None, Option, Some, [], ◌∷◌, List, codes, false, not, true, ℕ, ◌&&◌, ◌||◌, if◌then◌else◌}
+use Rattle.std.specs.Prelude.{nat_eq}
 use Rattle.std.specs.List.{list_any}
 use Rattle.std.specs.Option.{option_map}
 use Rattle.standard_trees.specs.Building.{Building, holds, is_present, own_name, perform}
-use Rattle.standard_trees.specs.Formatting.{adopted_for, adoption, before_in, enlisted, is_entry, is_listed, last_listed, last_special}
-use Rattle.standard_trees.specs.Formatting.{unlisted}
+use Rattle.standard_trees.specs.Formatting.{adopted_for, adoption, any_other_end, before_in, enlisted, is_entry, is_listed, last_listed}
+use Rattle.standard_trees.specs.Formatting.{last_special, unlisted}
 use Rattle.standard_trees.specs.GrowingTree.{Entry as StandardEntry, Formatting, GrowingTree, Marker, current, ends_scope, in_scope}
-use Rattle.standard_trees.specs.GrowingTree.{is_among}
+use Rattle.standard_trees.specs.GrowingTree.{is_among, unstacked}
 use Rattle.standard_trees.specs.GrowingTree.{is_one as is_one_of}
-use Rattle.standard_trees.specs.RuleWords.{Action, AdoptionAgency, Listed, Mode as StandardMode, Scope, These}
+use Rattle.standard_trees.specs.RuleWords.{Act, Action, AdoptionAgency, DropFound, FindListed, InScope, Listed, Mode as StandardMode}
+use Rattle.standard_trees.specs.RuleWords.{ReconstructFormatting, Scope, These, does, is}
 use Rattle.standard_trees.specs.TreeStore.{is_member}
 use Rattle.page_tokens.specs.declared.token.Tag.{Tag}
 use Rattle.page_trees.specs.Constructs.{Constructs, IsCurrentTag, Outcome, WithinLimits, all_performed}
 use Rattle.page_trees.specs.Formatting.{are_few}
 use Rattle.page_trees.specs.Modes.{is_start_kind}
 use Rattle.page_trees.specs.Names.{text_of}
-use Rattle.page_trees.specs.Stands.{Builds, formatting_names}
+use Rattle.page_trees.specs.Stands.{Builds, EntryStands, formatting_names}
 use Rattle.page_trees.specs.TreeState.{TreeState}
 use Rattle.page_trees.specs.declared.builder.Next.{Next}
 use Rattle.page_trees.specs.declared.builder.TreeBuilder.{TreeBuilder}
+use Rattle.page_trees.specs.declared.formatting.Entry.{Entry}
 use Rattle.page_trees.specs.declared.modes.groups.Group.{Group}
 use Rattle.page_trees.specs.declared.name.Name.{Name}
 use Rattle.page_trees.specs.declared.stack.Open.{Open}
@@ -52,11 +55,21 @@ abbrev pub Unlists : ℕ → TreeState → TreeState → Type 0
 Unlists n old new =
     (t : GrowingTree) → has_few t ≡ true → lists_once t.listed ≡ true → Builds old t → Builds new (unlisted n t)
 
+-- the element that is found is one of those that the rules add to the list
+abbrev pub FindsEntry : TreeState → Option Open → Type 0
+FindsEntry state found =
+    IfSome found (λ o. (t : GrowingTree) → has_few t ≡ true → Builds state t → EntryStands t.nodes (Entry.Element o))
+
+-- "remove the element from the stack of open elements": one of those that the rules add to the list
+abbrev pub Unstacks : Open → TreeState → TreeState → Type 0
+Unstacks o old new =
+    (t : GrowingTree) → EntryStands t.nodes (Entry.Element o) → Builds old t → Builds new (unstacked o.id t)
+
 -- ---- the adoption agency algorithm
 
--- there is a formatting element, and the algorithm ends without a furthest block
+-- the algorithm ends without a furthest block; where there is no formatting element, the tag is processed like any other end tag
 abbrev pub ends_simply : Option ℕ → GrowingTree → Bool
-ends_simply None t = false
+ends_simply None t = true
 ends_simply (Some n) t =
     not (is_member n t.stack) || (not (in_scope (nat_eq n) (ends_scope Scope t) t.stack)
     || not (is_present (last_special t None (before_in n t.stack))))
@@ -74,7 +87,7 @@ pub record IsRoundDone (name : List ℕ) (t : GrowingTree) (new : TreeState) : T
 -- what the outer loop does once: the algorithm is done, or the tag is to be processed like any other end tag, or there is a furthest block
 abbrev pub RoundEnd : List ℕ → GrowingTree → TreeState → Option Bool → Type 0
 RoundEnd name t new (Some true) = IsRoundDone name t new
-RoundEnd name t new (Some false) = listed_named name t ≡ None
+RoundEnd name t new (Some false) = (listed_named name t ≡ None) × Builds new t
 RoundEnd name t new None = ends_simply (listed_named name t) t ≡ false
 
 abbrev pub RoundEnds : Name → TreeState → TreeState → Option Bool → Type 0
@@ -87,11 +100,12 @@ agency_ends name t =
     has_few t && (lists_once t.listed && ((is_one_of t (name ∷ []) (current t) && not (is_listed t (current t))) ||
     ends_simply (listed_named name t) t))
 
--- the algorithm was run for an element of that name, and the tag needs no more
+-- the algorithm was run for an element of that name; where the tag is not handled yet, it is to be processed like any other end tag
 pub record IsAdopted (name : List ℕ) (t : GrowingTree) (new : TreeState) (handled : Bool) : Type 0 where
-  pub done : handled ≡ true
-  pub built : Builds new (adoption name t)
-  pub fosters : (adoption name t).fostering ≡ t.fostering
+  pub after : GrowingTree
+  pub built : Builds new after
+  pub fosters : after.fostering ≡ t.fostering
+  pub result : adoption name t ≡ (if handled then after else any_other_end name after)
 
 abbrev pub Adopts : Name → TreeState → TreeState → Bool → Type 0
 Adopts name old new handled =
@@ -147,6 +161,29 @@ abbrev pub ProcessesEndWhere : (Building → Bool) → StandardMode → Name →
 ProcessesEndWhere test mode name tag old new next =
     is_start_kind tag.kind ≡ false → WithinLimits new → (b : Building) → test b ≡ true → IsCurrentTag name tag b → Constructs old b →
     Outcome mode b new next
+
+-- "find the last `a` in the list; run the adoption agency algorithm; remove that element from the list and from the stack"
+abbrev pub dropping_a : List Act
+dropping_a = does (FindListed (These (codes "a" ∷ []))) [] ∷ does AdoptionAgency [] ∷ does DropFound [] ∷ []
+
+-- an `a` is in the list, and the adoption agency algorithm ends in its first round
+abbrev pub drops_a : Building → Bool
+drops_a b = holds (Listed (These (codes "a" ∷ []))) b && ends_adoption (perform (FindListed (These (codes "a" ∷ []))) b)
+
+abbrev pub starts_a : Building → Bool
+starts_a b = lists_no_a b || drops_a b
+
+-- "if a `nobr` is in scope, run the adoption agency algorithm"
+abbrev pub closing_nobr : List Act
+closing_nobr = does AdoptionAgency (is (InScope Scope (These (codes "nobr" ∷ []))) ∷ []) ∷ []
+
+-- if a `nobr` is in scope, the algorithm ends in its first round
+abbrev pub closes_nobr : Building → Bool
+closes_nobr b = lists_few b && (not (holds (InScope Scope (These (codes "nobr" ∷ []))) b) || ends_adoption b)
+
+-- The start tag `nobr` first reconstructs the active formatting elements.
+abbrev pub starts_nobr : Building → Bool
+starts_nobr b = closes_nobr (perform ReconstructFormatting b)
 
 -- the groups of formatting elements
 abbrev pub formats : Group → Bool

@@ -1,5 +1,5 @@
 -- The appropriate place for inserting a node (13.2.6.1). The lists of open elements go from the current node outwards.
-use Rattle.std.specs.Prelude.{ℕ, Bool, true, false, ◌==◌, ◌&&◌, List, [], ◌∷◌, Some, None, codes, length, nat_le, reverse, if◌then◌else◌}
+use Rattle.std.specs.Prelude.{ℕ, Bool, false, ◌==◌, ◌&&◌, List, [], ◌∷◌, Some, None, codes, length, nat_le, reverse, if◌then◌else◌}
 use Rattle.std.specs.Option.{unwrap_or}
 use Rattle.dom_links.specs.Forest.{Forest, parent}
 use Rattle.dom_links.specs.Sound.{contents_at}

@@ -3,7 +3,6 @@
 use Rattle.std.specs.Prelude.{◌≡◌, Bool, List, None, Option, Some, [], codes, length, map, unwrap_or, ℕ, ◌++◌, ◌∷◌, true}
 use Rattle.std.specs.Prelude.{encode_utf8_all, if◌then◌else◌}
 use Rattle.std.specs.Str.{bytes_eq}
-use Rattle.standard_tokens.specs.Tokens.{Doctype as DoctypeToken}
 use Rattle.standard_trees.specs.TreeStore.{AttrSpace, Before, CommentNode, ContentsNode, DoctypeNode, DocumentNode, ElementNode, EndOf}
 use Rattle.standard_trees.specs.TreeStore.{Html as HtmlSpace, Kind, MathMl as MathMlSpace, NoSpace, Node, NodeAttr, Place, Space}
 use Rattle.standard_trees.specs.TreeStore.{Svg as SvgSpace, TextNode, XLink as XLinkSpace, Xml as XmlSpace, XmlNs as XmlNsSpace, attrs_in}

@@ -1,5 +1,5 @@
 -- The search index over the stack of open elements.
-use Rattle.std.specs.Prelude.{ℕ, Bool, true, false, ◌≡◌, ◌+◌, ◌*◌, ◌<◌, ◌≤◌, ◌&&◌, not, eqb, if◌then◌else◌, List, length, map, take, Some, slice_get}
+use Rattle.std.specs.Prelude.{ℕ, Bool, ◌≡◌, ◌+◌, ◌*◌, ◌<◌, ◌≤◌, eqb, if◌then◌else◌, List, length, map, take, Some, slice_get}
 use denote.Enum.Declared.{tag_of}
 use Rattle.page_trees.specs.Links.{AreLinks}
 use Rattle.page_trees.specs.Scopes.{ends_items, is_name, last_place}
@@ -23,6 +23,10 @@ key_for in_html name number = name_number name number * 2 + (if in_html then 0 e
 
 abbrev pub key_of : Open → ℕ
 key_of o = key_for (is_in_html o.ns) o.name o.number
+
+-- an element with that name, which has that number if it is not in `Name`: an HTML element, or a foreign one
+abbrev pub has_key : Bool → Name → ℕ → Open → Bool
+has_key in_html name number o = eqb (key_of o) (key_for in_html name number)
 
 abbrev pub is_sought : Sought → Open → Bool
 is_sought Html o = is_in_html o.ns

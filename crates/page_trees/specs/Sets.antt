@@ -1,5 +1,5 @@
 -- Sets of elements that the HTML Standard names (13.2.4.2, 13.2.6): an open element is in one of the lists of standard_trees.
-use Rattle.std.specs.Prelude.{Bool, List, true, false, ℕ, [], ◌∷◌, codes, ◌&&◌, ◌||◌, not}
+use Rattle.std.specs.Prelude.{Bool, List, true, false, ℕ, ◌&&◌, ◌||◌, not}
 use Rattle.standard_trees.specs.Building.{adjusted}
 use Rattle.standard_trees.specs.GrowingTree.{is_among}
 use Rattle.standard_trees.specs.NameLists.{crossed_by_items, headings, html_points, implied, scope, special, svg_names, table_body_context}

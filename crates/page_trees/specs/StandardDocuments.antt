@@ -12,8 +12,8 @@ use Rattle.page_trees.specs.declared.reading.PageReader.{PageReader}
 
 -- what covered turns of tree construction come to is the Document as which the text is parsed
 abbrev pub CoveredPagesAreParsed : Type 0
-CoveredPagesAreParsed = (depth : ℕ) (scripting : Bool) (text : List ℕ) (all : List Token) (end : Building) →
-    IsCovered depth scripting text all end → IsDocumentOf scripting text (document_of end)
+CoveredPagesAreParsed = (cdata : Bool) (depth : ℕ) (scripting : Bool) (text : List ℕ) (all : List Token) (end : Building) →
+    IsCovered cdata depth scripting text all end → IsDocumentOf scripting text (document_of end)
 
 -- the text is parsed as the Document of the definition's state, and the tree is that Document
 pub record IsStandardTree (scripting : Bool) (text : List ℕ) (end : Building) (forest : Forest) (quirks : QuirksMode) : Type 0 where
@@ -23,5 +23,5 @@ pub record IsStandardTree (scripting : Bool) (text : List ℕ) (end : Building) 
 -- if what was read is a whole page that is covered, the tree is the one as which it is parsed
 abbrev pub FinishesPage : PageReader → BuiltTree → Type 0
 FinishesPage r built =
-    (scripting : Bool) (text : List ℕ) → HasBuilt scripting text r → (depth : ℕ) (all : List Token) (end : Building) →
-    IsCovered depth scripting text all end → IsStandardTree scripting text end built.tree built.quirks_mode
+    (scripting : Bool) (text : List ℕ) → HasBuilt scripting text r → (cdata : Bool) (depth : ℕ) (all : List Token) (end : Building) →
+    IsCovered cdata depth scripting text all end → IsStandardTree scripting text end built.tree built.quirks_mode

@@ -1,6 +1,6 @@
 -- How the state of tree construction stands for the one that standard_trees defines (13.2.4). Both number nodes in the order in which
 -- they are made, so the id of a node is its number there.
-use Rattle.std.specs.Prelude.{◌≡◌, ◌+◌, ◌≤◌, All, Bool, IfSome, List, None, Option, Some, [], ◌∷◌, codes, drop, false, encode_utf8_all}
+use Rattle.std.specs.Prelude.{◌≡◌, ◌≤◌, All, Bool, IfSome, List, None, Option, Some, [], ◌∷◌, codes, drop, false, encode_utf8_all}
 use Rattle.std.specs.Prelude.{if◌then◌else◌, length, map, reverse, string_bytes, true, ℕ, ◌&&◌}
 use Rattle.std.specs.Borrow.{Bor}
 use Rattle.std.specs.Option.{option_map_or}
@@ -19,6 +19,7 @@ use Rattle.dom_links.specs.declared.gap.InsertionPoint.{InsertionPoint}
 use Rattle.dom_links.specs.declared.gap.InsertionPoint.TheVariants.{Before as TheBefore, EndOf as TheEndOf}
 use Rattle.page_tokens.specs.declared.token.Tag.{Tag}
 use Rattle.page_trees.specs.Foreign.{attr_in, is_html_annotation, local_name_in}
+use Rattle.page_trees.specs.NameNumbers.{AreNumbered}
 use Rattle.page_trees.specs.Names.{name_of, text_of}
 use Rattle.page_trees.specs.Placing.{is_a_template}
 use Rattle.page_trees.specs.SameNodes.{AreNodes, attr_for, part_for}
@@ -40,6 +41,13 @@ pub record IsTagName (name : List ℕ) : Type 0 where
   pub lower_case : lower name ≡ name
   pub unspaced : is_member 32 name ≡ false
 
+-- The name of a tag is not in `Name`; this is its text, and these are the bytes of the text.
+pub record IsOtherName (name : Name) (bytes text : List ℕ) : Type 0 where
+  pub tag : IsTagName text
+  pub other : name ≡ Name.Other
+  pub unknown : name_of text ≡ Name.Other
+  pub spelt : bytes ≡ encode_utf8_all text
+
 -- an element with its name, its namespace and its attributes, as tree construction keeps it
 pub record IsOfKind (o : Open) (element : Kind) : Type 0 where
   pub written : List ℕ  -- the name of its tag
@@ -56,6 +64,7 @@ pub record IsTagOf (ns : ElementNamespace) (name : Name) (tag : Tag) (written : 
   pub tag_name : IsTagName written
   pub known : name ≡ name_of written
   pub local : local_name_in ns name (string_bytes tag.name) ≡ encode_utf8_all (local_for ns written)
+  pub spelt : name ≡ Name.Other → string_bytes tag.name ≡ encode_utf8_all written
   pub same_attrs : map (attr_in ns) tag.attrs.items ≡ map attr_for attrs
   pub point : (is_in_mathml ns && is_html_annotation ns name tag.attrs.items) ≡
       (is_named (codes "math annotation-xml" ∷ []) (ElementNode (space_of ns) (local_for ns written) attrs None)
@@ -159,6 +168,7 @@ point_at (Before p m) = TheBefore m
 pub record Builds (s : TreeState) (t : GrowingTree) : Type 0 where
   pub nodes : AreNodes t.nodes (completed s.late s.forest)
   pub stack : IsStackOf t s.stack
+  pub numbered : AreNumbered s.numbers t.nodes s.stack
   pub listed : IsListOf t.nodes t.listed s.formatting
   pub head : t.head ≡ s.head
   pub head_named : IsHeadNamed t.nodes t.head

@@ -1,14 +1,21 @@
 -- What the rules for the modes of tables do (13.2.6.4.9 to 13.2.6.4.15): the actions of steps that several rules share.
-use Rattle.std.specs.Prelude.{Bool, List, [], ◌∷◌, ◌&&◌, ◌||◌, codes, false, if◌then◌else◌, true, ℕ}
+use Rattle.std.specs.Prelude.{◌≡◌, Bool, List, [], ◌∷◌, ◌&&◌, ◌||◌, codes, false, if◌then◌else◌, true, ℕ}
+use Rattle.standard_trees.specs.Building.{Building, holds}
 use Rattle.standard_trees.specs.GrowingTree.{GrowingTree, current, has_in_scope, is_one}
-use Rattle.standard_trees.specs.RuleWords.{Action, ClearListToMarker, ImpliedEndTags, InRow, InTable, InTableBody, Pop, PopUntil, PopUpTo}
+use Rattle.standard_trees.specs.RuleWords.{Action, AttributeTypeHidden, ClearListToMarker, ImpliedEndTags, InRow, InTable, InTableBody}
+use Rattle.standard_trees.specs.RuleWords.{Mode as StandardMode}
+use Rattle.standard_trees.specs.RuleWords.{Pop, PopUntil, PopUpTo}
 use Rattle.standard_trees.specs.RuleWords.{ResetMode, SwitchTo, TableScope, These}
+use Rattle.page_tokens.specs.declared.token.Tag.{Tag}
 use Rattle.page_tokens.specs.declared.token.TagKind.{TagKind}
-use Rattle.page_trees.specs.BodyTags.{covers_body}
-use Rattle.page_trees.specs.Groups.{group_named, is_dropped_end_name, is_part_name}
+use Rattle.page_trees.specs.BodyTags.{covers_body, suits_body}
+use Rattle.page_trees.specs.Constructs.{Constructs, IsCurrentTag, Outcome, WithinLimits}
+use Rattle.page_trees.specs.FosteredTags.{fosters_tag}
+use Rattle.page_trees.specs.Groups.{is_dropped_end_name, is_part_name}
+use Rattle.page_trees.specs.LateMerges.{HasHtml}
 use Rattle.page_trees.specs.Sets.{context_names, is_one as is_one_open}
 use Rattle.page_trees.specs.declared.builder.Next.{Next}
-use Rattle.page_trees.specs.declared.modes.groups.Group.{Group}
+use Rattle.page_trees.specs.declared.builder.TreeBuilder.{TreeBuilder}
 use Rattle.page_trees.specs.declared.name.Name.{Name}
 use Rattle.page_trees.specs.declared.sets.TableContext.{TableContext}
 use Rattle.page_trees.specs.declared.stack.Open.{Open}
@@ -81,16 +88,10 @@ closing_cell names = ImpliedEndTags ∷ PopUntil (These names) ∷ ClearListToMa
 
 -- ---- which tags are covered
 
--- the groups of "in body" whose tags are covered in every state or in none
-abbrev pub is_stateless : Group → Bool
-is_stateless Group.A = false
-is_stateless Group.Formatting = false
-is_stateless Group.Nobr = false
-is_stateless _ = true
-
--- the tags of which it is stated that they are processed by the rules for "in body" in every state
-abbrev pub covers_content : Bool → Name → Bool
-covers_content start name = is_stateless (group_named name) && covers_body (if start then TagKind.Start else TagKind.End) name
+-- the tags of which it is stated that they are processed by the rules for "in body" in such a state
+abbrev pub covers_content : Bool → Name → Building → Bool
+covers_content true name b = covers_body TagKind.Start name && suits_body TagKind.Start name b
+covers_content false name b = covers_body TagKind.End name && suits_body TagKind.End name b
 
 abbrev pub names_table : Name → Bool
 names_table Name.Table = true
@@ -111,28 +112,45 @@ is_hidden_content_name Name.Script = true
 is_hidden_content_name Name.Template = true
 is_hidden_content_name _ = false
 
-abbrev pub covers_other : Name → Bool
-covers_other name = names_table name || is_hidden_content_name name
+-- "in table": the start tag of an `input` that is hidden
+abbrev pub is_hidden_input : Name → Building → Bool
+is_hidden_input Name.Input b = holds AttributeTypeHidden b
+is_hidden_input _ b = false
+
+-- or a start tag that is moved out of the table
+abbrev pub covers_input : Name → Building → Bool
+covers_input name b = is_hidden_input name b || fosters_tag b
+
+abbrev pub covers_other : Name → Building → Bool
+covers_other name b = names_table name || (is_hidden_content_name name || covers_input name b)
 
 -- the start tags, and the end tags, of which it is stated that they are processed by the rules for each mode
-abbrev pub covers_table : Bool → Name → Bool
-covers_table true name = is_part_name name || (names_form name || covers_other name)
-covers_table false name = is_ignored_end_name name || (names_table name || names_template name)
+abbrev pub covers_table : Bool → Name → Building → Bool
+covers_table true name b = is_part_name name || (names_form name || covers_other name b)
+covers_table false name b = is_ignored_end_name name || (names_table name || (names_template name || fosters_tag b))
 
-abbrev pub covers_caption : Bool → Name → Bool
-covers_caption true name = is_part_name name || covers_content true name
-covers_caption false name = is_ignored_end_name name || (names_table name || covers_content false name)
+-- what is left to the rules for "in body" depends on the state
+abbrev pub covers_caption : Bool → Name → Building → Bool
+covers_caption true name b = is_part_name name || covers_content true name b
+covers_caption false name b = is_ignored_end_name name || (names_table name || covers_content false name b)
 
 abbrev pub covers_group : Name → Bool
 covers_group name = true
 
-abbrev pub covers_table_body : Bool → Name → Bool
-covers_table_body true name = is_part_name name || covers_table true name
-covers_table_body false name = is_ignored_end_name name || (names_table name || covers_table false name)
+abbrev pub covers_table_body : Bool → Name → Building → Bool
+covers_table_body true name b = is_part_name name || covers_table true name b
+covers_table_body false name b = is_ignored_end_name name || (names_table name || covers_table false name b)
 
-abbrev pub covers_row : Bool → Name → Bool
-covers_row start name = covers_table_body start name
+abbrev pub covers_row : Bool → Name → Building → Bool
+covers_row start name b = covers_table_body start name b
 
-abbrev pub covers_cell : Bool → Name → Bool
-covers_cell true name = is_part_name name || covers_content true name
-covers_cell false name = is_ignored_end_name name || (names_table name || covers_content false name)
+abbrev pub covers_cell : Bool → Name → Building → Bool
+covers_cell true name b = is_part_name name || covers_content true name b
+covers_cell false name b = is_ignored_end_name name || (names_table name || covers_content false name b)
+
+-- Within the limits, and where the outermost open element is `html`, a tag is processed by the rules for a mode, if its name and the state
+-- pass a test.
+abbrev pub ProcessesTagWhere : (Name → Building → Bool) → StandardMode → Name → Tag → TreeBuilder → TreeBuilder → Next → Type 0
+ProcessesTagWhere test mode name tag old new next =
+    WithinLimits new → (b : Building) → IsCurrentTag name tag b → HasHtml b → test name b ≡ true → Constructs old b →
+    Outcome mode b new next

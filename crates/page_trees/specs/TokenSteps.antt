@@ -1,6 +1,6 @@
 -- What a function does that processes a token which is no tag: actions of the rules for that token, the rules for a mode, or a whole step
 -- of tree construction (13.2.6).
-use Rattle.std.specs.Prelude.{◌≡◌, ◌∷◌, Bool, List, None, Option, Some, [], false, true, ℕ}
+use Rattle.std.specs.Prelude.{◌≡◌, ◌∷◌, Bool, List, None, Some, [], false, true, ℕ}
 use Rattle.standard_tokens.specs.Tokens.{AComment, Token}
 use Rattle.standard_trees.specs.Building.{Building, tree_step}
 use Rattle.standard_trees.specs.RuleWords.{Action, AfterBody, Dispatcher, InsertCommentInHtml, Mode as StandardMode}
@@ -88,6 +88,7 @@ at_end Mode.InHead = AtEnd.Leave
 at_end Mode.InHeadNoscript = AtEnd.Leave
 at_end Mode.AfterHead = AtEnd.Leave
 at_end Mode.Text = AtEnd.EndText
+at_end Mode.InTableText = AtEnd.EndTableText
 at_end Mode.AfterBody = AtEnd.Stop
 at_end Mode.InFrameset = AtEnd.Stop
 at_end Mode.AfterFrameset = AtEnd.Stop

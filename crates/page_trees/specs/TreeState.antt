@@ -23,6 +23,7 @@ pub record Late : Type 0 where
 pub record TreeState : Type 0 where
   pub forest : Forest
   pub stack : List Open  -- the stack of open elements, the outermost first
+  pub numbers : List (List ℕ × ℕ)  -- the numbers of element names that are not in `Name`
   pub formatting : List Entry  -- the list of active formatting elements, the oldest first
   pub head : Option ℕ  -- the head element pointer
   pub form : FormPointer  -- the form element pointer
@@ -44,6 +45,7 @@ abbrev pub fresh_state : Forest → TreeState
 fresh_state forest = record {
   forest = forest;
   stack = [];
+  numbers = [];
   formatting = [];
   head = None;
   form = NoForm;

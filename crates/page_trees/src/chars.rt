@@ -1,24 +1,30 @@
 //! Character tokens, which come as runs.
 
 ghost use Rattle.std.specs.Prelude.{List, encode_utf8_all, false, length, map, not, true, ℕ, ◌∷◌};
-ghost use Rattle.std.specs.Prelude.{◌≡◌};
+ghost use Rattle.std.specs.Prelude.{[], ◌++◌, ◌≡◌, OnOk, string_bytes};
 ghost use Rattle.std.specs.List.{list_any};
 ghost use Rattle.standard_tokens.specs.Tokens.{AChar};
 ghost use Rattle.standard_trees.specs.Building.{is_space};
+ghost use Rattle.standard_trees.specs.RuleWords.{EmptyPending, InTableText, KeepMode, SwitchTo};
 ghost use Rattle.page_trees.specs.CharacterTexts.{TakesPiece, TakesText, front_spaces, is_text};
 ghost use Rattle.page_trees.specs.CharacterTexts.{past_spaces, unskipped};
 ghost use Rattle.page_trees.specs.CoveredTurns.{TakesTokens};
 ghost use Rattle.page_trees.specs.CharacterSteps.{Inserts, InsertsInBody, InsertsLetters, IsRun};
 ghost use Rattle.page_trees.specs.CharacterSteps.{ProcessesForeignRun, ProcessesRun};
 ghost use Rattle.page_trees.specs.CharacterSteps.{ProcessesRunInMode, goes_to_mode, is_null};
+ghost use Rattle.page_trees.specs.CharacterSteps.{has_no_null, is_run, keeps_text};
 ghost use Rattle.page_trees.specs.CharacterSteps.{way_of, way_of_letters, way_of_nulls};
 ghost use Rattle.page_trees.specs.CharacterSteps.{way_of_spaces};
-ghost use Rattle.page_trees.specs.Constructs.{Leaves, RemembersLimits};
+ghost use Rattle.page_trees.specs.Constructs.{Leaves, Performs, RemembersLimits};
 ghost use Rattle.page_trees.specs.Modes.{drops_letters, holds_table_text, joins_spaces};
 ghost use Rattle.page_trees.specs.Stands.{Tells};
+ghost use Rattle.page_trees.specs.TableTexts.{AddsToPending, FostersRun, PlacesText, SettlesText};
+ghost use Rattle.page_trees.specs.TableTexts.{holds_letters};
 ghost use Rattle.page_trees.specs.TokenSteps.{keeps_characters};
-ghost use Rattle.page_trees.specs.declared.builder.Next.TheVariants.{Done as IsDone};
+ghost use Rattle.page_trees.specs.declared.builder.Mode.TheVariants.{InTableText as IsTableText};
+ghost use Rattle.page_trees.specs.declared.builder.Next.TheVariants.{Again, Done as IsDone};
 ghost use Rattle.page_trees.specs.declared.chars.Run.TheVariants.{Spaces};
+ghost use Rattle.page_trees.specs.declared.chars.RunWay.TheVariants.{Table as IsTable};
 
 use crate::builder::{Mode, Next, TreeBuilder};
 use crate::fault::PageFault;
@@ -128,7 +134,7 @@ fn drops_letters(mode: Mode) -> bool
 }
 
 /// Returns whether characters are pending in this mode.
-fn keeps_characters(mode: Mode) -> bool
+pub fn keeps_characters(mode: Mode) -> bool
     ensures { result ≡ keeps_characters mode }
 {
     matches!(mode, Mode::InTableText)
@@ -139,6 +145,23 @@ fn is_text(mode: Mode) -> bool
     ensures { result ≡ is_text mode }
 {
     matches!(mode, Mode::Text)
+}
+
+/// Returns whether a run holds characters that are neither whitespace nor nulls.
+fn holds_letters(kind: Run) -> bool
+    ensures { result ≡ holds_letters kind }
+{
+    matches!(kind, Run::Letters)
+}
+
+/// Appends characters to a text.
+fn push_text(text: &mut String, more: &str) -> Result<(), PageFault>
+    ensures { OnOk result (string_bytes text.new ≡ string_bytes text.old ++ more.now) }
+{
+    match text.push_str(more) {
+        Ok(_) => Ok(()),
+        Err(_) => Err(PageFault::Memory),
+    }
 }
 
 /// Returns whether characters in that element are pending table character tokens.
@@ -457,36 +480,84 @@ impl TreeBuilder {
         Next::Done
     }
 
-    fn table_run(&mut self, kind: Run, text: &str) -> Next {
-        if let Some(open) = self.tree.open().current()
-            && holds_table_text(&open)
-        {
-            self.table_text.clear();
-            self.table_text_has_letters = false;
-            self.original = self.mode;
-            return self.again_in(Mode::InTableText);
+    /// Processes a run by the rules for "in table".
+    fn table_run(&mut self, kind: Run, text: &str) -> Next
+        ensures { way_of kind self.old.mode ≡ IsTable → (c : ℕ) (cs : List ℕ) →
+            IsRun kind self.old.mode text.now c cs →
+            ProcessesRunInMode kind c cs self.old self.new result }
+    {
+        if self.keeps_table_text() {
+            return self.begin_table_text();
         }
-        self.fostered(Token::Run(kind, text))
+        self.fostered_run(kind, text)
+    }
+
+    /// Returns whether characters in the current node are pending table character tokens.
+    fn keeps_table_text(&self) -> bool
+        ensures { Tells keeps_text self.now.tree result }
+    {
+        match self.tree.open().current() {
+            Some(open) => holds_table_text(&open),
+            None => false,
+        }
+    }
+
+    /// Begins with pending table character tokens, and reprocesses the first one.
+    fn begin_table_text(&mut self) -> Next
+        ensures next { result ≡ Again }
+        ensures limits { RemembersLimits self.old self.new }
+        ensures mode { self.new.mode ≡ IsTableText }
+        ensures rule { Performs (EmptyPending ∷ KeepMode ∷ SwitchTo InTableText ∷ [])
+            self.old self.new }
+    {
+        self.table_text.clear();
+        self.table_text_has_letters = false;
+        self.original = self.mode;
+        self.again_in(Mode::InTableText)
     }
 
     /// Appends to the pending table character tokens.
-    fn pending_run(&mut self, kind: Run, text: &str) -> Next {
-        if kind == Run::Letters {
-            self.table_text_has_letters = true;
-        }
-        if self.table_text.push_str(text).is_err() {
-            self.keep(Err(PageFault::Memory));
-        }
+    fn pending_run(&mut self, kind: Run, text: &str) -> Next
+        ensures next { result ≡ IsDone }
+        ensures limits { RemembersLimits self.old self.new }
+        ensures rule { (cs : List ℕ) → text.now ≡ encode_utf8_all cs → is_run kind cs ≡ true →
+            has_no_null cs ≡ true → AddsToPending cs self.old self.new }
+    {
+        self.table_text_has_letters |= holds_letters(kind);
+        let put = push_text(&mut self.table_text, text);
+        self.keep(put);
         Next::Done
+    }
+
+    /// Processes characters that can't be in a table by the rules for "in body", with foster
+    /// parenting.
+    fn fostered_run(&mut self, kind: Run, text: &str) -> Next
+        ensures next { result ≡ IsDone }
+        ensures limits { RemembersLimits self.old self.new }
+        ensures rule { (c : ℕ) (cs : List ℕ) → text.now ≡ encode_utf8_all (c ∷ cs) →
+            FostersRun kind (c ∷ cs) self.old self.new }
+    {
+        self.placing.foster = true;
+        let next = self.body_run(kind, text);
+        self.placing.foster = false;
+        next
+    }
+
+    /// Processes the pending table character tokens, and then the token that comes after them.
+    pub fn leave_table_text(&mut self) -> Next
+        ensures next { result ≡ Again }
+        ensures limits { RemembersLimits self.old self.new }
+        ensures rule { SettlesText self.old self.new }
+    {
+        self.flush_table_text();
+        Next::Again
     }
 
     /// Processes the pending table character tokens, because another token comes.
     pub fn flush_table_text(&mut self)
-        ensures same { keeps_characters self.old.mode ≡ false → self.new ≡ self.old }
+        ensures limits { RemembersLimits self.old self.new }
+        ensures rule { SettlesText self.old self.new }
     {
-        if !keeps_characters(self.mode) {
-            return;
-        }
         self.mode = self.original;
         let text = mem::replace(&mut self.table_text, String::new(self.alloc));
         self.put_table_text(text.as_str())
@@ -494,13 +565,17 @@ impl TreeBuilder {
 
     /// Inserts pending table characters into the table if they are whitespace, and otherwise before
     /// it (foster parenting).
-    fn put_table_text(&mut self, text: &str) {
+    fn put_table_text(&mut self, text: &str)
+        ensures limits { RemembersLimits self.old self.new }
+        ensures rule { (cs : List ℕ) → text.now ≡ encode_utf8_all cs →
+            PlacesText cs self.old self.new }
+    {
         if text.is_empty() {
             return;
         }
         if !self.table_text_has_letters {
             return self.put_text(text);
         }
-        self.fostered(Token::Run(Run::Letters, text));
+        self.fostered_run(Run::Letters, text);
     }
 }

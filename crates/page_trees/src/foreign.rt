@@ -1,12 +1,17 @@
 //! Foreign content: SVG and MathML (13.2.6.5).
 
-ghost use Rattle.std.specs.Prelude.{◌≡◌, ◌&&◌, not};
-ghost use Rattle.standard_trees.specs.GrowingTree.{in_foreign};
+ghost use Rattle.std.specs.Prelude.{◌≡◌, ◌&&◌, false, not, true};
+ghost use Rattle.standard_trees.specs.GrowingTree.{GrowingTree as StandardTree};
+ghost use Rattle.standard_trees.specs.GrowingTree.{adjusted_current, in_foreign};
+ghost use Rattle.standard_trees.specs.TreeStore.{space_in};
+ghost use Rattle.page_trees.specs.CoveredTurns.{LeavesForeign, ProcessesForeign};
 ghost use Rattle.page_trees.specs.Foreign.{ends_foreign, is_foreign_to, is_glyph_name};
 ghost use Rattle.page_trees.specs.Foreign.{names_annotation, names_svg, takes_start};
+ghost use Rattle.page_trees.specs.ForeignSteps.{leaves_foreign_name};
 ghost use Rattle.page_trees.specs.Sets.{has_foreign_content, is_a_text_point, is_an_html_point};
-ghost use Rattle.page_trees.specs.Sets.{is_in_html};
-ghost use Rattle.page_trees.specs.Stands.{Tells};
+ghost use Rattle.page_trees.specs.Modes.{is_start_kind};
+ghost use Rattle.page_trees.specs.Sets.{is_in_html, space_of};
+ghost use Rattle.page_trees.specs.Stands.{Builds, Tells};
 ghost use Rattle.page_trees.specs.TagSteps.{DispatchesTag};
 
 use crate::attributes::value_of;
@@ -149,29 +154,52 @@ impl TreeBuilder {
         }
     }
 
-    pub fn foreign_tag(&mut self, name: Name, tag: &Tag) -> Next {
+    /// Processes a tag by the rules for foreign content.
+    pub fn foreign_tag(&mut self, name: Name, tag: &Tag) -> Next
+        ensures rule { ProcessesForeign name tag.now self.old self.new result }
+    {
         match tag.kind {
             TagKind::Start => self.foreign_start(name, tag),
             TagKind::End => self.foreign_end(name, tag),
         }
     }
 
-    fn foreign_start(&mut self, name: Name, tag: &Tag) -> Next {
+    fn foreign_start(&mut self, name: Name, tag: &Tag) -> Next
+        ensures rule { is_start_kind tag.now.kind ≡ true →
+            ProcessesForeign name tag.now self.old self.new result }
+    {
         if ends_foreign(name, tag) {
-            self.tree.pop_foreign();
-            return self.html_tag(name, tag);
+            return self.leave_foreign(name, tag);
         }
-        let ns = match self.tree.adjusted_current() {
-            Some(open) => open.ns,
-            None => ElementNamespace::Html,
-        };
+        let ns = self.current_namespace();
         self.insert_foreign(ns, name, tag)
     }
 
-    fn foreign_end(&mut self, name: Name, tag: &Tag) -> Next {
-        if matches!(name, Name::Br | Name::P) {
-            self.tree.pop_foreign();
-            return self.html_tag(name, tag);
+    /// Leaves foreign content, and processes the tag by the rules for the current insertion mode.
+    fn leave_foreign(&mut self, name: Name, tag: &Tag) -> Next
+        ensures rule { LeavesForeign name tag.now self.old self.new result }
+    {
+        self.tree.pop_foreign();
+        self.html_tag(name, tag)
+    }
+
+    /// Returns the namespace of the adjusted current node.
+    fn current_namespace(&self) -> ElementNamespace
+        ensures { (t : StandardTree) → Builds self.now.tree t →
+            space_of result ≡ space_in (adjusted_current t) }
+    {
+        match self.tree.adjusted_current() {
+            Some(open) => open.ns,
+            None => ElementNamespace::Html,
+        }
+    }
+
+    fn foreign_end(&mut self, name: Name, tag: &Tag) -> Next
+        ensures rule { is_start_kind tag.now.kind ≡ false →
+            ProcessesForeign name tag.now self.old self.new result }
+    {
+        if is_foreign_break(name) {
+            return self.leave_foreign(name, tag);
         }
         match self.tree.foreign_end(name, tag.name.as_str()) {
             ForeignEnd::At(place) => {
@@ -182,4 +210,11 @@ impl TreeBuilder {
             ForeignEnd::Nowhere => Next::Done,
         }
     }
+}
+
+/// Returns whether the name is of one of the end tags that leave foreign content.
+fn is_foreign_break(name: Name) -> bool
+    ensures { result ≡ leaves_foreign_name name }
+{
+    matches!(name, Name::Br | Name::P)
 }

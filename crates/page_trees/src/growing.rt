@@ -2,7 +2,8 @@
 //! elements, the list of active formatting elements, and the head and form element pointers. A call
 //! that returns a `Result` fails only when memory or node ids run out.
 
-ghost use Rattle.std.specs.Prelude.{◌≡◌, ◌<◌, ◌≤◌, ◌||◌, [], ◌∷◌, IfErr, IfOk, IfSome, List, OnOk};
+ghost use Rattle.std.specs.Prelude.{◌≡◌, ◌<◌, ◌≤◌, ◌&&◌, ◌||◌, [], ◌∷◌, IfErr, IfOk, IfSome};
+ghost use Rattle.std.specs.Prelude.{List, OnOk};
 ghost use Rattle.std.specs.Prelude.{codes, encode_utf8_all, false, length, not, slice_get, true, ℕ};
 ghost use Rattle.std.specs.Option.{is_some, option_and_then, option_map, option_map_or};
 ghost use Rattle.dom_links.specs.Forest.{parent};
@@ -12,10 +13,12 @@ ghost use Rattle.dom_nodes.specs.declared.node_data.NodeData.TheVariants.{Docume
 ghost use Rattle.dom_nodes.specs.declared.node_data.NodeData.TheVariants.{Fragment as TheFragment};
 ghost use Rattle.page_trees.specs.DocumentTrees.{IsTreeOf};
 ghost use Rattle.page_trees.specs.Elements.{IsElement, IsRooted};
+ghost use Rattle.page_trees.specs.FormEnds.{without_form};
 ghost use Rattle.page_trees.specs.Formatting.{element_in};
 ghost use Rattle.page_trees.specs.LateMerges.{CommentsInHtml, MergesInto, id_at, is_open};
-ghost use Rattle.page_trees.specs.Listing.{FindsListed};
+ghost use Rattle.page_trees.specs.Listing.{FindsEntry, FindsListed};
 ghost use Rattle.page_trees.specs.Modes.{points_nowhere};
+ghost use Rattle.page_trees.specs.NameNumbers.{IsNumberFor};
 ghost use Rattle.page_trees.specs.Names.{text_of};
 ghost use Rattle.page_trees.specs.TextPlaces.{is_in_root, is_zero};
 ghost use Rattle.page_trees.specs.Placing.{is_at_top};
@@ -35,7 +38,8 @@ ghost use Rattle.page_trees.specs.declared.fault.PageFault.TheVariants.{Memory a
 ghost use Rattle.page_trees.specs.declared.name.Name.TheVariants.{Other};
 ghost use Rattle.standard_tokens.specs.Tokens.{Doctype};
 ghost use Rattle.standard_trees.specs.Building.{Building, empty_tree, is_present, is_set};
-ghost use Rattle.standard_trees.specs.GrowingTree.{GrowingTree as StandardTree};
+ghost use Rattle.standard_trees.specs.Formatting.{form_ended};
+ghost use Rattle.standard_trees.specs.GrowingTree.{FormAt, GrowingTree as StandardTree};
 ghost use Rattle.standard_trees.specs.GrowingTree.{adjusted_current, created_at, current};
 ghost use Rattle.standard_trees.specs.GrowingTree.{inserted_at, is_named, is_one};
 ghost use Rattle.standard_trees.specs.GrowingTree.{with_chars, with_comment};
@@ -45,6 +49,7 @@ ghost use Rattle.standard_trees.specs.TreeStore.{DoctypeNode, NodeAttr};
 mod adopting;
 mod edits;
 mod late;
+mod others;
 mod placing;
 mod popping;
 
@@ -60,6 +65,7 @@ use dom_trees::quirks::QuirksMode;
 use dom_trees::tree::Tree;
 use edits::{cut_out, is_forest, put_comment, put_copy, put_doctype, put_element, put_text};
 use late::LateTags;
+use others::OtherNames;
 use page_tokens::token::Tag;
 use placing::{gap, gap_in};
 pub use placing::{Placing, is_foster_target, is_template};
@@ -84,6 +90,8 @@ pub struct GrowingTree {
     errors: Vec<String>,
     quirks_mode: QuirksMode,
     stack: OpenElements,
+    /// The numbers of the open elements' names that are not in `Name`.
+    others: OtherNames,
     formatting: ActiveFormatting,
     head: Option<NodeId>,
     form: FormPointer,
@@ -95,6 +103,7 @@ pub struct GrowingTree {
 
 impl Model for GrowingTree {
     ghost use Rattle.page_trees.specs.Elements.{AreElements};
+    ghost use Rattle.page_trees.specs.NameNumbers.{numbers_of};
     ghost use Rattle.page_trees.specs.SearchIndex.{IsIndexed};
     ghost use Rattle.page_trees.specs.TreeState.{TreeState, late_of};
 
@@ -103,6 +112,7 @@ impl Model for GrowingTree {
     ghost view = { λ t. record {
       forest = t.tree;
       stack = t.stack.elements.items;
+      numbers = numbers_of t.others.numbers.entries;
       formatting = t.formatting.entries.items;
       head = t.head;
       form = t.form;
@@ -144,6 +154,7 @@ impl GrowingTree {
             errors: Vec::new(alloc),
             quirks_mode: QuirksMode::NoQuirks,
             stack: OpenElements::new(alloc),
+            others: OtherNames::new(alloc),
             formatting: ActiveFormatting::new(alloc),
             head: None,
             form: FormPointer::None,
@@ -210,6 +221,16 @@ impl GrowingTree {
         self.stack.has(Name::Template)
     }
 
+    /// Returns whether a `form` outside tables is ignored, because a form is open and no template.
+    pub fn is_in_form(&self) -> bool
+        ensures { Tells (λ t. is_set t.form && not (is_open (codes "template") t)) self.now result }
+    {
+        if !self.has_form() {
+            return false;
+        }
+        !self.stack.has(Name::Template)
+    }
+
     pub fn context(&self) -> Option<Open>
         ensures { result ≡ self.now.context }
     {
@@ -252,7 +273,8 @@ impl GrowingTree {
 
     /// Returns the last active formatting element with that name after the last marker.
     pub fn formatting_named(&self, name: Name) -> Option<Open>
-        ensures { is_name name Other ≡ false → FindsListed name self.now result }
+        ensures rule { is_name name Other ≡ false → FindsListed name self.now result }
+        ensures entry { FindsEntry self.now result }
     {
         self.formatting.named(name)
     }
@@ -303,10 +325,14 @@ impl GrowingTree {
 
     /// Returns the number for a name that is not in `Name`, and 0 for any other.
     fn number_of(&mut self, name: Name, written: &str) -> Result<u32, PageFault>
-        ensures { self.new ≡ self.old }
+        ensures rest { self.new ≡ record self.old { numbers = self.new.numbers } }
+        ensures number { IfOk result (λ number.
+            IsNumberFor name written.now number self.old.numbers self.new.numbers) }
     {
-        let alloc = self.tree.allocator();
-        self.stack.number_of(alloc, name, written)
+        if name != Name::Other {
+            return Ok(0);
+        }
+        self.others.number_of(self.tree.allocator(), written)
     }
 
     /// Inserts the element of a tag, and pushes it onto the stack of open elements.
@@ -385,18 +411,33 @@ impl GrowingTree {
         self.form = FormPointer::Context;
     }
 
-    /// Resets the form element pointer, and closes the form if it is in scope.
-    pub fn end_form(&mut self) {
+    /// Resets the form element pointer, and removes the form that it pointed to from the stack, if
+    /// the form is in scope.
+    pub fn end_form(&mut self)
+        ensures { Does without_form self.old self.new }
+    {
         let form = self.form;
         self.form = FormPointer::None;
-        if let FormPointer::Element(id) = form
-            && let Some(place) = self.stack.place_among(Name::Form, id)
-            && self.stack.is_in_scope(place)
-        {
-            self.generate_implied_end_tags(None);
-            self.remove_at(place);
-            self.mark();
+        if let FormPointer::Element(id) = form {
+            self.close_form(id);
         }
+    }
+
+    /// Generates implied end tags and removes a form from the stack, if the form is in scope.
+    fn close_form(&mut self, id: NodeId)
+        ensures { (t : StandardTree) → is_one t (codes "form" ∷ []) id ≡ true →
+            Builds self.old t → Builds self.new (form_ended (FormAt id) t) }
+    {
+        let Some(place) = self.stack.place_among(Name::Form, id) else {
+            return;
+        };
+        if !self.stack.is_in_scope(place) {
+            return;
+        }
+        let count = self.stack.depth_of_implied(None);
+        self.truncate(count);
+        self.remove_at(place);
+        self.mark();
     }
 
     /// Inserts characters. The document itself can't have text, so characters there are ignored.

@@ -10,6 +10,7 @@ ghost use Rattle.standard_trees.specs.TreeStore.{EndOf};
 ghost use Rattle.page_trees.specs.CharacterSteps.{Inserts};
 ghost use Rattle.page_trees.specs.Constructs.{Performs, PerformsFor};
 ghost use Rattle.page_trees.specs.Constructs.{RemembersLimits, implying, is_entered_plainly};
+ghost use Rattle.page_trees.specs.ForeignSteps.{InsertsForeign};
 ghost use Rattle.page_trees.specs.HeadSteps.{place_in_head};
 ghost use Rattle.page_trees.specs.LateMerges.{MergesTagInto, id_at};
 ghost use Rattle.page_trees.specs.Listing.{AdoptsFor};
@@ -137,7 +138,11 @@ impl TreeBuilder {
     }
 
     /// Inserts a foreign element, which is closed at once if its tag is self-closing.
-    pub fn insert_foreign(&mut self, ns: ElementNamespace, name: Name, tag: &Tag) -> Next {
+    pub fn insert_foreign(&mut self, ns: ElementNamespace, name: Name, tag: &Tag) -> Next
+        ensures next { result ≡ IsDone }
+        ensures limits { RemembersLimits self.old self.new }
+        ensures rule { InsertsForeign ns name tag.now self.old self.new }
+    {
         self.insert_in(ns, name, tag);
         if tag.self_closing {
             self.tree.pop();

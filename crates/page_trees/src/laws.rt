@@ -2,6 +2,7 @@
 //! theorems.
 
 ghost use Rattle.page_trees.specs.DocumentTrees.{StandsForOneDocument};
+ghost use Rattle.page_trees.specs.OrderlyTurns.{TurnsAreOrderly};
 ghost use Rattle.page_trees.specs.ShapeExamples.{PagesAreShaped};
 ghost use Rattle.page_trees.specs.StandardDocuments.{CoveredPagesAreParsed};
 
@@ -29,3 +30,9 @@ pub fn covered_pages_are_parsed()
     // A law, called for its contract alone.
     texts_are_built_of_tokens();
 }
+
+/// Whatever tokens come, each turn of tree construction begins in an orderly state.
+#[tactic(auto, using(crate::proofs::OrderlyPages::turns_are_orderly))]
+pub fn turns_are_orderly()
+    ensures { TurnsAreOrderly }
+{}

@@ -3,6 +3,7 @@
 ghost use Rattle.std.specs.Prelude.{IfOk, [], false, string_bytes, true, ◌∷◌, ◌≡◌};
 ghost use Rattle.standard_tokens.specs.Machine.{Tag as StandardTag, token_of};
 ghost use Rattle.standard_trees.specs.RuleWords.{InsertElement, Text, TextState};
+ghost use Rattle.page_tokens.specs.PlainNames.{has_plain_names};
 ghost use Rattle.page_tokens.specs.Standard.{IsTag};
 ghost use Rattle.page_trees.specs.Constructs.{Performs, PerformsFor, ProcessesTag, RemembersLimits};
 ghost use Rattle.page_trees.specs.Constructs.{state_for};
@@ -11,9 +12,8 @@ ghost use Rattle.page_trees.specs.CoveredTurns.{ProcessesToken, TakesTokens};
 ghost use Rattle.page_trees.specs.HeadSteps.{reading_text};
 ghost use Rattle.page_trees.specs.Modes.{is_start_kind, mode_of, next_of};
 ghost use Rattle.page_trees.specs.Names.{name_of};
-ghost use Rattle.page_trees.specs.Stands.{IsTagName};
 ghost use Rattle.page_trees.specs.TagSteps.{is_outer};
-ghost use Rattle.page_trees.specs.TokenSteps.{ReturnsPlainly, keeps_characters};
+ghost use Rattle.page_trees.specs.TokenSteps.{ReturnsPlainly};
 ghost use Rattle.page_trees.specs.declared.builder.Mode.TheVariants.{Text as IsText};
 ghost use Rattle.page_trees.specs.declared.modes.Token.TheVariants.{Tag as TheTag};
 ghost use Rattle.page_trees.specs.declared.builder.Next.TheVariants.{Done as IsDone};
@@ -53,22 +53,11 @@ impl TreeBuilder {
     pub fn tag(&mut self, tag: &Tag)
         ensures limits { RemembersLimits self.old self.new }
         ensures rule { (standard : StandardTag) → IsTag standard tag.now →
-            IsTagName standard.name → TakesTokens (token_of standard ∷ []) self.old self.new }
+            has_plain_names (token_of standard) ≡ true →
+            TakesTokens (token_of standard ∷ []) self.old self.new }
     {
         self.skip_line_feed = false;
-        self.settle_table_text();
         self.process_tag(tag);
-    }
-
-    /// Processes the pending table character tokens, because another token comes. Limits that were
-    /// met stay noted.
-    pub fn settle_table_text(&mut self)
-        ensures limits { RemembersLimits self.old self.new }
-        ensures same { keeps_characters self.old.mode ≡ false → self.new ≡ self.old }
-    {
-        let before = self.met();
-        self.flush_table_text();
-        self.note_met(before);
     }
 
     /// Processes a tag after its name is looked up.
@@ -122,15 +111,6 @@ impl TreeBuilder {
         }
     }
 
-    /// Processes a token by the rules for "in body".
-    fn body_step(&mut self, token: Token<'_>) -> Next {
-        match token {
-            Token::Tag(name, tag) => self.body_tag(name, tag),
-            Token::Run(kind, text) => self.body_run(kind, text),
-            Token::End => Next::Done,
-        }
-    }
-
     fn tag_step(&mut self, name: Name, tag: &Tag) -> Next
         ensures rule { DispatchesCovered name tag.now self.old self.new result }
     {
@@ -148,7 +128,8 @@ impl TreeBuilder {
         match self.mode {
             Mode::InBody => self.body_tag(name, tag),
             Mode::Text => self.text_tag(tag),
-            Mode::InTable | Mode::InTableText => self.table_tag(name, tag),
+            Mode::InTable => self.table_tag(name, tag),
+            Mode::InTableText => self.leave_table_text(),
             Mode::InCaption => self.caption_tag(name, tag),
             Mode::InColumnGroup => self.column_group_tag(name, tag),
             Mode::InTableBody => self.table_body_tag(name, tag),

@@ -1,7 +1,7 @@
 //! Parsing a page or a fragment, whole or in pieces: tokens go to tree construction. Start at
 //! `PageReader`.
 
-ghost use Rattle.std.specs.Prelude.{◌≡◌, ◌++◌, None, false, if◌then◌else◌};
+ghost use Rattle.std.specs.Prelude.{◌≡◌, ◌≤◌, ◌≢◌, ◌++◌, ◌-◌, None, false, if◌then◌else◌};
 ghost use Rattle.standard_trees.specs.Parsing.{state_among};
 ghost use Rattle.standard_trees.specs.TreeRules.{first_states};
 ghost use Rattle.page_tokens.specs.StandardStates.{state_of};
@@ -65,25 +65,25 @@ pub struct PageReader {
 
 impl PageReader {
     ghost use Rattle.std.specs.Prelude.{[], ◌∷◌, IfOk, List, OnOk, Some, encode_utf8_all};
-    ghost use Rattle.std.specs.Prelude.{Bool, map, true, unwrap_or, ℕ};
+    ghost use Rattle.std.specs.Prelude.{Bool, length, map, true, unwrap_or, ℕ};
     ghost use Rattle.standard_tokens.specs.Tokens.{AChar, Token as StandardToken};
     ghost use Rattle.standard_trees.specs.Building.{empty_tree, start};
+    ghost use Rattle.standard_trees.specs.GrowingTree.{in_foreign};
     ghost use Rattle.page_tokens.specs.PlainNames.{has_plain_names};
     ghost use Rattle.page_tokens.specs.Reading.{text_of};
     ghost use Rattle.page_tokens.specs.Standard.{Told};
     ghost use Rattle.page_tokens.specs.StandardPages.{BeginsPage};
-    ghost use Rattle.page_trees.specs.Constructs.{Constructs, RemembersLimits};
+    ghost use Rattle.page_trees.specs.Constructs.{Constructs, RemembersLimits, WithinLimits};
     ghost use Rattle.page_trees.specs.CoveredTurns.{TakesTokens};
-    ghost use Rattle.page_trees.specs.PagesRead.{HasBuilt, ReadsEnd, ReadsQuietly, ReadsRest};
+    ghost use Rattle.page_trees.specs.PagesRead.{HasBuilt, ReadsEnd, ReadsRest};
     ghost use Rattle.page_trees.specs.PagesRead.{ReadsSome, TellsAll, TellsLast, TellsRead};
     ghost use Rattle.page_trees.specs.StandardDocuments.{FinishesPage};
-    ghost use Rattle.page_trees.specs.Stands.{Builds};
+    ghost use Rattle.page_trees.specs.Stands.{Builds, Tells};
 
     /// Returns a parser for a page. Fails only when memory runs out.
     pub fn page(alloc: Global, options: Options) -> Result<PageReader, PageFault>
         ensures options { IfOk result (λ reader. reader.options ≡ options) }
-        ensures begins { options.errors ≡ false →
-            IfOk result (λ reader. HasBuilt options.scripting [] reader) }
+        ensures begins { IfOk result (λ reader. HasBuilt options.scripting [] reader) }
     {
         // A law, called for its contract alone.
         pages();
@@ -155,8 +155,7 @@ impl PageReader {
     /// Returns the tree after the last piece. The tree of a page may not have the shape of a page
     /// yet; see `shape::make_page`. Fails with the first fault: memory or node ids ran out.
     pub fn finish(self) -> Result<BuiltTree, PageFault>
-        ensures { self.options.max_depth ≡ None → self.options.errors ≡ false →
-            IfOk result (FinishesPage self) }
+        ensures { self.options.max_depth ≡ None → IfOk result (FinishesPage self) }
     {
         // A law, called for its contract alone.
         covered_pages_are_parsed();
@@ -170,7 +169,7 @@ impl PageReader {
         ensures depth { OnOk result (self.old.options.max_depth ≡ None →
             self.new.builder.too_deep ≡ false) }
         ensures fault { OnOk result (self.new.builder.fault ≡ None) }
-        ensures ends { OnOk result (self.old.options.errors ≡ false → ReadsEnd self.old self.new) }
+        ensures ends { OnOk result (ReadsEnd self.old self.new) }
     {
         self.settled()?;
         self.read_last()?;
@@ -181,8 +180,8 @@ impl PageReader {
 
     /// Adds the parse errors to the document, if they are wanted.
     fn note_errors(&mut self)
-        ensures same { self.old.options.errors ≡ false → self.new ≡ self.old }
         ensures options { self.new.options ≡ self.old.options }
+        ensures same { WithinLimits self.new.builder → self.new.builder ≡ self.old.builder }
     {
         if self.options.errors {
             self.builder.note_errors(&self.tokens.take_errors());
@@ -216,39 +215,23 @@ impl PageReader {
         Ok(())
     }
 
-    /// Processes the last characters, and the token that ends with the text.
+    /// Processes the last characters, and the token that ends with the text, which is no tag: an
+    /// unfinished tag is dropped.
     fn tell_last(&mut self, kind: Option<TokenKind>)
         ensures only { self.new ≡ record self.old {
           builder = self.new.builder;
           tokens = self.new.tokens;
         } }
         ensures limits { RemembersLimits self.old.builder self.new.builder }
-        ensures builds { TellsLast kind self.old self.new }
+        ensures builds { kind ≢ Some TokenKind.Tag → TellsLast kind self.old self.new }
     {
         match kind {
-            Some(kind) => self.tell_last_token(kind),
+            Some(kind) => self.tell_token(kind),
             None => self.tell_characters(),
         }
     }
 
-    /// Processes the last characters and the last token. An unfinished tag is dropped, so that
-    /// token is no tag.
-    fn tell_last_token(&mut self, kind: TokenKind)
-        ensures only { self.new ≡ record self.old {
-          builder = self.new.builder;
-          tokens = self.new.tokens;
-        } }
-        ensures limits { RemembersLimits self.old.builder self.new.builder }
-        ensures builds { TellsLast (Some kind) self.old self.new }
-    {
-        match kind {
-            TokenKind::Comment => self.tell_token(TokenKind::Comment),
-            TokenKind::Doctype => self.tell_token(TokenKind::Doctype),
-            TokenKind::Tag => self.builder.keep(Err(PageFault::Memory)),
-        }
-    }
-
-    /// Reads the text. Each call of `read_token` reads some of it, so that nothing is left.
+    /// Reads the text. Each call of `read_token` reads some of it.
     fn read(&mut self, piece: &str)
         ensures options { self.new.options ≡ self.old.options }
         ensures limits { RemembersLimits self.old.builder self.new.builder }
@@ -258,14 +241,8 @@ impl PageReader {
             return;
         }
         let mut rest = piece;
-        for _ in 0..piece.len() {
+        while !rest.is_empty() {
             rest = self.read_token(rest);
-            if rest.is_empty() {
-                return;
-            }
-        }
-        if !rest.is_empty() {
-            self.builder.keep(Err(PageFault::Memory));
         }
     }
 
@@ -274,11 +251,12 @@ impl PageReader {
         ensures options { self.new.options ≡ self.old.options }
         ensures limits { RemembersLimits self.old.builder self.new.builder }
         ensures reads { ReadsSome text.now result.now self.old self.new }
+        ensures less { length result.now ≤ length text.now - 1 }
     {
         // A law, called for its contract alone.
         pages();
         let mut kind = None;
-        let Ok(rest) = self.read_kind(text, &mut kind) else {
+        let Ok(rest) = self.tokens.read_kind(text, &mut kind) else {
             self.builder.keep(Err(PageFault::Memory));
             return "";
         };
@@ -288,31 +266,14 @@ impl PageReader {
 
     /// Returns the text that is left, which is empty after a fault.
     fn left<'a>(&self, rest: &'a str) -> &'a str
-        ensures { self.now.builder.fault ≡ None → result.now ≡ rest.now }
+        ensures rest { self.now.builder.fault ≡ None → result.now ≡ rest.now }
+        ensures less { length result.now ≤ length rest.now }
     {
         if self.builder.fault.is_some() {
             ""
         } else {
             rest
         }
-    }
-
-    /// Has the tokenizer read up to the end of a token. Parse errors are collected only if they are
-    /// wanted.
-    fn read_kind<'a>(
-        &mut self,
-        text: &'a str,
-        kind: &mut Option<TokenKind>,
-    ) -> Result<&'a str, AllocError>
-        ensures only { self.new ≡ record self.old { tokens = self.new.tokens } }
-        ensures reads { self.old.options.errors ≡ false → IfOk result (λ rest.
-            ReadsQuietly self.old.tokens self.new.tokens text.now rest.now kind.old kind.new) }
-    {
-        if self.options.errors {
-            return self.tokens.read_kind(text, kind);
-        }
-        self.tokens.report_errors(false);
-        self.tokens.read_kind(text, kind)
     }
 
     /// Tells tree construction what was read: the token that ended, if one did, or else the
@@ -388,9 +349,10 @@ impl PageReader {
 
     /// Sets the tokenizer's flag for foreign content, as tree construction answers.
     fn set_in_foreign(&mut self)
-        ensures { self.new ≡ record self.old {
+        ensures only { self.new ≡ record self.old {
           tokens = record self.old.tokens { in_foreign = self.new.tokens.in_foreign };
         } }
+        ensures flag { Tells in_foreign self.old.builder.tree self.new.tokens.in_foreign }
     {
         self.tokens
             .set_in_foreign(self.builder.is_current_foreign());
@@ -469,7 +431,7 @@ fn state_in_noscript(scripting: bool) -> State
 impl TreeBuilder {
     ghost use Rattle.std.specs.Prelude.{IfErr, IfOk};
     ghost use Rattle.standard_trees.specs.Building.{Building};
-    ghost use Rattle.page_trees.specs.Constructs.{Constructs};
+    ghost use Rattle.page_trees.specs.Constructs.{Constructs, RemembersLimits, WithinLimits};
     ghost use Rattle.page_trees.specs.DocumentTrees.{IsTreeOf};
     ghost use Rattle.page_trees.specs.declared.fault.PageFault.TheVariants.{Memory as NoMemory};
 
@@ -496,14 +458,19 @@ impl TreeBuilder {
     }
 
     /// Adds the parse errors to the document.
-    fn note_errors(&mut self, errors: &[ErrorAt]) {
+    fn note_errors(&mut self, errors: &[ErrorAt])
+        ensures limits { RemembersLimits self.old self.new }
+        ensures same { WithinLimits self.new → self.new ≡ self.old }
+    {
         for ErrorAt { offset, error } in errors {
             let noted = self.note_error(*offset, *error);
             self.keep(noted);
         }
     }
 
-    fn note_error(&mut self, offset: usize, error: ParseError) -> Result<(), PageFault> {
+    fn note_error(&mut self, offset: usize, error: ParseError) -> Result<(), PageFault>
+        ensures { self.new ≡ self.old }
+    {
         let note = format!(in self.alloc; "{offset}: {error}")?;
         self.tree.note_error(note.as_str())
     }

@@ -1,5 +1,5 @@
-//! The stack of open elements (13.2.4.2). A call that returns a `Result` fails with `Memory`, or
-//! with `TooManyNodes` if there are too many names.
+//! The stack of open elements (13.2.4.2). A call that returns a `Result` fails only when memory runs
+//! out.
 
 ghost use Rattle.std.specs.Prelude.{◌≡◌, [], ◌∷◌, ◌++◌, Contains, IfNone, IfSome, OnErr, OnOk};
 ghost use Rattle.std.specs.Prelude.{◌+◌, ◌-◌, ◌<◌, ◌≤◌, ◌↔◌, ◌⊎◌, IsTrue, List, drop, false, insert};
@@ -18,7 +18,7 @@ ghost use Rattle.page_trees.specs.Reopening.{index_at, is_this};
 ghost use Rattle.page_trees.specs.Scopes.{ends_in, ends_items, has_name, is_among, is_name};
 ghost use Rattle.page_trees.specs.Scopes.{is_named};
 ghost use Rattle.page_trees.specs.Scopes.{is_implied_but, is_named_like, last_place};
-ghost use Rattle.page_trees.specs.SearchIndex.{IsIndex, IsIndexed, is_sought};
+ghost use Rattle.page_trees.specs.SearchIndex.{IsIndex, IsIndexed, has_key, is_sought};
 ghost use Rattle.page_trees.specs.Sets.{context_names, ends_context, ends_scope};
 ghost use Rattle.page_trees.specs.Sets.{has_html_content, is_a_heading};
 ghost use Rattle.page_trees.specs.Sets.{is_in_html, is_special_element};
@@ -29,14 +29,12 @@ ghost use Rattle.page_trees.specs.declared.stack.Open.{Open as AnOpen};
 
 mod links;
 mod marks;
-mod others;
 
 use crate::fault::PageFault;
 use crate::name::Name;
 use crate::sets::{Scope, TableContext, has_implied_end_but, is_heading, is_special};
 use dom_nodes::node_id::NodeId;
 use marks::{Marks, Sought, key_for, key_of};
-use others::OtherNames;
 use std::alloc::Global;
 
 /// The namespace of an element.
@@ -90,7 +88,6 @@ const HEADINGS: [Name; 6] = [Name::H1, Name::H2, Name::H3, Name::H4, Name::H5, N
 pub struct OpenElements {
     elements: Vec<Open>,
     marks: Marks,
-    others: OtherNames,
 }
 
 impl OpenElements {
@@ -101,7 +98,6 @@ impl OpenElements {
         OpenElements {
             elements: Vec::new(alloc),
             marks: Marks::new(alloc),
-            others: OtherNames::new(alloc),
         }
     }
 
@@ -193,17 +189,6 @@ impl OpenElements {
         ensures index { IsIndexed self.old → IsIndexed self.new }
     {
         self.marks.fill(self.elements.as_slice());
-    }
-
-    /// Returns the number for a name that is not in `Name`, and 0 for any other.
-    pub fn number_of(&mut self, alloc: Global, name: Name, written: &str) -> Result<u32, PageFault>
-        ensures items { self.new.elements ≡ self.old.elements }
-        ensures index { IsIndexed self.old → IsIndexed self.new }
-    {
-        if name != Name::Other {
-            return Ok(0);
-        }
-        self.others.number_of(alloc, written)
     }
 
     /// Appends an element, which becomes the current node.
@@ -459,13 +444,23 @@ impl OpenElements {
     }
 
     /// Returns the index of an element on the stack.
-    pub fn place_of(&self, element: &Open) -> Option<usize> {
+    pub fn place_of(&self, element: &Open) -> Option<usize>
+        ensures { let elements = self.now.elements.items in
+            let this = is_this element.now.name element.now.id in
+            IsIndexed self.now → is_in_html element.now.ns ≡ true →
+            result ≡ index_at (last_place this elements) }
+    {
         if element.ns == ElementNamespace::Html {
             return self.place_among(element.name, element.id);
         }
+        self.place_by_id(element.id)
+    }
+
+    /// Returns the index of the last element with that id on the stack, by a walk over it.
+    fn place_by_id(&self, id: NodeId) -> Option<usize> {
         for place in (0..self.elements.len()).rev() {
             if let Some(open) = self.get(place)
-                && open.id == element.id
+                && open.id == id
             {
                 return Some(place);
             }
@@ -614,42 +609,35 @@ impl OpenElements {
         }
     }
 
-    /// Returns one more than the index of the last element with that name, or 0. It is an HTML
-    /// element or a foreign one.
-    fn top_written(&self, is_html: bool, name: Name, written: &str) -> usize
-        ensures { is_html ≡ true → is_name name Other ≡ false → IsIndexed self.now →
+    /// Returns one more than the index of the last HTML element with that name, or 0. `number` is
+    /// that of a name that is not in `Name`.
+    fn top_numbered(&self, name: Name, number: u32) -> usize
+        ensures known { is_name name Other ≡ false → IsIndexed self.now →
             result ≡ last_place (is_named name) self.now.elements.items }
+        ensures other { IsIndexed self.now →
+            result ≡ last_place (has_key true name number) self.now.elements.items }
     {
-        if name == Name::Other {
-            return self.top_other(is_html, written);
-        }
-        self.last(Sought::Key(key_for(is_html, name, 0)))
-    }
-
-    /// Returns one more than the index of the last open element with that name, which is not in
-    /// `Name`, or 0 if there is none.
-    fn top_other(&self, is_html: bool, written: &str) -> usize {
-        match self.others.get(written) {
-            Some(number) => self.last(Sought::Key(key_for(is_html, Name::Other, number))),
-            None => 0,
-        }
+        self.last(Sought::Key(key_for(true, name, number)))
     }
 
     /// Returns the index of the last HTML element with that name, unless a special element comes
-    /// after it.
-    pub fn last_named(&self, name: Name, written: &str) -> Option<usize>
-        ensures { is_name name Other ≡ false → IsIndexed self.now →
+    /// after it. `number` is that of a name that is not in `Name`.
+    pub fn last_named(&self, name: Name, number: u32) -> Option<usize>
+        ensures known { is_name name Other ≡ false → IsIndexed self.now →
             IsFoundAt (is_named name) is_special_element self.now.elements.items result }
+        ensures other { let elements = self.now.elements.items in IsIndexed self.now →
+            IsFoundAt (has_key true name number) is_special_element elements result }
     {
-        place_from(
-            self.last(Sought::Special),
-            self.top_written(true, name, written),
-        )
+        place_from(self.last(Sought::Special), self.top_numbered(name, number))
     }
 
-    /// Returns one more than the index of the last foreign element with that name, or 0.
-    pub fn top_foreign(&self, name: Name, written: &str) -> usize {
-        self.top_written(false, name, written)
+    /// Returns one more than the index of the last foreign element with that name, or 0. `number`
+    /// is that of a name that is not in `Name`.
+    pub fn top_foreign(&self, name: Name, number: u32) -> usize
+        ensures { IsIndexed self.now →
+            result ≡ last_place (has_key false name number) self.now.elements.items }
+    {
+        self.last(Sought::Key(key_for(false, name, number)))
     }
 
     /// Returns one more than the index of the last HTML element, or 0.

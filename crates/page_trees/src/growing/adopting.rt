@@ -2,8 +2,10 @@
 //! (13.2.6.4.7). A call that returns a `Result` fails only when memory or node ids run out.
 
 ghost use Rattle.std.specs.Prelude.{◌≡◌, ◌+◌, ◌^◌, ◌<◌, ◌≤◌, IfOk, OnErr, OnOk, false, insert};
+ghost use Rattle.std.specs.Prelude.{remove};
 ghost use Rattle.std.specs.Prelude.{true};
 ghost use Rattle.standard_trees.specs.Formatting.{reconstructed};
+ghost use Rattle.page_trees.specs.Adopting.{AdoptsChildren, AdoptsOnce, FindsAt, PutsBelow};
 ghost use Rattle.page_trees.specs.Elements.{IsElement};
 ghost use Rattle.page_trees.specs.Listing.{Adopts, RoundEnds, TellsBare};
 ghost use Rattle.page_trees.specs.Reopening.{is_closed, stays};
@@ -172,28 +174,50 @@ impl GrowingTree {
 
     /// Runs the outer loop once. `place` and `furthest_place` are the indexes of the formatting
     /// element and of the furthest block on the stack.
-    ///
-    /// The inner loop goes down from the block. It removes each element between the two from the
-    /// stack or replaces it by a copy, so the element that was moved last always follows the index
-    /// of the loop.
     fn adopt_once(
         &mut self,
         place: usize,
         furthest_place: usize,
         bookmark: Bookmark,
         foster: bool,
-    ) -> Result<(), PageFault> {
+    ) -> Result<(), PageFault>
+        ensures { let index = bookmark.index in furthest_place ≡ place + 1 →
+            OnOk result (AdoptsOnce place index foster self.old self.new) }
+    {
         let count = self.stack.len();
-        let mut bookmark = bookmark;
-        let mut round: usize = 0;
-        for node_place in (place.saturating_add(1)..furthest_place).rev() {
-            round = round.saturating_add(1);
-            bookmark = self.pass(node_place, round <= 3, bookmark)?;
-        }
+        let bookmark = self.climb(place, furthest_place, bookmark)?;
         self.mark();
         self.put_below(place, foster);
         let removed = count.saturating_sub(self.stack.len());
         self.adopt_children(place, furthest_place.saturating_sub(removed), bookmark)
+    }
+
+    /// Runs the inner loop for the elements between the formatting element and the furthest block,
+    /// whose indexes these are. Returns the bookmark after that.
+    ///
+    /// The loop goes down from the block. It removes each element between the two from the stack or
+    /// replaces it by a copy, so the element that was moved last always follows the index of the
+    /// loop.
+    fn climb(
+        &mut self,
+        place: usize,
+        furthest_place: usize,
+        bookmark: Bookmark,
+    ) -> Result<Bookmark, PageFault>
+        ensures bookmark { furthest_place ≡ place + 1 → IfOk result (λ after. after ≡ bookmark) }
+        ensures none { furthest_place ≡ place + 1 → self.new ≡ self.old }
+    {
+        let below = place.saturating_add(1);
+        if furthest_place <= below {
+            return Ok(bookmark);
+        }
+        let mut bookmark = bookmark;
+        let mut round: usize = 0;
+        for node_place in (below..furthest_place).rev() {
+            round = round.saturating_add(1);
+            bookmark = self.pass(node_place, round <= 3, bookmark)?;
+        }
+        Ok(bookmark)
     }
 
     /// Runs the inner loop for one element. It is replaced by a copy if it is in the list and among
@@ -237,7 +261,10 @@ impl GrowingTree {
 
     /// Moves the element after an index of the stack to the end of the one at the index before it,
     /// or before a table (foster parenting).
-    fn put_below(&mut self, place: usize, foster: bool) {
+    fn put_below(&mut self, place: usize, foster: bool)
+        ensures rule { PutsBelow place foster self.old self.new }
+        ensures rest { self.new ≡ record self.old { forest = self.new.forest } }
+    {
         let Some(last) = self.stack.behind(place) else {
             return;
         };
@@ -253,7 +280,10 @@ impl GrowingTree {
         place: usize,
         furthest_place: usize,
         bookmark: Bookmark,
-    ) -> Result<(), PageFault> {
+    ) -> Result<(), PageFault>
+        ensures { let index = bookmark.index in furthest_place ≡ place + 1 →
+            OnOk result (AdoptsChildren place index self.old self.new) }
+    {
         let Some(formatting) = self.stack.get(place) else {
             return Ok(());
         };
@@ -279,14 +309,28 @@ impl GrowingTree {
         copy: &Open,
     ) -> Result<(), PageFault>
         requires { IsElement self.old.forest copy.now.id }
+        ensures { let index = bookmark.index in let entries = self.old.formatting in
+            FindsAt element index entries → OnOk result (self.new ≡ record self.old {
+              formatting = insert (remove entries index) index (AnEntry copy.now);
+            }) }
     {
-        let mut index = bookmark.index;
-        if let Some(gone) = self.formatting.index_of(element) {
-            self.remove_entry(gone);
-            index = bookmark.without(gone).index;
-        }
+        let index = self.take_entry(element, bookmark);
         let likeness = self.likeness_of(copy.id);
         self.insert_entry(index, copy, likeness)
+    }
+
+    /// Removes an element's entry from the list, and returns the index of the bookmark after that.
+    fn take_entry(&mut self, element: NodeId, bookmark: Bookmark) -> usize
+        ensures taken { let index = bookmark.index in let entries = self.old.formatting in
+            FindsAt element index entries → (result ≡ index) ×
+            (self.new ≡ record self.old { formatting = remove entries index }) }
+        ensures rest { self.new ≡ record self.old { formatting = self.new.formatting } }
+    {
+        let Some(gone) = self.formatting.index_of(element) else {
+            return bookmark.index;
+        };
+        self.remove_entry(gone);
+        bookmark.without(gone).index
     }
 
     /// Inserts an entry of that likeness at an index of the list.

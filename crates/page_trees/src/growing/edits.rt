@@ -347,6 +347,7 @@ pub fn put_children_into_copy(
     requires parent { IsElement tree.old parent }
     ensures grows { Grows tree.old tree.new }
     ensures element { IfOk result (λ copy. IsInside tree.old tree.new copy.id parent) }
+    ensures shape { IfOk result (λ copy. copy ≡ copy_open element copy.id) }
     ensures made { let after = with_copy_inside element.id parent tree.old in
         IfOk result (λ copy. MakesNext copy.id tree.old tree.new after) }
     ensures rule { contents_at tree.old parent ≡ None →

@@ -1,23 +1,28 @@
 //! Removing elements from the stack of open elements and from the list of active formatting
 //! elements. A call that returns a `Result` fails only when memory runs out.
 
-ghost use Rattle.std.specs.Prelude.{IfNone, IfSome, OnOk, [], codes, false, length, remove};
-ghost use Rattle.std.specs.Prelude.{slice_get, take, true, ◌++◌, ◌-◌, ◌∷◌, ◌≡◌};
+ghost use Rattle.std.specs.Prelude.{IfNone, IfSome, IsSome, List, OnOk, [], codes, false, length};
+ghost use Rattle.std.specs.Prelude.{remove, slice_get, take, true, ◌++◌, ◌-◌, ◌∷◌, ◌≡◌, ℕ};
 ghost use Rattle.std.specs.Option.{option_map, option_to_list};
-ghost use Rattle.standard_trees.specs.GrowingTree.{has_in_scope, implied_of};
+ghost use Rattle.standard_trees.specs.GrowingTree.{GrowingTree as StandardTree, has_in_scope};
+ghost use Rattle.standard_trees.specs.GrowingTree.{implied_of};
 ghost use Rattle.standard_trees.specs.GrowingTree.{popped_until, popped_up_to};
 ghost use Rattle.standard_trees.specs.NameLists.{headings, implied};
 ghost use Rattle.page_trees.specs.Formatting.{IsWithout, are_few, with_room};
-ghost use Rattle.page_trees.specs.Listing.{Enlists, Unlists};
+ghost use Rattle.page_trees.specs.Listing.{Enlists, Unlists, Unstacks};
 ghost use Rattle.standard_trees.specs.RuleWords.{Scope as DefaultScope};
 ghost use Rattle.page_trees.specs.Closing.{closed_before, ends_items_node, is_special_node};
 ghost use Rattle.page_trees.specs.Closing.{item_texts};
+ghost use Rattle.page_trees.specs.ForeignSteps.{EndsForeign, IsTagNamed, is_foreign_called};
+ghost use Rattle.page_trees.specs.NameNumbers.{number_in};
 ghost use Rattle.page_trees.specs.Names.{text_of};
 ghost use Rattle.page_trees.specs.Popping.{before_last, is_a_marker};
-ghost use Rattle.page_trees.specs.Scopes.{has_name, is_name};
+ghost use Rattle.page_trees.specs.Scopes.{has_name, is_name, last_place};
 ghost use Rattle.page_trees.specs.Sets.{context_names};
-ghost use Rattle.page_trees.specs.Stands.{Does, Tells, closed_in, popped, popped_if, scope_kind};
-ghost use Rattle.page_trees.specs.Stands.{text_list, with_marker, without_foreign, without_marker};
+ghost use Rattle.page_trees.specs.Stands.{Builds, Does, IsOtherName, Tells, closed_in, popped};
+ghost use Rattle.page_trees.specs.Stands.{popped_if};
+ghost use Rattle.page_trees.specs.Stands.{scope_kind, text_list, with_marker, without_foreign};
+ghost use Rattle.page_trees.specs.Stands.{without_marker};
 ghost use Rattle.page_trees.specs.declared.formatting.Entry.TheVariants.{Element as AnEntry};
 ghost use Rattle.page_trees.specs.TableSteps.{is_a_cell};
 ghost use Rattle.page_trees.specs.declared.name.Name.TheVariants.{Other};
@@ -67,10 +72,25 @@ impl GrowingTree {
         }
     }
 
+    /// Returns the number of a name that is not in `Name`, if an element had it, and 0 for any other
+    /// name.
+    fn number_for(&self, name: Name, written: &str) -> Option<u32>
+        ensures known { is_name name Other ≡ false → IsSome result }
+        ensures other { name ≡ Other → result ≡ number_in self.now.numbers written.now }
+    {
+        if name != Name::Other {
+            return Some(0);
+        }
+        self.others.get(written)
+    }
+
     /// Returns which element an end tag in foreign content closes.
-    pub fn foreign_end(&self, name: Name, written: &str) -> ForeignEnd {
+    pub fn foreign_end(&self, name: Name, written: &str) -> ForeignEnd
+        ensures { (text : List ℕ) → IsTagNamed name written.now text →
+            EndsForeign text self.now result }
+    {
         let html = self.stack.top_html();
-        let top = self.stack.top_foreign(name, written);
+        let top = self.top_foreign(name, written);
         if top > html {
             return ForeignEnd::At(top - 1);
         }
@@ -78,6 +98,17 @@ impl GrowingTree {
             return ForeignEnd::Html;
         }
         ForeignEnd::Nowhere
+    }
+
+    /// Returns one more than the index of the last foreign element with that name, or 0.
+    fn top_foreign(&self, name: Name, written: &str) -> usize
+        ensures { (text : List ℕ) → IsTagNamed name written.now text → (t : StandardTree) →
+            Builds self.now t → result ≡ last_place (is_foreign_called text t) self.now.stack }
+    {
+        match self.number_for(name, written) {
+            Some(number) => self.stack.top_foreign(name, number),
+            None => 0,
+        }
     }
 
     /// Pops elements until only the first `count` are open.
@@ -103,7 +134,8 @@ impl GrowingTree {
 
     /// Removes an element from the stack.
     pub fn remove(&mut self, element: &Open)
-        ensures { self.new ≡ record self.old { stack = self.new.stack } }
+        ensures rule { Unstacks element.now self.old self.new }
+        ensures rest { self.new ≡ record self.old { stack = self.new.stack } }
     {
         if let Some(place) = self.stack.place_of(element) {
             self.remove_at(place);
@@ -170,8 +202,13 @@ impl GrowingTree {
     pub fn close_named(&mut self, name: Name, written: &str)
         ensures rule { is_name name Other ≡ false →
             Does (closed_before is_special_node (text_of name ∷ [])) self.old self.new }
+        ensures other { (text : List ℕ) → IsOtherName name written.now text →
+            Does (closed_before is_special_node (text ∷ [])) self.old self.new }
     {
-        if let Some(place) = self.stack.last_named(name, written) {
+        let Some(number) = self.number_for(name, written) else {
+            return;
+        };
+        if let Some(place) = self.stack.last_named(name, number) {
             self.truncate(place);
         }
     }

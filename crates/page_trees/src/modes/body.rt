@@ -5,9 +5,11 @@ ghost use Rattle.standard_trees.specs.NameLists.{headings};
 ghost use Rattle.standard_trees.specs.RuleWords.{CloseItems, CloseP, CurrentNode, FramesetNotOk};
 ghost use Rattle.standard_trees.specs.RuleWords.{InBody, InTable, InsertElement, ListElement};
 ghost use Rattle.standard_trees.specs.RuleWords.{PlainText, Pop, Quirks, RcdataText};
-ghost use Rattle.standard_trees.specs.RuleWords.{ReconstructFormatting, SkipNextLineFeed, SwitchTo};
-ghost use Rattle.standard_trees.specs.RuleWords.{These, TokenizerTo, does, is, isnt};
+ghost use Rattle.standard_trees.specs.RuleWords.{ReconstructFormatting, SetFormPointer};
+ghost use Rattle.standard_trees.specs.RuleWords.{SkipNextLineFeed, SwitchTo, TemplateOpen, These};
+ghost use Rattle.standard_trees.specs.RuleWords.{TokenizerTo, does, is, isnt};
 ghost use Rattle.page_trees.specs.BodyTags.{Acts, ActsFor, Begins, ChangesThen, Continues};
+ghost use Rattle.page_trees.specs.BodyTags.{ActsWhere};
 ghost use Rattle.page_trees.specs.BodyTags.{ProcessesInBody, implied_in, is_inline, is_phrase};
 ghost use Rattle.page_trees.specs.BodyTags.{is_texty, only_if};
 ghost use Rattle.page_trees.specs.Closing.{item_texts};
@@ -15,12 +17,16 @@ ghost use Rattle.page_trees.specs.Constructs.{Performs, PerformsFor, RemembersLi
 ghost use Rattle.page_trees.specs.Groups.{closes_p, group_named, reconstructs, spoils_frameset};
 ghost use Rattle.page_trees.specs.HeadSteps.{reading_text};
 ghost use Rattle.page_trees.specs.Listing.{PerformsWhere, ProcessesStartWhere, StaysWhere};
-ghost use Rattle.page_trees.specs.Listing.{is_formatting_name, lists_few, lists_no_a};
+ghost use Rattle.page_trees.specs.Listing.{closes_nobr, closing_nobr, dropping_a, drops_a};
+ghost use Rattle.page_trees.specs.Listing.{is_formatting_name, lists_few, lists_no_a, starts_a};
+ghost use Rattle.page_trees.specs.Listing.{starts_nobr};
 ghost use Rattle.page_trees.specs.Modes.{is_start_kind};
 ghost use Rattle.page_trees.specs.Scopes.{is_name};
 ghost use Rattle.page_trees.specs.Stands.{text_list};
 ghost use Rattle.page_trees.specs.declared.builder.Next.TheVariants.{Done as IsDone};
-ghost use Rattle.page_trees.specs.declared.name.Name.TheVariants.{A as TheA, Other};
+ghost use Rattle.page_trees.specs.declared.name.Name.TheVariants.{A as TheA, Form as TheForm, Other};
+ghost use Rattle.page_trees.specs.declared.name.Name.TheVariants.{Nobr as TheNobr};
+ghost use Rattle.page_trees.specs.declared.name.Name.TheVariants.{Image as TheImage};
 ghost use Rattle.page_trees.specs.declared.name.Name.TheVariants.{Table as TheTable};
 ghost use Rattle.page_trees.specs.declared.modes.groups.Group.TheVariants.{Formatting as Plain};
 
@@ -144,7 +150,7 @@ impl TreeBuilder {
             Group::Table => self.start_table(tag),
             Group::Void | Group::Param => self.insert_void(name, tag),
             Group::Hr => self.start_hr(tag),
-            Group::Image => self.insert_void(Name::Img, tag),
+            Group::Image => self.start_image(tag),
             Group::Input => self.start_input(tag),
             Group::Select => self.start_select(tag),
             Group::Optgroup => self.start_option(name, tag, None),
@@ -153,6 +159,16 @@ impl TreeBuilder {
             Group::RubyText => self.start_ruby(name, tag, Some(Name::Rtc)),
             _ => self.start_text(group, name, tag),
         }
+    }
+
+    /// Inserts an `img` for the start tag of an `image`.
+    fn start_image(&mut self, tag: &Tag) -> Next
+        ensures limits { RemembersLimits self.old self.new }
+        ensures rule { Continues Group.Image TheImage tag.now self.old self.new result }
+    {
+        self.insert(Name::Img, tag);
+        self.tree.pop();
+        Next::Done
     }
 
     /// Processes start tags of elements whose content is text, and those that no rule names.
@@ -211,16 +227,29 @@ impl TreeBuilder {
         self.insert_done(name, tag)
     }
 
-    fn start_body(&mut self, tag: &Tag) -> Next {
-        if self.tree.open().has_body() && !self.tree.open().has(Name::Template) {
-            self.frameset_ok = false;
-            self.add_attrs(1, tag);
+    /// Adds the attributes of a later start tag `body` to the element.
+    fn start_body(&mut self, tag: &Tag) -> Next
+        ensures rule { Continues Group.Body Name.Body tag.now self.old self.new result }
+    {
+        if !self.tree.open().has_body() {
+            return Next::Done;
         }
+        if self.tree.open().has(Name::Template) {
+            return Next::Done;
+        }
+        self.frameset_ok = false;
+        self.add_attrs(1, tag);
         Next::Done
     }
 
-    fn start_frameset(&mut self, tag: &Tag) -> Next {
-        if !self.frameset_ok || !self.tree.open().has_body() {
+    /// Inserts a frameset in place of the body.
+    fn start_frameset(&mut self, tag: &Tag) -> Next
+        ensures rule { Continues Group.Frameset Name.Frameset tag.now self.old self.new result }
+    {
+        if !self.tree.open().has_body() {
+            return Next::Done;
+        }
+        if !self.frameset_ok {
             return Next::Done;
         }
         self.tree.cut_out(1);
@@ -238,14 +267,26 @@ impl TreeBuilder {
         self.insert_done(name, tag)
     }
 
-    fn start_form(&mut self, tag: &Tag) -> Next {
-        let in_template = self.tree.open().has(Name::Template);
-        if self.tree.has_form() && !in_template {
+    fn start_form(&mut self, tag: &Tag) -> Next
+        ensures limits { RemembersLimits self.old self.new }
+        ensures rule { Continues Group.Form TheForm tag.now self.old self.new result }
+    {
+        if self.tree.is_in_form() {
             return Next::Done;
         }
-        self.tree.close(Name::P, Scope::Button);
+        self.end_paragraph();
+        self.insert_form(tag)
+    }
+
+    /// Inserts a form, and sets the form element pointer to it, unless a template is open.
+    fn insert_form(&mut self, tag: &Tag) -> Next
+        ensures next { result ≡ IsDone }
+        ensures limits { RemembersLimits self.old self.new }
+        ensures rule { let set = does SetFormPointer (isnt TemplateOpen ∷ []) in
+            ActsFor TheForm tag.now (does InsertElement [] ∷ set ∷ []) self.old self.new }
+    {
         self.insert(Name::Form, tag);
-        if !in_template {
+        if !self.tree.open().has(Name::Template) {
             self.tree.set_form();
         }
         Next::Done
@@ -274,7 +315,7 @@ impl TreeBuilder {
     fn start_a(&mut self, tag: &Tag) -> Next
         ensures next { result ≡ IsDone }
         ensures limits { RemembersLimits self.old self.new }
-        ensures rule { ProcessesStartWhere lists_no_a InBody TheA tag.now self.old self.new result }
+        ensures rule { ProcessesStartWhere starts_a InBody TheA tag.now self.old self.new result }
     {
         self.drop_a(tag);
         self.start_listed(Name::A, tag)
@@ -283,7 +324,8 @@ impl TreeBuilder {
     /// Closes an `a` that is in the list of active formatting elements.
     fn drop_a(&mut self, tag: &Tag)
         ensures limits { RemembersLimits self.old self.new }
-        ensures rule { StaysWhere lists_no_a self.old self.new }
+        ensures none { StaysWhere lists_no_a self.old self.new }
+        ensures rule { ActsWhere drops_a TheA tag.now dropping_a self.old self.new }
     {
         if let Some(open) = self.tree.formatting_named(Name::A) {
             self.adopt(Name::A, tag);
@@ -292,12 +334,25 @@ impl TreeBuilder {
         }
     }
 
-    fn start_nobr(&mut self, tag: &Tag) -> Next {
+    fn start_nobr(&mut self, tag: &Tag) -> Next
+        ensures next { result ≡ IsDone }
+        ensures limits { RemembersLimits self.old self.new }
+        ensures rule { let test = starts_nobr in
+            ProcessesStartWhere test InBody TheNobr tag.now self.old self.new result }
+    {
         self.reconstruct();
+        self.close_nobr(tag);
+        self.start_listed(Name::Nobr, tag)
+    }
+
+    /// Closes a `nobr` that is in scope.
+    fn close_nobr(&mut self, tag: &Tag)
+        ensures limits { RemembersLimits self.old self.new }
+        ensures rule { ActsWhere closes_nobr TheNobr tag.now closing_nobr self.old self.new }
+    {
         if self.tree.open().in_scope(Name::Nobr, Scope::Default) {
             self.adopt(Name::Nobr, tag);
         }
-        self.start_listed(Name::Nobr, tag)
     }
 
     /// Reconstructs the active formatting elements, and then inserts an element and appends it to

@@ -7,7 +7,7 @@ ghost use Rattle.standard_trees.specs.RuleWords.{ReconstructFormatting, Scope as
 ghost use Rattle.standard_trees.specs.RuleWords.{does};
 ghost use Rattle.page_tokens.specs.declared.token.Tag.{Tag as TheTag};
 ghost use Rattle.page_trees.specs.BodyTags.{Acts, ChangesTree, EndsInBody, ends_otherwise};
-ghost use Rattle.page_trees.specs.BodyTags.{implying_p};
+ghost use Rattle.page_trees.specs.BodyTags.{closed_to_marker, implying_p};
 ghost use Rattle.page_trees.specs.Constructs.{Performs, RemembersLimits};
 ghost use Rattle.page_trees.specs.Groups.{group_named};
 ghost use Rattle.page_trees.specs.Listing.{ProcessesEndWhere, ends_adoption, formats};
@@ -16,6 +16,7 @@ ghost use Rattle.page_trees.specs.Scopes.{is_name};
 ghost use Rattle.page_trees.specs.Stands.{closed_in, scope_kind};
 ghost use Rattle.page_trees.specs.declared.builder.Next.TheVariants.{Done as IsDone};
 ghost use Rattle.page_trees.specs.declared.name.Name.TheVariants.{Body as BodyName};
+ghost use Rattle.page_trees.specs.declared.name.Name.TheVariants.{Form as FormName};
 ghost use Rattle.page_trees.specs.declared.name.Name.TheVariants.{Html as HtmlName, Other};
 
 use super::groups::{Group, group_of};
@@ -116,7 +117,12 @@ impl TreeBuilder {
         Next::Done
     }
 
-    fn end_object(&mut self, name: Name) -> Next {
+    fn end_object(&mut self, name: Name) -> Next
+        ensures next { result ≡ IsDone }
+        ensures limits { RemembersLimits self.old self.new }
+        ensures rule { let close = closed_to_marker (text_of name ∷ []) in
+            is_name name Other ≡ false → ChangesTree close self.old self.new }
+    {
         if self.tree.close(name, Scope::Default) {
             self.tree.clear_to_marker();
         }
@@ -149,7 +155,11 @@ impl TreeBuilder {
         Next::Done
     }
 
-    fn end_form(&mut self) -> Next {
+    fn end_form(&mut self) -> Next
+        ensures next { result ≡ IsDone }
+        ensures limits { RemembersLimits self.old self.new }
+        ensures rule { (tag : TheTag) → EndsInBody FormName tag self.old self.new result }
+    {
         if self.tree.open().has(Name::Template) {
             return self.end_in(Scope::Default, Name::Form);
         }

@@ -1,6 +1,7 @@
 //! Comments, doctypes and the end of the page.
 
-ghost use Rattle.std.specs.Prelude.{◌≡◌, [], ◌∷◌, List, encode_utf8_all, false, string_bytes, ℕ};
+ghost use Rattle.std.specs.Prelude.{◌≡◌, [], ◌∷◌, List, encode_utf8_all, false, string_bytes, true};
+ghost use Rattle.std.specs.Prelude.{ℕ};
 ghost use Rattle.std.specs.Option.{option_map_or};
 ghost use Rattle.standard_tokens.specs.Tokens.{AComment, ADoctype, AnEof};
 ghost use Rattle.standard_tokens.specs.Tokens.{Doctype as StandardDoctype};
@@ -10,6 +11,7 @@ ghost use Rattle.standard_trees.specs.RuleWords.{SetQuirksByDoctype, SwitchTo};
 ghost use Rattle.page_tokens.specs.Standard.{IsDoctype};
 ghost use Rattle.page_trees.specs.Constructs.{RemembersLimits};
 ghost use Rattle.page_trees.specs.CoveredTurns.{TakesTokens};
+ghost use Rattle.page_trees.specs.TableTexts.{LeavesText, SettlesText};
 ghost use Rattle.page_trees.specs.TokenSteps.{EndsPlainly, PerformsOn, Processes, ProcessesBy};
 ghost use Rattle.page_trees.specs.TokenSteps.{ProcessesComment, TakesComment};
 ghost use Rattle.page_trees.specs.TokenSteps.{at_end, comment_place, is_initial};
@@ -18,6 +20,7 @@ ghost use Rattle.page_trees.specs.declared.builder.Mode.TheVariants.{Initial as 
 ghost use Rattle.page_trees.specs.declared.builder.Next.TheVariants.{Done as IsDone};
 
 use crate::builder::{Mode, Next, TreeBuilder};
+use crate::chars::keeps_characters;
 use crate::modes::Token;
 use page_tokens::token::Doctype;
 
@@ -53,6 +56,8 @@ enum AtEnd {
     /// The mode is left, as at anything else.
     Leave,
     EndText,
+    /// The pending table character tokens come first.
+    EndTableText,
     EndTemplate,
     /// A template is closed if the content is in one.
     EndContent,
@@ -67,6 +72,7 @@ fn at_end(mode: Mode) -> AtEnd
         Mode::Initial | Mode::BeforeHtml | Mode::BeforeHead => AtEnd::Leave,
         Mode::InHead | Mode::InHeadNoscript | Mode::AfterHead => AtEnd::Leave,
         Mode::Text => AtEnd::EndText,
+        Mode::InTableText => AtEnd::EndTableText,
         Mode::InTemplate => AtEnd::EndTemplate,
         Mode::AfterBody | Mode::AfterAfterBody => AtEnd::Stop,
         Mode::InFrameset | Mode::AfterFrameset | Mode::AfterAfterFrameset => AtEnd::Stop,
@@ -75,6 +81,20 @@ fn at_end(mode: Mode) -> AtEnd
 }
 
 impl TreeBuilder {
+    /// Processes the pending table character tokens, if there are any, because a comment or a
+    /// doctype comes. Limits that were met stay noted.
+    fn settle_table_text(&mut self)
+        ensures limits { RemembersLimits self.old self.new }
+        ensures same { keeps_characters self.old.mode ≡ false → self.new ≡ self.old }
+        ensures rule { SettlesText self.old self.new }
+    {
+        if keeps_characters(self.mode) {
+            let before = self.met();
+            self.flush_table_text();
+            self.note_met(before);
+        }
+    }
+
     pub fn comment(&mut self, text: &str)
         ensures limits { RemembersLimits self.old self.new }
         ensures tokens { (cs : List ℕ) → text.now ≡ encode_utf8_all cs →
@@ -157,7 +177,6 @@ impl TreeBuilder {
         ensures tokens { TakesTokens (AnEof ∷ []) self.old self.new }
     {
         self.skip_line_feed = false;
-        self.settle_table_text();
         self.process(Token::End);
     }
 
@@ -165,10 +184,13 @@ impl TreeBuilder {
     pub fn end_step(&mut self) -> Next
         ensures rule { EndsPlainly self.old →
             ProcessesBy Dispatcher AnEof self.old self.new result }
+        ensures pending { keeps_characters self.old.mode ≡ true →
+            LeavesText self.old self.new result }
     {
         match at_end(self.mode) {
             AtEnd::Leave => self.leave_mode(),
             AtEnd::EndText => self.leave_for(self.original),
+            AtEnd::EndTableText => self.leave_table_text(),
             AtEnd::EndTemplate => self.end_in_template(),
             AtEnd::EndContent => self.end_content(),
             AtEnd::Stop => Next::Done,

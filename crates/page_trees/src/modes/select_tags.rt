@@ -3,15 +3,19 @@
 
 ghost use Rattle.std.specs.Prelude.{◌≡◌, [], ◌∷◌, IfSome, codes, false};
 ghost use Rattle.standard_trees.specs.GrowingTree.{has_in_scope};
+ghost use Rattle.standard_trees.specs.RuleWords.{AttributeTypeHidden, FramesetNotOk};
 ghost use Rattle.standard_trees.specs.RuleWords.{InsertElement, Pop, ReconstructFormatting};
-ghost use Rattle.standard_trees.specs.RuleWords.{Scope as DefaultScope};
-ghost use Rattle.page_trees.specs.BodyTags.{ChangesThen, ChangesTree, implied_in, option_ended};
-ghost use Rattle.page_trees.specs.Constructs.{RemembersLimits};
+ghost use Rattle.standard_trees.specs.RuleWords.{Scope as DefaultScope, does, isnt};
+ghost use Rattle.page_trees.specs.BodyTags.{ActsFor, ChangesThen, ChangesTree, Continues};
+ghost use Rattle.page_trees.specs.BodyTags.{implied_in, option_ended};
+ghost use Rattle.page_trees.specs.Constructs.{PerformsFor, RemembersLimits};
 ghost use Rattle.page_trees.specs.Names.{text_of};
 ghost use Rattle.page_trees.specs.Scopes.{is_name};
-ghost use Rattle.page_trees.specs.Stands.{Tells, text_list};
+ghost use Rattle.page_trees.specs.Stands.{Tells, closed_in, text_list};
 ghost use Rattle.page_trees.specs.declared.builder.Next.TheVariants.{Done as IsDone};
-ghost use Rattle.page_trees.specs.declared.name.Name.TheVariants.{Hr as TheHr, Other};
+ghost use Rattle.page_trees.specs.declared.modes.groups.Group.{Group};
+ghost use Rattle.page_trees.specs.declared.name.Name.TheVariants.{Hr as TheHr, Input as TheInput};
+ghost use Rattle.page_trees.specs.declared.name.Name.TheVariants.{Other, Select as TheSelect};
 
 use crate::attributes::is_hidden;
 use crate::builder::{Next, TreeBuilder};
@@ -21,8 +25,14 @@ use page_tokens::token::Tag;
 
 impl TreeBuilder {
     /// Inserts a `select`; where one is in scope, closes that one and ignores the tag.
-    pub fn start_select(&mut self, tag: &Tag) -> Next {
-        if self.tree.is_context(Name::Select) || self.close_select() {
+    pub fn start_select(&mut self, tag: &Tag) -> Next
+        ensures limits { RemembersLimits self.old self.new }
+        ensures rule { Continues Group.Select TheSelect tag.now self.old self.new result }
+    {
+        if self.tree.is_context(Name::Select) {
+            return Next::Done;
+        }
+        if self.close_select() {
             return Next::Done;
         }
         self.frameset_ok = false;
@@ -30,14 +40,37 @@ impl TreeBuilder {
     }
 
     /// Inserts an `input`, and closes the `select` in scope before it.
-    pub fn start_input(&mut self, tag: &Tag) -> Next {
+    pub fn start_input(&mut self, tag: &Tag) -> Next
+        ensures limits { RemembersLimits self.old self.new }
+        ensures rule { Continues Group.Input TheInput tag.now self.old self.new result }
+    {
         if self.tree.is_context(Name::Select) {
             return Next::Done;
         }
         self.close_select();
+        self.fill_body_with_input(tag);
+        self.insert_input(tag)
+    }
+
+    /// Sets the frameset-ok flag to "not ok", unless the `input` is hidden.
+    fn fill_body_with_input(&mut self, tag: &Tag)
+        ensures limits { RemembersLimits self.old self.new }
+        ensures rule { let set = does FramesetNotOk (isnt AttributeTypeHidden ∷ []) in
+            ActsFor TheInput tag.now (set ∷ []) self.old self.new }
+    {
         if !is_hidden(tag) {
             self.frameset_ok = false;
         }
+    }
+
+    /// Reconstructs the active formatting elements, and then inserts an `input`, which is closed at
+    /// once.
+    fn insert_input(&mut self, tag: &Tag) -> Next
+        ensures next { result ≡ IsDone }
+        ensures limits { RemembersLimits self.old self.new }
+        ensures rule { let insert = ReconstructFormatting ∷ InsertElement ∷ Pop ∷ [] in
+            PerformsFor TheInput tag.now insert self.old self.new }
+    {
         self.reconstruct();
         self.insert_void(Name::Input, tag)
     }
@@ -77,7 +110,13 @@ impl TreeBuilder {
     }
 
     /// If a `select` is in scope, pops elements up to and including it. Returns whether one was.
-    fn close_select(&mut self) -> bool {
+    fn close_select(&mut self) -> bool
+        ensures limits { RemembersLimits self.old self.new }
+        ensures found { let select = codes "select" ∷ [] in
+            Tells (has_in_scope DefaultScope select) self.old.tree result }
+        ensures rule { let select = codes "select" ∷ [] in
+            ChangesTree (closed_in DefaultScope select) self.old self.new }
+    {
         self.tree.close(Name::Select, Scope::Default)
     }
 

@@ -9,6 +9,7 @@ ghost use Rattle.standard_trees.specs.RuleWords.{InTableBody};
 ghost use Rattle.page_tokens.specs.declared.token.Tag.{Tag as TheTag};
 ghost use Rattle.page_trees.specs.Constructs.{Performs, PerformsFor, ProcessesTag};
 ghost use Rattle.page_trees.specs.Constructs.{RemembersLimits, is_entered_plainly};
+ghost use Rattle.page_trees.specs.FosteredTags.{FostersTag};
 ghost use Rattle.page_trees.specs.Groups.{is_cell_name, is_dropped_end_name, is_part_name};
 ghost use Rattle.page_trees.specs.Groups.{is_section_name};
 ghost use Rattle.page_trees.specs.LateMerges.{ProcessesTagInHtml};
@@ -20,16 +21,18 @@ ghost use Rattle.page_trees.specs.TableSteps.{cell_names, clearing_to, closing_c
 ghost use Rattle.page_trees.specs.TableSteps.{closing_cell, closing_group, closing_row};
 ghost use Rattle.page_trees.specs.TableSteps.{closing_section, closing_table, covers_other};
 ghost use Rattle.page_trees.specs.TableSteps.{if_found, is_again, is_hidden_content_name};
+ghost use Rattle.page_trees.specs.TableSteps.{covers_input};
 ghost use Rattle.page_trees.specs.TableSteps.{ends_cell_name, is_ignored_end_name};
 ghost use Rattle.page_trees.specs.TableSteps.{is_in_group, is_in_table};
 ghost use Rattle.page_trees.specs.TableSteps.{covers_caption, covers_cell, covers_group};
 ghost use Rattle.page_trees.specs.TableSteps.{covers_row, covers_table, covers_table_body};
-ghost use Rattle.page_trees.specs.TableSteps.{section_names};
+ghost use Rattle.page_trees.specs.TableSteps.{ProcessesTagWhere, section_names};
 ghost use Rattle.page_trees.specs.declared.builder.Next.TheVariants.{Again, Done as IsDone};
-ghost use Rattle.page_trees.specs.declared.name.Name.TheVariants.{Form as FormName, Other};
+ghost use Rattle.page_trees.specs.declared.name.Name.TheVariants.{Form as FormName, Input as TheInput};
+ghost use Rattle.page_trees.specs.declared.name.Name.TheVariants.{Other};
 ghost use Rattle.page_trees.specs.declared.sets.TableContext.TheVariants.{Row, Section};
 
-use super::{Token, is_start, next_if};
+use super::{is_start, next_if};
 use crate::attributes::is_hidden;
 use crate::builder::{Mode, Next, TreeBuilder};
 use crate::name::Name;
@@ -139,8 +142,8 @@ impl TreeBuilder {
 
     /// Processes a tag by the rules for "in table".
     pub fn table_tag(&mut self, name: Name, tag: &Tag) -> Next
-        ensures rule { covers_table (is_start_kind tag.now.kind) name ≡ true →
-            ProcessesTagInHtml InTable name tag.now self.old self.new result }
+        ensures rule { ProcessesTagWhere (covers_table (is_start_kind tag.now.kind)) InTable
+            name tag.now self.old self.new result }
     {
         if is_start(tag) {
             return self.start_in_table(name, tag);
@@ -149,8 +152,8 @@ impl TreeBuilder {
     }
 
     fn start_in_table(&mut self, name: Name, tag: &Tag) -> Next
-        ensures rule { covers_table true name ≡ true → is_start_kind tag.now.kind ≡ true →
-            ProcessesTagInHtml InTable name tag.now self.old self.new result }
+        ensures rule { is_start_kind tag.now.kind ≡ true → ProcessesTagWhere
+            (covers_table true) InTable name tag.now self.old self.new result }
     {
         if is_table_part(name) {
             return self.start_table_part(name, tag);
@@ -162,8 +165,8 @@ impl TreeBuilder {
     }
 
     fn end_in_table(&mut self, name: Name, tag: &Tag) -> Next
-        ensures rule { covers_table false name ≡ true → is_start_kind tag.now.kind ≡ false →
-            ProcessesTagInHtml InTable name tag.now self.old self.new result }
+        ensures rule { is_start_kind tag.now.kind ≡ false → ProcessesTagWhere
+            (covers_table false) InTable name tag.now self.old self.new result }
     {
         if is_ignored_end(name) {
             return Next::Done;
@@ -175,7 +178,7 @@ impl TreeBuilder {
         if name == Name::Template {
             return self.end_template();
         }
-        self.fostered(Token::Tag(name, tag))
+        self.fostered_tag(name, tag)
     }
 
     /// Closes the open table, and returns whether there was one.
@@ -191,19 +194,20 @@ impl TreeBuilder {
         false
     }
 
-    /// Processes a token that can't be in a table by the rules for "in body", with foster
-    /// parenting.
-    pub fn fostered(&mut self, token: Token<'_>) -> Next {
+    /// Processes a tag that can't be in a table by the rules for "in body", with foster parenting.
+    fn fostered_tag(&mut self, name: Name, tag: &Tag) -> Next
+        ensures rule { FostersTag name tag.now self.old self.new result }
+    {
         self.placing.foster = true;
-        let step = self.body_step(token);
+        let next = self.body_tag(name, tag);
         self.placing.foster = false;
-        step
+        next
     }
 
     /// Processes start tags of elements that are no part of a table.
     fn start_other_in_table(&mut self, name: Name, tag: &Tag) -> Next
-        ensures rule { covers_other name ≡ true → is_start_kind tag.now.kind ≡ true →
-            ProcessesTag InTable name tag.now self.old self.new result }
+        ensures rule { is_start_kind tag.now.kind ≡ true → ProcessesTagWhere
+            covers_other InTable name tag.now self.old self.new result }
     {
         if name == Name::Table {
             return next_if(self.end_table());
@@ -214,7 +218,7 @@ impl TreeBuilder {
         if name == Name::Input {
             return self.start_table_input(name, tag);
         }
-        self.fostered(Token::Tag(name, tag))
+        self.fostered_tag(name, tag)
     }
 
     fn start_table_part(&mut self, name: Name, tag: &Tag) -> Next
@@ -248,11 +252,14 @@ impl TreeBuilder {
         self.insert_then(name, tag, Mode::InCaption)
     }
 
-    fn start_table_input(&mut self, name: Name, tag: &Tag) -> Next {
+    fn start_table_input(&mut self, name: Name, tag: &Tag) -> Next
+        ensures rule { name ≡ TheInput → is_start_kind tag.now.kind ≡ true → ProcessesTagWhere
+            covers_input InTable name tag.now self.old self.new result }
+    {
         if is_hidden(tag) {
             return self.insert_void(name, tag);
         }
-        self.fostered(Token::Tag(name, tag))
+        self.fostered_tag(name, tag)
     }
 
     fn start_table_form(&mut self, tag: &Tag) -> Next
@@ -294,8 +301,8 @@ impl TreeBuilder {
     }
 
     pub fn caption_tag(&mut self, name: Name, tag: &Tag) -> Next
-        ensures rule { covers_caption (is_start_kind tag.now.kind) name ≡ true →
-            ProcessesTagInHtml InCaption name tag.now self.old self.new result }
+        ensures rule { ProcessesTagWhere (covers_caption (is_start_kind tag.now.kind)) InCaption
+            name tag.now self.old self.new result }
     {
         if is_start(tag) {
             return self.start_in_caption(name, tag);
@@ -304,8 +311,8 @@ impl TreeBuilder {
     }
 
     fn start_in_caption(&mut self, name: Name, tag: &Tag) -> Next
-        ensures rule { covers_caption true name ≡ true → is_start_kind tag.now.kind ≡ true →
-            ProcessesTagInHtml InCaption name tag.now self.old self.new result }
+        ensures rule { is_start_kind tag.now.kind ≡ true → ProcessesTagWhere
+            (covers_caption true) InCaption name tag.now self.old self.new result }
     {
         if is_table_part(name) {
             return next_if(self.end_caption());
@@ -314,8 +321,8 @@ impl TreeBuilder {
     }
 
     fn end_in_caption(&mut self, name: Name, tag: &Tag) -> Next
-        ensures rule { covers_caption false name ≡ true → is_start_kind tag.now.kind ≡ false →
-            ProcessesTagInHtml InCaption name tag.now self.old self.new result }
+        ensures rule { is_start_kind tag.now.kind ≡ false → ProcessesTagWhere
+            (covers_caption false) InCaption name tag.now self.old self.new result }
     {
         if name == Name::Table {
             return next_if(self.end_caption());
@@ -420,8 +427,8 @@ impl TreeBuilder {
     }
 
     pub fn table_body_tag(&mut self, name: Name, tag: &Tag) -> Next
-        ensures rule { covers_table_body (is_start_kind tag.now.kind) name ≡ true →
-            ProcessesTagInHtml InTableBody name tag.now self.old self.new result }
+        ensures rule { ProcessesTagWhere (covers_table_body (is_start_kind tag.now.kind))
+            InTableBody name tag.now self.old self.new result }
     {
         if is_start(tag) {
             return self.start_in_table_body(name, tag);
@@ -430,8 +437,8 @@ impl TreeBuilder {
     }
 
     fn start_in_table_body(&mut self, name: Name, tag: &Tag) -> Next
-        ensures rule { covers_table_body true name ≡ true → is_start_kind tag.now.kind ≡ true →
-            ProcessesTagInHtml InTableBody name tag.now self.old self.new result }
+        ensures rule { is_start_kind tag.now.kind ≡ true → ProcessesTagWhere
+            (covers_table_body true) InTableBody name tag.now self.old self.new result }
     {
         if name == Name::Tr {
             return self.start_row(name, tag);
@@ -446,8 +453,8 @@ impl TreeBuilder {
     }
 
     fn end_in_table_body(&mut self, name: Name, tag: &Tag) -> Next
-        ensures rule { covers_table_body false name ≡ true → is_start_kind tag.now.kind ≡ false →
-            ProcessesTagInHtml InTableBody name tag.now self.old self.new result }
+        ensures rule { is_start_kind tag.now.kind ≡ false → ProcessesTagWhere
+            (covers_table_body false) InTableBody name tag.now self.old self.new result }
     {
         if is_section(name) {
             return self.close_section(name);
@@ -517,8 +524,8 @@ impl TreeBuilder {
     }
 
     pub fn row_tag(&mut self, name: Name, tag: &Tag) -> Next
-        ensures rule { covers_row (is_start_kind tag.now.kind) name ≡ true →
-            ProcessesTagInHtml InRow name tag.now self.old self.new result }
+        ensures rule { ProcessesTagWhere (covers_row (is_start_kind tag.now.kind)) InRow
+            name tag.now self.old self.new result }
     {
         if is_start(tag) {
             return self.start_in_row(name, tag);
@@ -527,8 +534,8 @@ impl TreeBuilder {
     }
 
     fn start_in_row(&mut self, name: Name, tag: &Tag) -> Next
-        ensures rule { covers_row true name ≡ true → is_start_kind tag.now.kind ≡ true →
-            ProcessesTagInHtml InRow name tag.now self.old self.new result }
+        ensures rule { is_start_kind tag.now.kind ≡ true → ProcessesTagWhere
+            (covers_row true) InRow name tag.now self.old self.new result }
     {
         if is_cell(name) {
             return self.start_cell(name, tag);
@@ -540,8 +547,8 @@ impl TreeBuilder {
     }
 
     fn end_in_row(&mut self, name: Name, tag: &Tag) -> Next
-        ensures rule { covers_row false name ≡ true → is_start_kind tag.now.kind ≡ false →
-            ProcessesTagInHtml InRow name tag.now self.old self.new result }
+        ensures rule { is_start_kind tag.now.kind ≡ false → ProcessesTagWhere
+            (covers_row false) InRow name tag.now self.old self.new result }
     {
         if name == Name::Tr {
             self.leave_row();
@@ -633,8 +640,8 @@ impl TreeBuilder {
     }
 
     pub fn cell_tag(&mut self, name: Name, tag: &Tag) -> Next
-        ensures rule { covers_cell (is_start_kind tag.now.kind) name ≡ true →
-            ProcessesTagInHtml InCell name tag.now self.old self.new result }
+        ensures rule { ProcessesTagWhere (covers_cell (is_start_kind tag.now.kind)) InCell
+            name tag.now self.old self.new result }
     {
         if is_start(tag) {
             return self.start_in_cell(name, tag);
@@ -643,8 +650,8 @@ impl TreeBuilder {
     }
 
     fn start_in_cell(&mut self, name: Name, tag: &Tag) -> Next
-        ensures rule { covers_cell true name ≡ true → is_start_kind tag.now.kind ≡ true →
-            ProcessesTagInHtml InCell name tag.now self.old self.new result }
+        ensures rule { is_start_kind tag.now.kind ≡ true → ProcessesTagWhere
+            (covers_cell true) InCell name tag.now self.old self.new result }
     {
         if is_table_part(name) {
             return self.leave_cell();
@@ -653,8 +660,8 @@ impl TreeBuilder {
     }
 
     fn end_in_cell(&mut self, name: Name, tag: &Tag) -> Next
-        ensures rule { covers_cell false name ≡ true → is_start_kind tag.now.kind ≡ false →
-            ProcessesTagInHtml InCell name tag.now self.old self.new result }
+        ensures rule { is_start_kind tag.now.kind ≡ false → ProcessesTagWhere
+            (covers_cell false) InCell name tag.now self.old self.new result }
     {
         if is_cell(name) {
             self.end_cell(name);

@@ -1,9 +1,4 @@
-use Rattle.std.proofs.Common.{arith, inl, inr, refl, rules, sym, subst, ap, ◌∙◌, ◌≡◌, Bool, true, false, length, List}
-use denote.Enum.Bare.{same_false, same_true}
-use Rattle.page_trees.specs.contracts.name.Name.{the_type}
-use Rattle.page_trees.specs.Constructs.{Constructs, IsCurrentTag, Outcome}
-use Rattle.page_trees.specs.declared.builder.Next.{Next}
-use Rattle.page_trees.specs.declared.builder.TreeBuilder.{TreeBuilder}
+use Rattle.std.proofs.Common.{inl, inr, refl, sym, subst}
 use Rattle.page_trees.specs.declared.name.Name.{Name}
 use Rattle.standard_trees.specs.RuleWords.{RawText, RcdataText, ScriptText}
 use Rattle.page_trees.specs.Constructs.{Performs}

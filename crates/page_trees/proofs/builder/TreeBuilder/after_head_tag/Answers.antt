@@ -1,4 +1,4 @@
-use Rattle.std.proofs.Common.{inl, inr, refl, rules, sym, subst, ap, ◌∙◌, ◌≡◌}
+use Rattle.std.proofs.Common.{rules, sym, subst, ◌∙◌, ◌≡◌}
 use denote.Enum.Bare.{same_false, same_true}
 use Rattle.page_trees.specs.contracts.name.Name.{the_type}
 use Rattle.page_trees.specs.Constructs.{IsCurrentTag, Outcome}

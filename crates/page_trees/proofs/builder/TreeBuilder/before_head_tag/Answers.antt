@@ -1,4 +1,4 @@
-use Rattle.std.proofs.Common.{rules, refl, sym, subst, ap, ◌∙◌, ◌≡◌}
+use Rattle.std.proofs.Common.{rules, sym, subst, ◌∙◌, ◌≡◌}
 use denote.Enum.Bare.{same_false, same_true}
 use Rattle.standard_trees.specs.RuleWords.{BeforeHead}
 use Rattle.page_trees.specs.Constructs.{IsCurrentTag, Outcome}

@@ -2,8 +2,10 @@ use Rattle.std.proofs.Common.{ap, inl, inr, refl, sym, ◌∙◌}
 use Rattle.page_trees.specs.BodyTags.{ends_otherwise}
 use Rattle.page_trees.specs.declared.modes.groups.Group.{Group}
 use Rattle.page_trees.specs.declared.name.Name.{Name}
-use Rattle.page_trees.proofs.BodyEnds.{block_ended, body_named, description_ended, end_uncovered, ends_by_name, heading_ended, html_named, left_over, li_ended, p_ended}
+use Rattle.page_trees.proofs.BodyEnds.{block_ended, body_named, description_ended, ends_by_name, heading_ended, html_named, left_over, li_ended, p_ended}
 use Rattle.page_trees.proofs.BodyFormatting.{formatting_closed}
+use Rattle.page_trees.proofs.BodyForms.{form_named}
+use Rattle.page_trees.proofs.ObjectEnds.{object_ended, template_ended}
 use Rattle.page_trees.proofs.builder.TreeBuilder.body_end.Goals as goal
 
 pub returns-in-Block : goal.returns-in-Block
@@ -48,7 +50,9 @@ returns-in-A c = record {
 }
 
 pub returns-in-Template : goal.returns-in-Template
-returns-in-Template c = record { rule = end_uncovered c.group_of.result Group.Template c.args.name c.args.tag.now c.args.self.now _ _ (sym c.group_of.ensures.named) c.in-Template.is refl }
+returns-in-Template c = record {
+  rule = template_ended c.args.name c.args.tag.now c.args.self.now c.end_template.new.self c.end_template.result (sym c.group_of.ensures.named ∙ c.in-Template.is) c.end_template.ensures.rule;
+}
 
 pub returns-in-Body : goal.returns-in-Body
 returns-in-Body c = record {
@@ -63,7 +67,10 @@ returns-in-Html c = record {
 }
 
 pub returns-in-Form : goal.returns-in-Form
-returns-in-Form c = record { rule = end_uncovered c.group_of.result Group.Form c.args.name c.args.tag.now c.args.self.now _ _ (sym c.group_of.ensures.named) c.in-Form.is refl }
+returns-in-Form c = record {
+  rule = ends_by_name Group.Form c.args.name Name.Form c.args.tag.now c.args.self.now c.end_form.new.self c.end_form.result (sym c.group_of.ensures.named ∙ c.in-Form.is) (form_named c.args.name)
+      (c.end_form.ensures.rule c.args.tag.now);
+}
 
 pub returns-in-P : goal.returns-in-P
 returns-in-P c = record {
@@ -71,7 +78,10 @@ returns-in-P c = record {
 }
 
 pub returns-in-Object : goal.returns-in-Object
-returns-in-Object c = record { rule = end_uncovered c.group_of.result Group.Object c.args.name c.args.tag.now c.args.self.now _ _ (sym c.group_of.ensures.named) c.in-Object.is refl }
+returns-in-Object c = record {
+  rule = object_ended c.args.name c.args.tag.now c.args.self.now c.end_object.new.self c.end_object.result (sym c.group_of.ensures.named ∙ c.in-Object.is) c.end_object.ensures.next
+      c.end_object.ensures.rule;
+}
 
 pub returns-in_default : goal.returns-in_default
 returns-in_default c = record {

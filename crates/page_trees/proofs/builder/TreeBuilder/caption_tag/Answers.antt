@@ -5,12 +5,12 @@ use Rattle.page_trees.proofs.builder.TreeBuilder.caption_tag.Goals as goal
 
 pub returns-then-is_start : goal.returns-then-is_start
 returns-then-is_start c = record {
-  rule = λ stated. (let starts : is_start_kind c.args.tag.now.kind ≡ true = sym c.is_start.ensures ∙ c.if-is_start.true in
-      c.start_in_caption.ensures.rule (subst (λ (s : Bool). covers_caption s c.args.name ≡ true) starts stated) starts);
+  rule = let starts : is_start_kind c.args.tag.now.kind ≡ true = sym c.is_start.ensures ∙ c.if-is_start.true in
+      λ within b current html covered stands. c.start_in_caption.ensures.rule starts within b current html (subst (λ (s : Bool). covers_caption s c.args.name b ≡ true) starts covered) stands;
 }
 
 pub returns : goal.returns
 returns c = record {
-  rule = λ stated. (let ends : is_start_kind c.args.tag.now.kind ≡ false = sym c.is_start.ensures ∙ c.if-is_start.false in
-      c.end_in_caption.ensures.rule (subst (λ (s : Bool). covers_caption s c.args.name ≡ true) ends stated) ends);
+  rule = let ends : is_start_kind c.args.tag.now.kind ≡ false = sym c.is_start.ensures ∙ c.if-is_start.false in
+      λ within b current html covered stands. c.end_in_caption.ensures.rule ends within b current html (subst (λ (s : Bool). covers_caption s c.args.name b ≡ true) ends covered) stands;
 }

@@ -1,4 +1,4 @@
-use Rattle.std.proofs.Common.{◌≡◌, ◌∙◌, Bool, false, refl, sym, subst}
+use Rattle.std.proofs.Common.{◌∙◌, Bool, false, refl, sym, subst}
 use Rattle.standard_trees.specs.RuleWords.{InTableBody}
 use Rattle.page_trees.specs.Constructs.{Constructs, Outcome, all_performed}
 use Rattle.page_trees.specs.TableSteps.{closing_section, if_found}

@@ -10,7 +10,8 @@ use Rattle.page_trees.proofs.builder.TreeBuilder.comment.Goals as goal
 
 pub returns-clause-tokens : goal.returns-clause-tokens
 returns-clause-tokens c cs spelt =
-    comment_whole cs c.args.self.now c.settle_table_text.new.self _ c.settle_table_text.ensures.same (c.insert_comment.ensures.rule cs spelt)
+    comment_whole cs c.args.self.now _ c.settle_table_text.new.self _ refl c.settle_table_text.ensures.same c.settle_table_text.ensures.rule c.insert_comment.ensures.limits
+    (c.insert_comment.ensures.rule cs spelt)
 
 pub returns-clause-rule : goal.returns-clause-rule
 returns-clause-rule c cs spelt early quiet within b ends stands =

@@ -10,7 +10,8 @@ use Rattle.page_trees.proofs.builder.TreeBuilder.doctype.Goals as goal
 
 pub returns-clause-tokens : goal.returns-clause-tokens
 returns-clause-tokens c d is =
-    doctype_whole d c.args.self.now c.settle_table_text.new.self _ c.settle_table_text.ensures.same (c.take_doctype.ensures.rule d is)
+    doctype_whole d c.args.self.now _ c.settle_table_text.new.self _ refl c.settle_table_text.ensures.same c.settle_table_text.ensures.rule c.take_doctype.ensures.limits
+    (c.take_doctype.ensures.rule d is)
 
 pub returns-clause-rule : goal.returns-clause-rule
 returns-clause-rule c d is early quiet within b stands =

@@ -1,4 +1,4 @@
-use Rattle.std.proofs.Common.{refl, ◌≡◌, sym, subst, ◌∙◌, Bool, true, false, [], ◌∷◌, codes}
+use Rattle.std.proofs.Common.{refl, sym, subst, ◌∙◌, Bool, [], ◌∷◌, codes}
 use Rattle.standard_trees.specs.RuleWords.{ClearListToMarker, InTable, PopUntil, SwitchTo, These}
 use Rattle.page_trees.specs.Constructs.{Constructs, all_performed}
 use Rattle.page_trees.specs.TableSteps.{if_found}

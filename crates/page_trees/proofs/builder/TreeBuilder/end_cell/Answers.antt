@@ -1,4 +1,4 @@
-use Rattle.std.proofs.Common.{refl, ◌≡◌, sym, subst, ◌∙◌, Bool, true, false, [], ◌∷◌}
+use Rattle.std.proofs.Common.{refl, sym, subst, ◌∙◌, Bool, [], ◌∷◌}
 use Rattle.standard_trees.specs.RuleWords.{ClearListToMarker, InRow, PopUntil, SwitchTo, These}
 use Rattle.page_trees.specs.Constructs.{Constructs, all_performed}
 use Rattle.page_trees.specs.Names.{text_of}

@@ -1,10 +1,9 @@
-use Rattle.std.proofs.Common.{◌≡◌, ◌∙◌, Bool, true, false, [], ◌∷◌, refl, rules, sym, ap, subst, true≢false}
+use Rattle.std.proofs.Common.{◌∙◌, false, refl, rules, sym, subst}
 use denote.Enum.Bare.{same_false, same_true}
 use Rattle.standard_trees.specs.RuleWords.{InColumnGroup, InHead}
 use Rattle.page_trees.specs.contracts.name.Name.{the_type}
-use Rattle.page_trees.specs.Constructs.{IsCurrentTag, Outcome}
+use Rattle.page_trees.specs.Constructs.{IsCurrentTag}
 use Rattle.page_trees.specs.TableSteps.{closing_group, is_again}
-use Rattle.page_trees.specs.declared.builder.Next.{Next}
 use Rattle.page_trees.specs.declared.name.Name.{Name}
 use Rattle.page_trees.proofs.TableRows.{col_end, end_in_group, group_end, group_known, template_end_in_group}
 use Rattle.page_trees.proofs.TableTags.{row_at, tag_closes, tag_ignored, tag_leaves_by, tag_uses}

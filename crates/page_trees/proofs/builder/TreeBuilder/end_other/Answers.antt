@@ -1,6 +1,7 @@
-use Rattle.std.proofs.Common.{[], rules, sym, ◌≡◌, ◌∙◌, ◌∷◌}
+use Rattle.std.proofs.Common.{[], rules, subst, sym, ◌≡◌, ◌∙◌, ◌∷◌}
 use denote.Enum.Bare.{same_false, same_true}
 use Rattle.page_trees.specs.Names.{text_of}
+use Rattle.page_trees.specs.Stands.{IsOtherName}
 use Rattle.page_trees.specs.contracts.name.Name.{the_type}
 use Rattle.page_trees.specs.declared.name.Name.{Name}
 use Rattle.page_trees.proofs.BodyEnds.{br_ended, other_ended, other_step}
@@ -16,3 +17,5 @@ returns-clause-rule c otherwise =
     other_ended c.args.name c.args.tag.now c.args.self.now (record c.args.self.now { tree = c.close_named.new.self }) otherwise
     (same_false the_type c.args.name Name.Br (sym c.eq.ensures ∙ c.if-eq.false))
     (λ known. other_step c.args.self.now c.close_named.new.self (text_of c.args.name ∷ []) (c.close_named.ensures.rule known))
+    (λ text is. other_step c.args.self.now c.close_named.new.self (text ∷ [])
+    (c.close_named.ensures.other text (subst (λ bytes. IsOtherName c.args.name bytes text) (sym c.as_str.ensures.value) is)))

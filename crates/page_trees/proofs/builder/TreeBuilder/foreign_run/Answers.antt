@@ -1,4 +1,4 @@
-use Rattle.std.proofs.Common.{[], ◌∷◌, ◌≡◌, Bool, refl, subst, sym, true, ◌∙◌, ap}
+use Rattle.std.proofs.Common.{[], ◌∷◌, refl, sym, ◌∙◌, ap}
 use Rattle.page_trees.specs.CharacterSteps.{is_run}
 use Rattle.page_trees.specs.declared.chars.Run.{Run}
 use Rattle.page_trees.proofs.RunOutcomes.{letters_in_foreign, nulls_in_foreign, spaces_in_foreign}

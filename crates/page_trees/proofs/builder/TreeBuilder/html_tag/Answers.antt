@@ -1,7 +1,7 @@
-use Rattle.std.proofs.Common.{inl, inr, refl}
+use Rattle.std.proofs.Common.{refl}
 use Rattle.page_trees.specs.declared.builder.Mode.{Mode}
 use Rattle.page_trees.specs.TableSteps.{covers_caption, covers_cell, covers_group, covers_row, covers_table, covers_table_body}
-use Rattle.page_trees.proofs.CoveredTags.{always, not_covered, outer_of, text_covered, under_body, under_test}
+use Rattle.page_trees.proofs.CoveredTags.{always, outer_of, text_covered, text_left, under_body, under_state, under_test}
 use Rattle.page_trees.proofs.builder.TreeBuilder.html_tag.Goals as goal
 
 pub returns-in-Text : goal.returns-in-Text
@@ -14,30 +14,28 @@ returns-in_default c = record {
 }
 
 pub returns-in-InTable : goal.returns-in-InTable
-returns-in-InTable c = record {
-  rule = elim c.in-InTable.is [
-    | inl e ↦ under_test _ Mode.InTable _ _ _ _ _ e covers_table (λ b. refl) c.table_tag.ensures.rule
-    | inr e ↦ not_covered _ Mode.InTableText _ _ _ _ _ e (λ b. refl)
-  ];
-}
+returns-in-InTable c = record { rule = under_state _ Mode.InTable _ _ _ _ _ c.in-InTable.is covers_table (λ b. refl) c.table_tag.ensures.rule }
+
+pub returns-in-InTableText : goal.returns-in-InTableText
+returns-in-InTableText c = record { rule = text_left c.args.name c.args.tag.now c.args.self.now _ _ c.in-InTableText.is c.leave_table_text.ensures.next c.leave_table_text.ensures.rule }
 
 pub returns-in-InBody : goal.returns-in-InBody
 returns-in-InBody c = record { rule = under_body _ _ _ _ _ _ c.in-InBody.is c.body_tag.ensures.rule }
 
 pub returns-in-InCaption : goal.returns-in-InCaption
-returns-in-InCaption c = record { rule = under_test _ Mode.InCaption _ _ _ _ _ c.in-InCaption.is covers_caption (λ b. refl) c.caption_tag.ensures.rule }
+returns-in-InCaption c = record { rule = under_state _ Mode.InCaption _ _ _ _ _ c.in-InCaption.is covers_caption (λ b. refl) c.caption_tag.ensures.rule }
 
 pub returns-in-InColumnGroup : goal.returns-in-InColumnGroup
 returns-in-InColumnGroup c = record { rule = under_test _ Mode.InColumnGroup _ _ _ _ _ c.in-InColumnGroup.is (λ start name. covers_group name) (λ b. refl) c.column_group_tag.ensures.rule }
 
 pub returns-in-InTableBody : goal.returns-in-InTableBody
-returns-in-InTableBody c = record { rule = under_test _ Mode.InTableBody _ _ _ _ _ c.in-InTableBody.is covers_table_body (λ b. refl) c.table_body_tag.ensures.rule }
+returns-in-InTableBody c = record { rule = under_state _ Mode.InTableBody _ _ _ _ _ c.in-InTableBody.is covers_table_body (λ b. refl) c.table_body_tag.ensures.rule }
 
 pub returns-in-InRow : goal.returns-in-InRow
-returns-in-InRow c = record { rule = under_test _ Mode.InRow _ _ _ _ _ c.in-InRow.is covers_row (λ b. refl) c.row_tag.ensures.rule }
+returns-in-InRow c = record { rule = under_state _ Mode.InRow _ _ _ _ _ c.in-InRow.is covers_row (λ b. refl) c.row_tag.ensures.rule }
 
 pub returns-in-InCell : goal.returns-in-InCell
-returns-in-InCell c = record { rule = under_test _ Mode.InCell _ _ _ _ _ c.in-InCell.is covers_cell (λ b. refl) c.cell_tag.ensures.rule }
+returns-in-InCell c = record { rule = under_state _ Mode.InCell _ _ _ _ _ c.in-InCell.is covers_cell (λ b. refl) c.cell_tag.ensures.rule }
 
 pub returns-in-InTemplate : goal.returns-in-InTemplate
 returns-in-InTemplate c = record { rule = always _ Mode.InTemplate _ _ _ _ _ c.in-InTemplate.is c.template_tag.ensures.rule }

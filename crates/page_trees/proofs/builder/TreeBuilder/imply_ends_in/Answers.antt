@@ -1,4 +1,4 @@
-use Rattle.std.proofs.Common.{[], refl, subst, sym, ◌∙◌, ◌∷◌}
+use Rattle.std.proofs.Common.{[], subst, sym, ◌∙◌, ◌∷◌}
 use Rattle.page_trees.specs.Names.{text_of}
 use Rattle.page_trees.specs.Stands.{IsStackOf, text_list}
 use Rattle.page_trees.proofs.BodyControls.{implied_absent, implied_present}

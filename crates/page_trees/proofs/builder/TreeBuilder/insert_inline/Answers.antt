@@ -1,4 +1,3 @@
-use Rattle.std.proofs.Common.{[], ◌∷◌}
 use Rattle.page_trees.proofs.ClosedEntries.{still_current}
 use Rattle.page_trees.proofs.builder.TreeBuilder.insert_inline.Goals as goal
 

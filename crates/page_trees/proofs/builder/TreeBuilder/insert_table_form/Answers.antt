@@ -1,4 +1,3 @@
-use Rattle.std.proofs.Common.{refl}
 use Rattle.page_trees.proofs.BuilderSteps.{popped_one}
 use Rattle.page_trees.proofs.TableTags.{form_of_tag}
 use Rattle.page_trees.proofs.builder.TreeBuilder.insert_table_form.Goals as goal

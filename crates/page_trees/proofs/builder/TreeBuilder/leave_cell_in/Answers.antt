@@ -1,6 +1,6 @@
-use Rattle.std.proofs.Common.{◌∙◌, ◌≡◌, refl, sym, ap, subst, Bool}
+use Rattle.std.proofs.Common.{◌∙◌, sym, ap, subst, Bool}
 use Rattle.page_trees.specs.Constructs.{Constructs, all_performed}
-use Rattle.page_trees.specs.TableSteps.{cell_names, closing_cell, closing_row, closing_section, if_found, is_again}
+use Rattle.page_trees.specs.TableSteps.{cell_names, closing_cell, if_found, is_again}
 use Rattle.page_trees.proofs.builder.TreeBuilder.leave_cell_in.Goals as goal
 
 pub returns-then-has_in_table-clause-found : goal.returns-then-has_in_table-clause-found

@@ -1,13 +1,7 @@
-use Rattle.std.proofs.Common.{arith, inl, inr, refl, rules, sym, subst, ap, ◌∙◌, ◌≡◌, Bool, true, false, length, List}
-use denote.Enum.Bare.{same_false, same_true}
-use Rattle.page_trees.specs.contracts.name.Name.{the_type}
-use Rattle.page_trees.specs.Constructs.{Constructs, IsCurrentTag, Outcome}
-use Rattle.page_trees.specs.declared.builder.Next.{Next}
-use Rattle.page_trees.specs.declared.builder.TreeBuilder.{TreeBuilder}
+use Rattle.std.proofs.Common.{refl, sym, ◌∙◌}
 use Rattle.page_trees.specs.declared.name.Name.{Name}
 use Rattle.page_trees.specs.declared.builder.Mode.{Mode}
 use Rattle.page_trees.proofs.BuilderSteps.{entered}
-use Rattle.page_trees.proofs.BuiltStacks.{current_tells}
 use Rattle.page_trees.proofs.FramesetTags.{left_none, open_current, stays_fragment, stays_frameset}
 use Rattle.page_trees.proofs.builder.TreeBuilder.leave_framesets.Goals as goal
 

@@ -1,7 +1,8 @@
-use Rattle.std.proofs.Common.{subst, sym, ◌∙◌}
+use Rattle.std.proofs.Common.{subst, sym, ◌∙◌, ◌∷◌}
 use Rattle.page_trees.specs.CharacterSteps.{RunOutcome}
 use Rattle.page_trees.specs.declared.builder.Next.{Next}
-use Rattle.page_trees.proofs.RunOutcomes.{no_pending, no_table, run_ignored, run_in_body, run_left, run_put}
+use Rattle.page_trees.proofs.RunOutcomes.{run_ignored, run_in_body, run_left, run_put}
+use Rattle.page_trees.proofs.TableRuns.{pending_plain, run_pending}
 use Rattle.page_trees.proofs.builder.TreeBuilder.run_in_mode.Goals as goal
 
 pub returns-in-Ignore : goal.returns-in-Ignore
@@ -20,11 +21,14 @@ returns-in-Body c x xs run within b token goes covered stands =
 
 pub returns-in-Table : goal.returns-in-Table
 returns-in-Table c x xs run within b token goes covered stands =
-    absurd (no_table c.args.kind c.args.self.now.mode b (sym c.way_of.ensures ∙ c.in-Table.is) covered goes stands.mode)
+    c.table_run.ensures (sym c.way_of.ensures ∙ c.in-Table.is) x xs run within b token goes covered stands
 
 pub returns-in-Pending : goal.returns-in-Pending
 returns-in-Pending c x xs run within b token goes covered stands =
-    absurd (no_pending c.args.kind c.args.self.now.mode b (sym c.way_of.ensures ∙ c.in-Pending.is) covered goes stands.mode)
+    let way = sym c.way_of.ensures ∙ c.in-Pending.is in
+    subst (λ (n : Next). RunOutcome c.args.kind x xs b c.pending_run.new.self n) (sym c.pending_run.ensures.next)
+    (run_pending c.args.kind c.args.self.now _ x xs way run.run b token goes covered stands
+    (λ keeps. c.pending_run.ensures.rule (x ∷ xs) run.spelt run.run (pending_plain c.args.kind c.args.self.now.mode (x ∷ xs) way run.run) keeps within b stands))
 
 pub returns-in-Leave : goal.returns-in-Leave
 returns-in-Leave c x xs run within b token goes covered stands =

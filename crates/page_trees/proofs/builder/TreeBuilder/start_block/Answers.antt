@@ -1,8 +1,9 @@
-use Rattle.std.proofs.Common.{inl, inr, refl}
 use Rattle.page_trees.specs.declared.modes.groups.Group.{Group}
 use Rattle.page_trees.specs.declared.name.Name.{Name}
-use Rattle.page_trees.proofs.BodyStarts.{block_started, button_named, by_name, heading_started, item_started, phrase_left, pre_started, uncovered}
+use Rattle.page_trees.proofs.BodyStarts.{block_started, button_named, by_name, heading_started, item_started, phrase_left, pre_started}
 use Rattle.page_trees.proofs.BodyElements.{html_named, html_started}
+use Rattle.page_trees.proofs.BodyForms.{form_named}
+use Rattle.page_trees.proofs.LaterBodies.{body_named, frameset_named}
 use Rattle.page_trees.proofs.builder.TreeBuilder.start_block.Goals as goal
 
 pub returns-in-Block : goal.returns-in-Block
@@ -24,13 +25,22 @@ returns-in-Html c = record {
 }
 
 pub returns-in-Body : goal.returns-in-Body
-returns-in-Body c = record { rule = uncovered c.args.group Group.Body c.args.name c.args.tag.now c.args.self.now _ _ c.in-Body.is refl }
+returns-in-Body c = record {
+  rule = by_name c.args.group Group.Body c.args.name Name.Body c.args.tag.now c.args.self.now c.start_body.new.self c.start_body.result c.in-Body.is (body_named c.args.name)
+      c.start_body.ensures.rule;
+}
 
 pub returns-in-Frameset : goal.returns-in-Frameset
-returns-in-Frameset c = record { rule = uncovered c.args.group Group.Frameset c.args.name c.args.tag.now c.args.self.now _ _ c.in-Frameset.is refl }
+returns-in-Frameset c = record {
+  rule = by_name c.args.group Group.Frameset c.args.name Name.Frameset c.args.tag.now c.args.self.now c.start_frameset.new.self c.start_frameset.result c.in-Frameset.is (frameset_named c.args.name)
+      c.start_frameset.ensures.rule;
+}
 
 pub returns-in-Form : goal.returns-in-Form
-returns-in-Form c = record { rule = uncovered c.args.group Group.Form c.args.name c.args.tag.now c.args.self.now _ _ c.in-Form.is refl }
+returns-in-Form c = record {
+  rule = by_name c.args.group Group.Form c.args.name Name.Form c.args.tag.now c.args.self.now c.start_form.new.self c.start_form.result c.in-Form.is (form_named c.args.name)
+      c.start_form.ensures.rule;
+}
 
 pub returns-in-Button : goal.returns-in-Button
 returns-in-Button c = record {

@@ -1,9 +1,6 @@
-use Rattle.std.proofs.Common.{inl, inr, refl, rules, sym, subst, ap, ◌∙◌, ◌≡◌}
-use denote.Enum.Bare.{same_false, same_true}
-use Rattle.page_trees.specs.contracts.name.Name.{the_type}
-use Rattle.page_trees.specs.Constructs.{IsCurrentTag, Outcome}
+use Rattle.std.proofs.Common.{refl, sym, subst}
+use Rattle.page_trees.specs.Constructs.{Outcome}
 use Rattle.page_trees.specs.declared.builder.Next.{Next}
-use Rattle.page_trees.specs.declared.name.Name.{Name}
 use Rattle.standard_trees.specs.RuleWords.{AfterHead}
 use Rattle.page_trees.proofs.ClosedEntries.{no_frameset}
 use Rattle.page_trees.proofs.HeadModes.{body_opened, spoiled_current}

@@ -1,11 +1,8 @@
-use Rattle.std.proofs.Common.{arith, inl, inr, refl, rules, sym, subst, ap, ◌∙◌, ◌≡◌, Bool, true, false, length, List}
-use denote.Enum.Bare.{same_false, same_true}
-use Rattle.page_trees.specs.contracts.name.Name.{the_type}
-use Rattle.page_trees.specs.Constructs.{Constructs, IsCurrentTag, Outcome}
+use Rattle.std.proofs.Common.{sym, subst, ap}
+use Rattle.page_trees.specs.Constructs.{IsCurrentTag, Outcome}
 use Rattle.page_trees.specs.declared.builder.Next.{Next}
-use Rattle.page_trees.specs.declared.builder.TreeBuilder.{TreeBuilder}
 use Rattle.page_trees.specs.declared.name.Name.{Name}
-use Rattle.standard_trees.specs.RuleWords.{InFrameset, InHead}
+use Rattle.standard_trees.specs.RuleWords.{InFrameset}
 use Rattle.page_trees.specs.Groups.{is_metadata_name}
 use Rattle.page_trees.proofs.FramesetTags.{frame_in_frameset, frameset_in_frameset, html_in_frameset, ignored_in_frameset, noframes_in_frameset}
 use Rattle.page_trees.proofs.builder.TreeBuilder.start_in_frameset.Goals as goal

@@ -1,10 +1,10 @@
-use Rattle.std.proofs.Common.{◌≡◌, ◌∙◌, Bool, true, false, [], ◌∷◌, refl, rules, sym, ap, subst, true≢false}
+use Rattle.std.proofs.Common.{◌∙◌, true, [], ◌∷◌, refl, rules, sym, ap, subst}
 use denote.Enum.Bare.{same_false, same_true}
 use Rattle.standard_trees.specs.RuleWords.{InBody, InColumnGroup, InHead, InsertElement, Pop}
 use Rattle.page_trees.specs.contracts.name.Name.{the_type}
 use Rattle.page_trees.specs.Constructs.{IsCurrentTag, Outcome}
 use Rattle.page_trees.specs.Groups.{is_metadata_name}
-use Rattle.page_trees.specs.TableSteps.{closing_group, is_again}
+use Rattle.page_trees.specs.TableSteps.{closing_group}
 use Rattle.page_trees.specs.declared.builder.Next.{Next}
 use Rattle.page_trees.specs.declared.name.Name.{Name}
 use Rattle.page_trees.proofs.TableRows.{col_in_group, group_known, html_in_group, start_in_group, template_in_group}

@@ -1,6 +1,4 @@
-use Rattle.std.proofs.Common.{inl, inr, refl, rules, sym, subst, ap, ◌∙◌, ◌≡◌}
-use denote.Enum.Bare.{same_false, same_true}
-use Rattle.page_trees.specs.contracts.name.Name.{the_type}
+use Rattle.std.proofs.Common.{refl, sym, subst, ◌∙◌}
 use Rattle.page_trees.specs.Constructs.{IsCurrentTag, Outcome}
 use Rattle.page_trees.specs.declared.builder.Next.{Next}
 use Rattle.page_trees.specs.declared.name.Name.{Name}

@@ -1,7 +1,4 @@
-use Rattle.std.proofs.Common.{◌≡◌, ◌||◌, ◌∙◌, Bool, true, false, [], ◌∷◌, codes, refl, rules, sym, ap, subst, true≢false}
-use denote.Enum.Bare.{same_false, same_true}
-use Rattle.page_trees.specs.contracts.name.Name.{the_type}
-use Rattle.page_trees.specs.declared.name.Name.{Name}
+use Rattle.std.proofs.Common.{◌≡◌, ◌∙◌, Bool, true, [], ◌∷◌, refl, sym, subst}
 use Rattle.page_trees.specs.declared.builder.Next.{Next}
 use Rattle.page_trees.specs.Constructs.{Outcome}
 use Rattle.standard_trees.specs.RuleWords.{InCell, InRow, InTable, InsertElement, ListMarker, SwitchTo}
@@ -13,18 +10,18 @@ use Rattle.page_trees.proofs.builder.TreeBuilder.start_in_row.Goals as goal
 
 pub returns-then-is_cell : goal.returns-then-is_cell
 returns-then-is_cell c = record {
-  rule = λ covered starts within b current html stands. subst (λ (n : Next). Outcome InRow b c.start_cell.new.self n) (sym c.start_cell.ensures.next) (tag_does InRow row_known c.args.name c.args.tag.now true b _
+  rule = λ starts within b current html covered stands. subst (λ (n : Next). Outcome InRow b c.start_cell.new.self n) (sym c.start_cell.ensures.next) (tag_does InRow row_known c.args.name c.args.tag.now true b _
       (clearing_to TableContext.Row ∷ InsertElement ∷ SwitchTo InCell ∷ ListMarker ∷ []) Next.Done current starts refl (cell_start b c.args.name (sym c.is_cell.ensures ∙ c.if-is_cell.true)) (c.start_cell.ensures.rule starts within b current stands));
 }
 
 pub returns-then-is_table_part : goal.returns-then-is_table_part
 returns-then-is_table_part c = record {
-  rule = λ covered starts within b current html stands. tag_leaves_by InRow row_known c.args.name c.args.tag.now true b _ closing_row c.leave_row.result _ current starts refl
+  rule = λ starts within b current html covered stands. tag_leaves_by InRow row_known c.args.name c.args.tag.now true b _ closing_row c.leave_row.result _ current starts refl
       (part_in_row b c.args.name (sym c.is_cell.ensures ∙ c.if-is_cell.false) (sym c.is_table_part.ensures ∙ c.if-is_table_part.true)) (c.leave_row.ensures.found b.tree stands.tree) (c.leave_row.ensures.rule within b stands);
 }
 
 pub returns : goal.returns
 returns c = record {
-  rule = λ covered starts within b current html stands. tag_uses InRow InTable row_known c.args.name c.args.tag.now true b _ _ current starts (start_in_row b c.args.name (sym c.is_table_part.ensures ∙ c.if-is_table_part.false))
-      (c.table_tag.ensures.rule (subst (λ (s : Bool). covers_table s c.args.name ≡ true) (sym starts) (left_over _ _ (sym c.is_table_part.ensures ∙ c.if-is_table_part.false) covered)) within b current html stands);
+  rule = λ starts within b current html covered stands. tag_uses InRow InTable row_known c.args.name c.args.tag.now true b _ _ current starts (start_in_row b c.args.name (sym c.is_table_part.ensures ∙ c.if-is_table_part.false))
+      (c.table_tag.ensures.rule within b current html (subst (λ (s : Bool). covers_table s c.args.name b ≡ true) (sym starts) (left_over _ _ (sym c.is_table_part.ensures ∙ c.if-is_table_part.false) covered)) stands);
 }

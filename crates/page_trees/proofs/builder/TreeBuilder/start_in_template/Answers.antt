@@ -1,12 +1,9 @@
-use Rattle.std.proofs.Common.{inl, inr, refl, rules, sym, subst, ap, ◌∙◌, ◌≡◌}
-use denote.Enum.Bare.{same_false, same_true}
-use Rattle.page_trees.specs.contracts.name.Name.{the_type}
-use Rattle.page_trees.specs.Constructs.{IsCurrentTag, Outcome}
+use Rattle.std.proofs.Common.{sym, subst, ◌∙◌}
+use Rattle.page_trees.specs.Constructs.{Outcome}
 use Rattle.page_trees.specs.declared.builder.Next.{Next}
-use Rattle.page_trees.specs.declared.name.Name.{Name}
 use Rattle.standard_trees.specs.RuleWords.{InTemplate}
-use Rattle.page_trees.proofs.BuilderSteps.{entered, same_limits}
-use Rattle.page_trees.proofs.HeadModes.{content_in_template, content_plain, element_in_template, plain_content}
+use Rattle.page_trees.proofs.BuilderSteps.{same_limits}
+use Rattle.page_trees.proofs.HeadModes.{content_in_template, element_in_template, plain_content}
 use Rattle.page_trees.proofs.builder.TreeBuilder.start_in_template.Goals as goal
 
 pub returns-then-is_metadata-clause-rule : goal.returns-then-is_metadata-clause-rule

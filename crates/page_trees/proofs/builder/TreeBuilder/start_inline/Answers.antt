@@ -1,9 +1,11 @@
-use Rattle.std.proofs.Common.{inl, inr, refl}
+use Rattle.std.proofs.Common.{refl}
 use Rattle.page_trees.specs.declared.modes.groups.Group.{Group}
-use Rattle.page_trees.proofs.BodyStarts.{by_name, object_started, stray_started, text_left, uncovered, void_started}
+use Rattle.page_trees.proofs.BodyStarts.{by_name, object_started, stray_started, text_left, void_started}
 use Rattle.page_trees.specs.declared.name.Name.{Name}
 use Rattle.page_trees.proofs.BodyControls.{base_started, hr_named, hr_started, optgroup_started, option_started, text_started}
 use Rattle.page_trees.proofs.BodyElements.{table_named, table_started}
+use Rattle.page_trees.proofs.BodyImages.{image_named}
+use Rattle.page_trees.proofs.BodyInputs.{input_named, select_named}
 use Rattle.page_trees.proofs.builder.TreeBuilder.start_inline.Goals as goal
 
 pub returns-in-Stray : goal.returns-in-Stray
@@ -28,13 +30,22 @@ returns-in-Hr c = record {
 }
 
 pub returns-in-Image : goal.returns-in-Image
-returns-in-Image c = record { rule = λ inline. uncovered c.args.group Group.Image c.args.name c.args.tag.now c.args.self.now _ _ c.in-Image.is refl }
+returns-in-Image c = record {
+  rule = λ inline. by_name c.args.group Group.Image c.args.name Name.Image c.args.tag.now c.args.self.now c.start_image.new.self c.start_image.result c.in-Image.is (image_named c.args.name)
+      c.start_image.ensures.rule;
+}
 
 pub returns-in-Input : goal.returns-in-Input
-returns-in-Input c = record { rule = λ inline. uncovered c.args.group Group.Input c.args.name c.args.tag.now c.args.self.now _ _ c.in-Input.is refl }
+returns-in-Input c = record {
+  rule = λ inline. by_name c.args.group Group.Input c.args.name Name.Input c.args.tag.now c.args.self.now c.start_input.new.self c.start_input.result c.in-Input.is (input_named c.args.name)
+      c.start_input.ensures.rule;
+}
 
 pub returns-in-Select : goal.returns-in-Select
-returns-in-Select c = record { rule = λ inline. uncovered c.args.group Group.Select c.args.name c.args.tag.now c.args.self.now _ _ c.in-Select.is refl }
+returns-in-Select c = record {
+  rule = λ inline. by_name c.args.group Group.Select c.args.name Name.Select c.args.tag.now c.args.self.now c.start_select.new.self c.start_select.result c.in-Select.is (select_named c.args.name)
+      c.start_select.ensures.rule;
+}
 
 pub returns-in-Optgroup : goal.returns-in-Optgroup
 returns-in-Optgroup c = record {

@@ -1,9 +1,9 @@
-use Rattle.std.proofs.Common.{inl, inr, refl}
 use Rattle.page_trees.specs.declared.modes.groups.Group.{Group}
 use Rattle.page_trees.specs.declared.name.Name.{Name}
-use Rattle.page_trees.proofs.BodyStarts.{by_name, inline_left, uncovered}
+use Rattle.page_trees.proofs.BodyStarts.{by_name, inline_left}
 use Rattle.page_trees.proofs.BodyElements.{head_started}
-use Rattle.page_trees.proofs.BodyFormatting.{a_continued, a_named, formatting_continued}
+use Rattle.page_trees.proofs.BodyFormatting.{a_continued, a_named, formatting_continued, nobr_continued, nobr_named}
+use Rattle.page_trees.proofs.ForeignSteps.{math_started, svg_started}
 use Rattle.page_trees.proofs.builder.TreeBuilder.start_phrase.Goals as goal
 
 pub returns-in-Metadata : goal.returns-in-Metadata
@@ -25,13 +25,22 @@ returns-in-Formatting c = record {
 }
 
 pub returns-in-Nobr : goal.returns-in-Nobr
-returns-in-Nobr c = record { rule = λ phrase. uncovered c.args.group Group.Nobr c.args.name c.args.tag.now c.args.self.now _ _ c.in-Nobr.is refl }
+returns-in-Nobr c = record {
+  rule = λ phrase. by_name c.args.group Group.Nobr c.args.name Name.Nobr c.args.tag.now c.args.self.now c.start_nobr.new.self c.start_nobr.result c.in-Nobr.is (nobr_named c.args.name)
+      (nobr_continued c.args.tag.now c.args.self.now c.start_nobr.new.self c.start_nobr.result c.start_nobr.ensures.limits c.start_nobr.ensures.rule);
+}
 
 pub returns-in-Math : goal.returns-in-Math
-returns-in-Math c = record { rule = λ phrase. uncovered c.args.group Group.Math c.args.name c.args.tag.now c.args.self.now _ _ c.in-Math.is refl }
+returns-in-Math c = record {
+  rule = λ phrase. math_started c.args.group c.args.name c.args.tag.now c.args.self.now c.insert_foreign.new.self c.insert_foreign.result c.in-Math.is
+      c.insert_foreign.ensures.next c.insert_foreign.ensures.limits c.insert_foreign.ensures.rule;
+}
 
 pub returns-in-Svg : goal.returns-in-Svg
-returns-in-Svg c = record { rule = λ phrase. uncovered c.args.group Group.Svg c.args.name c.args.tag.now c.args.self.now _ _ c.in-Svg.is refl }
+returns-in-Svg c = record {
+  rule = λ phrase. svg_started c.args.group c.args.name c.args.tag.now c.args.self.now c.insert_foreign-in-Svg.new.self c.insert_foreign-in-Svg.result c.in-Svg.is
+      c.insert_foreign-in-Svg.ensures.next c.insert_foreign-in-Svg.ensures.limits c.insert_foreign-in-Svg.ensures.rule;
+}
 
 pub returns-in_default : goal.returns-in_default
 returns-in_default c = record {

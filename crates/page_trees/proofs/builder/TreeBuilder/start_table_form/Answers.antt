@@ -1,4 +1,4 @@
-use Rattle.std.proofs.Common.{sym, ◌∙◌, ◌≡◌, subst}
+use Rattle.std.proofs.Common.{sym, subst}
 use Rattle.standard_trees.specs.RuleWords.{InTable}
 use Rattle.page_trees.specs.Constructs.{Outcome}
 use Rattle.page_trees.specs.declared.builder.Next.{Next}

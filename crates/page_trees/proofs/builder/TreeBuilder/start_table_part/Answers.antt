@@ -1,4 +1,4 @@
-use Rattle.std.proofs.Common.{◌≡◌, ◌||◌, ◌∙◌, Bool, true, false, [], ◌∷◌, codes, refl, rules, sym, ap, subst, true≢false}
+use Rattle.std.proofs.Common.{◌∙◌, true, [], ◌∷◌, codes, refl, rules, sym, subst}
 use denote.Enum.Bare.{same_false, same_true}
 use Rattle.page_trees.specs.contracts.name.Name.{the_type}
 use Rattle.page_trees.specs.declared.name.Name.{Name}

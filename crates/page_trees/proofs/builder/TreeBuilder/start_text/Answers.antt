@@ -1,5 +1,4 @@
-use Rattle.std.proofs.Common.{inl, inr, refl}
-use Rattle.page_trees.specs.declared.modes.groups.Group.{Group}
+use Rattle.std.proofs.Common.{refl}
 use Rattle.page_trees.proofs.BodyStarts.{ordinary_left, ordinary_started, plaintext_started}
 use Rattle.standard_trees.specs.RuleWords.{RawText}
 use Rattle.page_trees.proofs.BodyElements.{noscript_started, raw_started, textarea_started}

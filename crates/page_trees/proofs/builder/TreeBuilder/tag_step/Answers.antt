@@ -1,11 +1,13 @@
 use Rattle.std.proofs.Common.{refl}
-use Rattle.page_trees.proofs.CoveredTags.{foreign_not_covered, mode_dispatched}
+use Rattle.page_trees.proofs.CoveredTags.{mode_dispatched}
+use Rattle.page_trees.proofs.ForeignStarts.{foreign_dispatched}
 use Rattle.page_trees.proofs.builder.TreeBuilder.tag_step.Goals as goal
 
 pub returns-then-is_tag_foreign : goal.returns-then-is_tag_foreign
 returns-then-is_tag_foreign c = record {
   rule = λ within b current covered stands.
-      absurd (foreign_not_covered b _ c.if-is_tag_foreign.true (c.is_tag_foreign.ensures c.args.tag.now refl b current stands.tree) covered);
+      foreign_dispatched _ _ b _ c.if-is_tag_foreign.true (c.is_tag_foreign.ensures c.args.tag.now refl b current stands.tree) covered
+      (λ foreign here. c.foreign_tag.ensures.rule within b current foreign here stands);
 }
 
 pub returns-else-is_tag_foreign : goal.returns-else-is_tag_foreign

@@ -1,6 +1,5 @@
 use Rattle.std.proofs.Common.{ap, sym, ◌∙◌}
 use Rattle.page_trees.specs.Modes.{mode_of}
-use Rattle.page_trees.specs.declared.builder.Mode.{Mode}
 use Rattle.page_trees.proofs.TokenRules.{doctype_first, doctype_ignored, foreign_doctype, initial_is}
 use Rattle.page_trees.proofs.builder.TreeBuilder.take_doctype.Goals as goal
 

@@ -1,10 +1,8 @@
-use Rattle.std.proofs.Common.{inl, inr, refl, rules, sym, subst, ap, ◌∙◌, ◌≡◌}
+use Rattle.std.proofs.Common.{rules, sym, subst, ◌∙◌, ◌≡◌}
 use denote.Enum.Bare.{same_false, same_true}
 use Rattle.page_trees.specs.contracts.name.Name.{the_type}
-use Rattle.page_trees.specs.Constructs.{IsCurrentTag, Outcome}
-use Rattle.page_trees.specs.declared.builder.Next.{Next}
+use Rattle.page_trees.specs.Constructs.{IsCurrentTag}
 use Rattle.page_trees.specs.declared.name.Name.{Name}
-use Rattle.standard_trees.specs.RuleWords.{InTemplate}
 use Rattle.page_trees.proofs.HeadModes.{end_ignored_in_template, template_ended}
 use Rattle.page_trees.proofs.builder.TreeBuilder.template_tag.Goals as goal
 

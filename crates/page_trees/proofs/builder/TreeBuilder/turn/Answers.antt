@@ -16,5 +16,5 @@ returns-in-Run c = record {
 
 pub returns-in-End : goal.returns-in-End
 returns-in-End c = record {
-  rule = subst (λ (t : Token). ProcessesOnce t c.args.self.now c.end_step.new.self c.end_step.result) (sym c.in-End.is) (end_turn _ _ _ c.end_step.ensures.rule);
+  rule = subst (λ (t : Token). ProcessesOnce t c.args.self.now c.end_step.new.self c.end_step.result) (sym c.in-End.is) (end_turn _ _ _ c.end_step.ensures.rule c.end_step.ensures.pending);
 }

@@ -1,4 +1,4 @@
-use Rattle.std.proofs.Common.{None, Some, ap, subst, sym, ◌∙◌}
+use Rattle.std.proofs.Common.{None, Some, subst, sym, ◌∙◌}
 use Rattle.page_trees.specs.Groups.{IsGroupOf}
 use Rattle.page_trees.proofs.GroupRules.{block_follows, other_follows}
 use Rattle.page_trees.proofs.modes.groups.group_of.Goals as goal

@@ -3,10 +3,10 @@ use Rattle.page_trees.proofs.reading.PageReader.before_cdata.Goals as goal
 
 pub returns-clause-limits : goal.returns-clause-limits
 returns-clause-limits c within =
-    let answers = answers_taken c.args.self.now c.tell_characters.new.self c.switch.new.self _ c.tell_characters.ensures.only c.tell_characters.ensures.empty c.switch.ensures c.set_in_foreign.ensures in
+    let answers = answers_taken c.args.self.now c.tell_characters.new.self c.switch.new.self _ c.tell_characters.ensures.only c.tell_characters.ensures.empty c.switch.ensures c.set_in_foreign.ensures.only c.set_in_foreign.ensures.flag in
     c.tell_characters.ensures.limits (within_before c.tell_characters.new.self.builder _ answers.builder within)
 
 pub returns-clause-builds : goal.returns-clause-builds
 returns-clause-builds c =
     characters_told c.args.self.now c.tell_characters.new.self _ c.pages.ensures.characters c.tell_characters.ensures.limits c.tell_characters.ensures.builds
-    (answers_taken c.args.self.now c.tell_characters.new.self c.switch.new.self _ c.tell_characters.ensures.only c.tell_characters.ensures.empty c.switch.ensures c.set_in_foreign.ensures)
+    (answers_taken c.args.self.now c.tell_characters.new.self c.switch.new.self _ c.tell_characters.ensures.only c.tell_characters.ensures.empty c.switch.ensures c.set_in_foreign.ensures.only c.set_in_foreign.ensures.flag)

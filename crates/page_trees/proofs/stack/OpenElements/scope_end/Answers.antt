@@ -1,4 +1,4 @@
-use Rattle.std.proofs.Common.{◌≡◌, ap, arith, max, sym, ◌∙◌, List}
+use Rattle.std.proofs.Common.{◌≡◌, ap, arith, sym, ◌∙◌}
 use Rattle.page_trees.specs.Scopes.{ends_in, last_place}
 use Rattle.page_trees.specs.declared.sets.Scope.TheVariants.{ListItem, Button, Table}
 use Rattle.page_trees.proofs.ScopeEnds.{button_ends, list_item_ends, table_ends}

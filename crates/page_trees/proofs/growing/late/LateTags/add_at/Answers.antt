@@ -1,6 +1,5 @@
 use Rattle.std.proofs.Common.{◌≡◌, ◌≤◌, ◌∙◌, arith, length, refl, subst, sym}
 use Rattle.std.proofs.lemmas.Grind.{common_steps}
-use Rattle.std.proofs.lemmas.Option.{none-some}
 use Rattle.page_trees.specs.LateAttrs.{AddsAbsent, Knows}
 use Rattle.page_trees.specs.declared.growing.late.LateAttrs.{LateAttrs}
 use Rattle.page_trees.proofs.MergedAttrs.{got_is, got_past}

@@ -1,8 +1,7 @@
-use Rattle.std.proofs.Common.{◌≡◌, ◌+◌, ◌<◌, ◌≤◌, ◌++◌, ◌∷◌, [], ap, arith, length, refl, take, ◌∙◌}
+use Rattle.std.proofs.Common.{◌≡◌, ◌+◌, ◌<◌, ap, arith, length, refl, take, ◌∙◌}
 use Rattle.std.specs.Prelude.{Some, slice_get}
 use Rattle.std.proofs.lemmas.List.{length-set, length-take-le}
 use Rattle.std.proofs.lemmas.Option.{slice_get_read}
-use Rattle.page_trees.specs.SearchIndex.{mark_of}
 use Rattle.page_trees.proofs.RefreshLemmas.{refresh_end, refresh_start, refresh_step, refresh_stop, AreRefreshed}
 use Rattle.page_trees.proofs.stack.marks.Marks.refresh.Goals as goal
 
