@@ -1,3 +1,4 @@
 mod PageLemmas
 mod PartLemmas
 pub mod StandardLemmas
+mod Utf8Lemmas

@@ -1,3 +1,4 @@
 pub mod Parsers
+pub mod Utf8Pages
 pub mod Pages
 pub mod StandardPages

@@ -4,6 +4,7 @@ ghost use Rattle.std.specs.Prelude.{◌≡◌, IfOk, IsUtf8, Some};
 ghost use Rattle.decoded_text.specs.Characters.{errors_in};
 ghost use Rattle.calm_pages.specs.Calm.{ReadsCalm};
 ghost use Rattle.page_reading.specs.Pages.{ReadsAsWritten};
+ghost use Rattle.page_reading.specs.StandardPages.{ReadsText};
 ghost use Rattle.encodings.specs.declared.encoding.Encoding.TheVariants.{Utf8};
 ghost use Rattle.page_trees.specs.Shape.{IsPage};
 ghost use Rattle.text_decoding.specs.Decoding.{characters};
@@ -32,6 +33,8 @@ pub struct ReadPage {
 /// finds it: from a byte order mark, or else from the transport, or else from what the page
 /// declares, or else from the fallback. The byte order mark isn't part of the page's text. A calm
 /// page is parsed as `parse_page` parses it: its text, and a page that comes as UTF-8 and is UTF-8.
+/// Any other page is parsed as the HTML Standard parses its text, as far as the code is proved to
+/// read it by the rules (`text`).
 /// Fails only with `Memory` or `TooManyNodes`.
 ///
 /// `PageByteParser` parses a page whose bytes come in pieces.
@@ -46,8 +49,8 @@ pub fn read_page(
         IsPageEncoding charset bytes.now read.encoding read.confidence) }
     ensures replaced { IfOk result (λ read.
         read.replaced ≡ errors_in (characters read.encoding (behind_mark bytes.now))) }
-    ensures written { ReadsCalm options → IfOk result (λ read.
-        ReadsAsWritten (page_text read.encoding bytes.now) read.document.tree) }
+    ensures text { IfOk result (λ read.
+        ReadsText options (page_text read.encoding bytes.now) read.document) }
     ensures utf8 { charset.transport ≡ Some Utf8 → IsUtf8 bytes.now → ReadsCalm options
         → IfOk result (λ read. ReadsAsWritten bytes.now read.document.tree) }
 {

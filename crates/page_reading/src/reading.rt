@@ -10,9 +10,11 @@ ghost use Rattle.dom_markup.specs.ValueTrees.{ValueTrees};
 ghost use Rattle.dom_trees.specs.SameTree.{SameTree};
 ghost use Rattle.calm_pages.specs.Calm.{IsCalmMarkup, IsCalmPage, ReadsCalm, SpellsCalmPage};
 ghost use Rattle.page_reading.specs.Parsers.{ReadsPage};
-ghost use Rattle.page_reading.specs.StandardPages.{HasParsed, IsCoveredPage, IsStandardPage};
-ghost use Rattle.page_reading.specs.StandardPages.{KeepsParsed, ParsesCovered, ParsesOn};
-ghost use Rattle.page_reading.specs.StandardPages.{ParsesWhole};
+ghost use Rattle.page_reading.specs.StandardPages.{EndsBytes, HasParsed, HasParsedBytes};
+ghost use Rattle.page_reading.specs.StandardPages.{IsCoveredPage, IsStandardPage, KeepsParsed};
+ghost use Rattle.page_reading.specs.StandardPages.{ParsesBytesOn, ParsesCovered};
+ghost use Rattle.page_reading.specs.StandardPages.{ParsesCoveredBytes, ParsesOn, ParsesWhole};
+ghost use Rattle.page_reading.specs.Utf8Pages.{utf8_page, utf8_text};
 ghost use Rattle.page_trees.specs.Shape.{IsPage};
 ghost use Rattle.standard_laws.specs.Pages.{IsParsedPage, IsWrittenPage};
 
@@ -105,13 +107,15 @@ pub fn parse_page_bytes(
         → ReadsCalm options → IfOk result (λ document. SameTree forest 0 document.tree 0) }
     ensures standard { IsUtf8 source.now → IsWrittenPage source.now → ReadsCalm options
         → IfOk result (λ document. IsParsedPage source.now document.tree) }
+    ensures other { (IsCalmMarkup (utf8_page source.now) → ⊥)
+        → IsCoveredPage options (utf8_text source.now)
+        → IfOk result (IsStandardPage options (utf8_text source.now)) }
 {
-    let source = without_mark(source);
     if let Ok(text) = str::from_utf8(source) {
-        return parse_page(alloc, text, options);
+        return parse_page(alloc, without_mark(text), options);
     }
     let text = decode(alloc, Encoding::Utf8, source)?;
-    parse_page(alloc, text.as_str(), options)
+    parse_page(alloc, without_mark(text.as_str()), options)
 }
 
 /// Parses a text as the content of the context element (13.4) and returns a fragment: below the
@@ -154,7 +158,8 @@ impl PageParser {
     /// Returns a parser for a page. Fails only when memory runs out.
     pub fn new(alloc: Global, options: Options) -> Result<PageParser, PageFault>
         ensures page { IfOk result ReadsPage }
-        ensures begins { options.errors ≡ false → IfOk result (HasParsed options []) }
+        ensures begins { IfOk result (HasParsed options []) }
+        ensures bytes { IfOk result (HasParsedBytes options []) }
     {
         let reader = PageReader::page(alloc, options)?;
         Ok(PageParser {
@@ -204,7 +209,8 @@ impl PageParser {
     /// The page may be split anywhere, even inside a character. A byte order mark at the start is
     /// removed, and bytes that are not UTF-8 become U+FFFD. Fails as `feed` does.
     pub fn feed_bytes(&mut self, piece: &[u8]) -> Result<(), PageFault>
-        ensures { ReadsPage self.old → ReadsPage self.new }
+        ensures page { ReadsPage self.old → ReadsPage self.new }
+        ensures parses { OnOk result (ParsesBytesOn piece.now self.old self.new) }
     {
         self.reader.settled()?;
         match self.bytes.feed(piece) {
@@ -220,9 +226,13 @@ impl PageParser {
     fn end_bytes(&mut self) -> Result<(), PageFault>
         ensures page { ReadsPage self.old → ReadsPage self.new }
         ensures parses { OnOk result (KeepsParsed self.old self.new) }
+        ensures bytes { OnOk result (EndsBytes self.old self.new) }
     {
         match self.bytes.finish() {
-            Ok(left) => self.reader.feed(left.text.as_str()),
+            Ok(left) => {
+                let text = self.bytes.without_mark(left.text.as_str());
+                self.reader.feed(text)
+            }
             Err(_) => Err(self.fail_for_memory()),
         }
     }
@@ -240,11 +250,13 @@ impl PageParser {
     }
 
     /// Returns the document after the last piece. Fails with the error of an earlier call, or with
-    /// `Memory` or `TooManyNodes`. The document of a page that came as text is the one as which the
-    /// HTML Standard parses it, as far as the code is proved to read it by the rules (`standard`).
+    /// `Memory` or `TooManyNodes`. The document of a page is the one as which the HTML Standard
+    /// parses it, as far as the code is proved to read it by the rules: of a page that came as text
+    /// (`standard`), and of one that came as bytes (`bytes`).
     pub fn finish(self) -> Result<Document, PageFault>
         ensures page { ReadsPage self → IfOk result (λ document. IsPage document.tree) }
         ensures standard { IfOk result (ParsesCovered self) }
+        ensures bytes { IfOk result (ParsesCoveredBytes self) }
     {
         let mut parser = self;
         parser.end_bytes()?;

@@ -1,6 +1,7 @@
 use Rattle.std.proofs.Common.{◌≡◌, ◌∙◌, subst, sym}
-use Rattle.calm_pages.specs.Calm.{IsCalmPage, SpellsCalmPage}
-use Rattle.page_reading.specs.Pages.{ReadsAsWritten}
+use Rattle.std.specs.Str.{chars}
+use Rattle.calm_pages.specs.Calm.{IsCalmMarkup, IsCalmPage, SpellsCalmPage}
+use Rattle.page_reading.specs.StandardPages.{IsCoveredPage, IsStandardPage}
 use Rattle.text_decoding.specs.Pages.{page_text}
 use Rattle.text_decoding.proofs.PageTexts.{replaced_is, text_is}
 use Rattle.page_reading.proofs.PageLemmas.{utf8_written}
@@ -9,11 +10,17 @@ use Rattle.page_reading.proofs.charset.read_page.Goals as goal
 pub returns-clause-replaced : goal.returns-clause-replaced
 returns-clause-replaced c = c.replaced.ensures ∙ replaced_is _ _ c.in_ok-page.ensures.text
 
-pub returns-clause-written : goal.returns-clause-written
-returns-clause-written c = λ calm. record {
-  calm = λ trees page. c.in_ok-document.ensures.calm trees (subst (λ text. IsCalmPage text trees) (sym (c.as_str.ensures ∙ text_is _ _ c.in_ok-page.ensures.text)) page) calm;
-  same = λ forest page. c.in_ok-document.ensures.same forest (subst (λ text. SpellsCalmPage text forest) (sym (c.as_str.ensures ∙ text_is _ _ c.in_ok-page.ensures.text)) page) calm;
-}
+pub returns-clause-text : goal.returns-clause-text
+returns-clause-text c =
+    let text = sym (c.as_str.ensures ∙ text_is _ _ c.in_ok-page.ensures.text) in
+    record {
+      written = λ calm. record {
+        calm = λ trees page. c.in_ok-document.ensures.calm trees (subst (λ t. IsCalmPage t trees) text page) calm;
+        same = λ forest page. c.in_ok-document.ensures.same forest (subst (λ t. SpellsCalmPage t forest) text page) calm;
+      };
+      standard = λ other covered. subst (λ t. IsStandardPage c.args.options (chars t) c.in_ok-document.document) (sym text)
+          (c.in_ok-document.ensures.other (λ calm. other (subst IsCalmMarkup (sym text) calm)) (subst (λ t. IsCoveredPage c.args.options (chars t)) text covered));
+    }
 
 pub returns-clause-utf8 : goal.returns-clause-utf8
 returns-clause-utf8 c = λ transport utf8 calm.

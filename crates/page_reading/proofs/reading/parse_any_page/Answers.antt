@@ -7,5 +7,5 @@ pub returns-clause-standard : goal.returns-clause-standard
 returns-clause-standard c = λ covered.
     let text = chars c.args.source.now in
     IfOk-weaker c.read_whole.result (ParsesWhole c.in_ok-parser.parser text) (IsStandardPage c.args.options text)
-    (λ document whole. whole c.args.options (c.in_ok-parser.ensures.begins covered.quiet) covered)
+    (λ document whole. whole c.args.options c.in_ok-parser.ensures.begins covered)
     c.read_whole.ensures.standard

@@ -1,10 +1,24 @@
-use Rattle.std.proofs.Common.{refl}
+use Rattle.std.proofs.Common.{[], ap, refl, sym, true, ◌∙◌}
+use Rattle.text_decoding.specs.Decoding.{characters_behind}
+use Rattle.page_reading.specs.Utf8Pages.{unmarked_if, with_replacements}
+use Rattle.page_reading.proofs.Utf8Lemmas.{nothing_behind}
 use Rattle.page_reading.proofs.reading.PageParser.new.Goals as goal
 
 pub returns-clause-begins : goal.returns-clause-begins
-returns-clause-begins c = λ quiet. record {
+returns-clause-begins c = record {
   page = refl;
   options_are = c.in_ok-reader.ensures.options;
-  built = c.in_ok-reader.ensures.begins quiet;
-  no_bytes = c.new.ensures;
+  built = c.in_ok-reader.ensures.begins;
+  no_bytes = nothing_behind c.new.result.decoder c.new.ensures.decoder;
+}
+
+pub returns-clause-bytes : goal.returns-clause-bytes
+returns-clause-bytes c = record {
+  page = refl;
+  options_are = c.in_ok-reader.ensures.options;
+  read = [];
+  built = c.in_ok-reader.ensures.begins;
+  follows = λ more.
+      ap (λ text. unmarked_if true (with_replacements text)) (sym (c.new.ensures.decoder more))
+      ∙ ap (λ first. unmarked_if first (with_replacements (characters_behind c.new.result.decoder more))) (sym c.new.ensures.start);
 }

@@ -8,10 +8,10 @@ use Rattle.text_decoding.specs.declared.decoder.Decoder.{Decoder}
 use Rattle.page_reading.proofs.utf8_pieces.Utf8Pieces.finish.Goals as goal
 
 pub returns-clause-text : goal.returns-clause-text
-unfolding text_of
-returns-clause-text c = λ none.
-    IfOk-weaker c.finish.result (λ (left : Decoded). IsDecoded left (characters_behind c.replace.result [])) (λ (left : Decoded). string_bytes left.text ≡ [])
-    (λ left is. is.text ∙ ap (λ (decoder : Decoder). text_of (characters_behind decoder [])) c.replace.ensures.value ∙ ap text_of none)
+returns-clause-text c =
+    IfOk-weaker c.finish.result (λ (left : Decoded). IsDecoded left (characters_behind c.replace.result []))
+    (λ (left : Decoded). string_bytes left.text ≡ text_of (characters_behind c.args.self.now.decoder []))
+    (λ left is. is.text ∙ ap (λ (decoder : Decoder). text_of (characters_behind decoder [])) c.replace.ensures.value)
     c.finish.ensures.decoded
 
 pub returns-clause-ended : goal.returns-clause-ended
