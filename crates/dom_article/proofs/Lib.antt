@@ -1,8 +1,11 @@
 pub mod BestLemmas
 pub mod ChosenLemmas
+pub mod FoundLemmas
+pub mod GoneLemmas
 pub mod HiddenLemmas
 pub mod LengthLemmas
 pub mod MarkLemmas
 pub mod OrderLemmas
 pub mod ShownLemmas
+pub mod SumLemmas
 pub mod TextLemmas

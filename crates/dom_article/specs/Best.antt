@@ -76,36 +76,39 @@ facts_at facts n = slice_index_or facts n unknown
       is_input = false;
     }
 
+-- The sums of an inline node without text.
+abbrev pub no_sums : Sums
+no_sums = record {
+  size = 0;
+  link = 0;
+  commas = 0;
+  images = 0;
+  inputs = 0;
+  in_paragraphs = 0;
+  paragraphs = 0;
+  in_headings = 0;
+  in_lists = 0;
+  link_runs = 0;
+  raw = 0;
+  score = pos 0;
+  like = None;
+  is_inline = true;
+  is_leaf = true;
+  is_bad = false;
+  ends = true;
+  copyright = false;
+}
+
 -- What was added up of a node; of an unknown node nothing.
 abbrev pub sums_at : List Sums → ℕ → Sums
-sums_at sums n = slice_index_or sums n nothing
-  where
-    nothing : Sums
-    nothing = record {
-      size = 0;
-      link = 0;
-      commas = 0;
-      images = 0;
-      inputs = 0;
-      in_paragraphs = 0;
-      paragraphs = 0;
-      in_headings = 0;
-      in_lists = 0;
-      link_runs = 0;
-      raw = 0;
-      score = pos 0;
-      run = 4294967295;
-      like = None;
-      is_inline = true;
-      is_leaf = true;
-      is_bad = false;
-      ends = true;
-      copyright = false;
-    }
+sums_at sums n = slice_index_or sums n no_sums
 
--- Whether a node is gone in a round. An unknown node is.
+-- Whether a node is gone. An unknown node is.
+abbrev pub gone_at : List Bool → ℕ → Bool
+gone_at gone n = slice_index_or gone n true
+
 abbrev pub is_gone : Round → ℕ → Bool
-is_gone round n = slice_index_or round.gone.items n true
+is_gone round n = gone_at round.gone.items n
 
 -- The score of a node in a round.
 abbrev pub score_at : Round → ℕ → ℤ

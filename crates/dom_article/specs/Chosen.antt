@@ -2,10 +2,8 @@
 use Rattle.std.specs.Prelude.{ℕ, ◌≡◌, ◌≤◌, ℤ, pos, ◌*ℤ◌, int_lt, ◌&&◌, not, Bool, true, false, List, [], ◌∷◌}
 use Rattle.std.specs.Prelude.{Option, Some, None, if◌then◌else◌}
 use Rattle.std.specs.Int.{saturate_to_bits}
-use Rattle.std.specs.Option.{option_map}
 use Rattle.dom_links.specs.Trees.{ancestors}
 use Rattle.dom_article.specs.Best.{IsBestOf, NonePasses, facts_at, is_candidate, is_gone, score_at, sums_at}
-use Rattle.dom_article.specs.declared.choosing.Choice.{Choice}
 use Rattle.dom_article.specs.declared.kinds.Tag.{Tag}
 use Rattle.dom_article.specs.declared.kinds.Tag.TheVariants.{Body, Document, Html}
 use Rattle.dom_article.specs.declared.page.Page.{Page}
@@ -71,7 +69,3 @@ pub data Starts (page : Page) (round : Round) : Option ℕ → Type 0 where
       IsBestOf (is_candidate page round) (score_at round) page.order.items (Some n) →
       Starts page round (Some (promoted page round n))
   nowhere : IsLargeMain page round None → NonePasses (is_candidate page round) page.order.items → Starts page round None
-
--- The best block of what was chosen.
-abbrev pub best_in : Option Choice → Option ℕ
-best_in found = option_map (λ choice. choice.best) found

@@ -1,7 +1,10 @@
 pub mod Badness
 pub mod Best
+pub mod Blocks
 pub mod Chosen
+pub mod Found
 pub mod Hidden
+pub mod Nodes
 pub mod Pruned
 pub mod Scores
 pub mod Sums

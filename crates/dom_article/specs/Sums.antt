@@ -1,5 +1,5 @@
 -- What is added up of the nodes of a page, and of runs of texts.
-use Rattle.std.specs.Prelude.{ℕ, ◌≡◌, ◌+◌, ◌-◌, ◌*◌, ◌/◌, ◌^◌, ◌&&◌, ◌||◌, not, min, nat_le, nat_lt, Bool, if◌then◌else◌}
+use Rattle.std.specs.Prelude.{ℕ, ◌+◌, ◌-◌, ◌*◌, ◌/◌, ◌^◌, ◌&&◌, ◌||◌, not, min, nat_le, nat_lt, Bool, if◌then◌else◌}
 use Rattle.dom_article.specs.declared.sums.Run.{Run}
 use Rattle.dom_article.specs.declared.sums.Sums.{Sums}
 
@@ -37,36 +37,55 @@ weight cleans run =
 abbrev pub weight_if : (weighs cleans : Bool) → Run → ℕ
 weight_if weighs cleans run = if weighs then weight cleans run else 0
 
--- A run gains an inline node.
-pub record AddsToRun (old : Run) (node : Sums) (new : Run) : Type 0 where
-  pub size : new.size ≡ plus old.size node.size
-  pub link : new.link ≡ plus old.link node.link
-  pub commas : new.commas ≡ plus old.commas node.commas
-  pub copyright : new.copyright ≡ (old.copyright || node.copyright)
+-- Whether a text ends with a mark that ends a sentence, when a node comes behind it.
+abbrev pub ends_with : Bool → Sums → Bool
+ends_with ends node = if nat_lt 0 node.size then node.ends else ends
 
--- An inline node gains an inline child.
-pub record AddsInline (old child new : Sums) : Type 0 where
-  pub size : new.size ≡ plus old.size child.size
-  pub link : new.link ≡ plus old.link child.link
-  pub commas : new.commas ≡ plus old.commas child.commas
-  pub images : new.images ≡ plus old.images child.images
-  pub copyright : new.copyright ≡ (old.copyright || child.copyright)
+-- A run with one inline node more.
+abbrev pub run_with : Run → Sums → Run
+run_with run node = record {
+  size = plus run.size node.size;
+  link = plus run.link node.link;
+  commas = plus run.commas node.commas;
+  ends = ends_with run.ends node;
+  copyright = run.copyright || node.copyright;
+}
 
--- A block gains a child that is a block and isn't bad.
-pub record AddsBlock (old child new : Sums) : Type 0 where
-  pub size : new.size ≡ plus old.size child.size
-  pub link : new.link ≡ plus old.link child.link
-  pub commas : new.commas ≡ plus old.commas child.commas
-  pub images : new.images ≡ plus old.images child.images
-  pub in_paragraphs : new.in_paragraphs ≡ plus old.in_paragraphs child.in_paragraphs
-  pub paragraphs : new.paragraphs ≡ plus old.paragraphs child.paragraphs
-  pub raw : new.raw ≡ long_plus old.raw (if child.is_leaf then child.raw else child.raw / 2)
+-- An inline node with one inline child more.
+abbrev pub with_inline : (node child : Sums) → Sums
+with_inline node child = record node {
+  size = plus node.size child.size;
+  link = plus node.link child.link;
+  commas = plus node.commas child.commas;
+  images = plus node.images child.images;
+  copyright = node.copyright || child.copyright;
+  ends = ends_with node.ends child;
+}
 
--- A block gains a run. In headings a run has no weight and is no paragraph.
-pub record AddsRun (weighs cleans : Bool) (old : Sums) (run : Run) (new : Sums) : Type 0 where
-  pub size : new.size ≡ plus old.size run.size
-  pub link : new.link ≡ plus old.link run.link
-  pub commas : new.commas ≡ plus old.commas run.commas
-  pub link_runs : new.link_runs ≡ plus old.link_runs (one_if (is_of_links run))
-  pub paragraphs : new.paragraphs ≡ plus old.paragraphs (one_if (weighs && is_paragraph run))
-  pub raw : new.raw ≡ long_plus old.raw (weight_if weighs cleans run)
+-- A block with one child more that is a block and isn't bad.
+abbrev pub with_block : (block child : Sums) → Sums
+with_block block child = record block {
+  size = plus block.size child.size;
+  link = plus block.link child.link;
+  commas = plus block.commas child.commas;
+  images = plus block.images child.images;
+  in_paragraphs = plus block.in_paragraphs child.in_paragraphs;
+  paragraphs = plus block.paragraphs child.paragraphs;
+  in_headings = plus block.in_headings child.in_headings;
+  in_lists = plus block.in_lists child.in_lists;
+  raw = long_plus block.raw (if child.is_leaf then child.raw else child.raw / 2);
+  ends = ends_with block.ends child;
+}
+
+-- A block with one run more. In headings a run has no weight and is no paragraph.
+abbrev pub with_run : (weighs cleans : Bool) → (block : Sums) → Run → Sums
+with_run weighs cleans block run = record block {
+  size = plus block.size run.size;
+  link = plus block.link run.link;
+  commas = plus block.commas run.commas;
+  ends = run.ends;
+  link_runs = plus block.link_runs (one_if (is_of_links run));
+  paragraphs = plus block.paragraphs (one_if (weighs && is_paragraph run));
+  in_paragraphs = plus block.in_paragraphs (if weighs && is_paragraph run then run.size else 0);
+  raw = long_plus block.raw (weight_if weighs cleans run);
+}

@@ -59,12 +59,6 @@ pub record AreShown (forest : Forest) (ns : List ℕ) (marks : List Bool) : Type
   pub each : (n : ℕ) → is_member n ns ≡ true → (marked marks n ≡ true) ⊎ IsHidden forest n
   pub long : length marks ≡ length forest.content
 
--- What an article keeps of a page: the page's tree below one node, with subtrees left out; nothing
--- hidden; and a text.
-pub record IsArticle (forest : Forest) (root : ℕ) (marks : List Bool) : Type 0 where
-  pub extract : IsExtract forest root marks
-  pub has_text : keeps_text forest marks ≡ true
-
 -- The nodes that an article keeps, in document order.
 abbrev pub kept_nodes : Forest → (root : ℕ) → List Bool → List ℕ
 kept_nodes forest root marks = filter (marked marks) (root ∷ descendants_in_order forest root)

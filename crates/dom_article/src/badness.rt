@@ -43,7 +43,8 @@ fn weight_of(facts: &Facts, rules: Rules) -> i32
     if rules.hints { facts.weight } else { 0 }
 }
 
-fn is_document(tag: Tag) -> bool
+/// Returns whether a node is a document.
+pub(crate) fn is_document(tag: Tag) -> bool
     ensures { result ≡ is_document tag }
 {
     matches!(tag, Tag::Document)

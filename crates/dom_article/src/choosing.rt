@@ -1,9 +1,10 @@
 //! The choice of a round: the best block, the root of the article, and what joins it.
 
-ghost use Rattle.std.specs.Prelude.{◌≡◌, IfOk};
+ghost use Rattle.std.specs.Prelude.{◌≡◌, IfOk, MatchOption, None};
 ghost use Rattle.dom_article.specs.Best.{IsBestOf, beats, is_candidate, may_be_best, score_at};
-ghost use Rattle.dom_article.specs.Chosen.{IsLargeMain, Starts, best_in, has_two_thirds};
+ghost use Rattle.dom_article.specs.Chosen.{IsLargeMain, Starts, has_two_thirds};
 ghost use Rattle.dom_article.specs.Chosen.{is_frame_at, is_main_at, promoted, size_at};
+ghost use Rattle.dom_article.specs.Found.{IsAtOrAbove, IsChosen};
 
 use crate::kinds::Tag;
 use crate::page::{Facts, Page};
@@ -25,7 +26,8 @@ pub(crate) struct Choice {
 /// Chooses the article of a round. The result is `None` if there is no block at all. Fails only
 /// when memory runs out.
 pub(crate) fn choose(page: &Page<'_>, round: &Round) -> Result<Option<Choice>, OutOfMemory>
-    ensures { IfOk result (λ found. Starts page.now round.now (best_in found)) }
+    ensures { IfOk result (λ found. MatchOption found (Starts page.now round.now None)
+        (λ choice. IsChosen page.now round.now choice.root)) }
 {
     let main = large_main(page, round);
     if let Some(main) = main {
@@ -186,7 +188,7 @@ fn is_frame(page: &Page<'_>, id: NodeId) -> bool
 
 impl Choice {
     fn new(page: &Page<'_>, best: NodeId) -> Result<Choice, OutOfMemory>
-        ensures { IfOk result (λ choice. choice.best ≡ best) }
+        ensures { IfOk result (λ choice. choice.root ≡ best) }
     {
         Ok(Choice {
             root: best,
@@ -255,7 +257,9 @@ impl Ways {
 
     /// Climbs from the best block to `body` or to a node that says that it is the article. What
     /// joins on the way is marked; the result, the root, is the last node at which a text joins.
-    fn climb(&mut self, page: &Page<'_>, round: &Round, best: NodeId) -> NodeId {
+    fn climb(&mut self, page: &Page<'_>, round: &Round, best: NodeId) -> NodeId
+        ensures { IsAtOrAbove page.now.tree.now best result }
+    {
         let top = round.at(best).score;
         let mut on = best;
         let mut root = best;
@@ -372,7 +376,7 @@ fn has_several(page: &Page<'_>, round: &Round, id: NodeId) -> bool {
 fn joins(page: &Page<'_>, round: &Round, child: NodeId, step: &Step) -> bool {
     let sums = round.at(child);
     if sums.is_inline {
-        return step.level == 1 && is_in_paragraph(round, sums);
+        return step.level == 1 && round.runs.is_in_paragraph(child);
     }
     if sums.is_bad || page.at(child).kind.is_heading {
         return false;
@@ -396,14 +400,6 @@ fn tenths_at(level: usize) -> i64 {
     match JOIN.get(number) {
         Some(tenths) => *tenths,
         None => 10,
-    }
-}
-
-/// Returns whether the run of an inline child is a paragraph.
-fn is_in_paragraph(round: &Round, sums: &Sums) -> bool {
-    match round.runs.get(sums.run as usize) {
-        Some(run) => run.is_paragraph(),
-        None => false,
     }
 }
 

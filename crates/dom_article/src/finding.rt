@@ -1,8 +1,10 @@
 //! The search for the article of a page.
 
-ghost use Rattle.std.specs.Prelude.{◌≡◌, IfOk, MatchOption};
+ghost use Rattle.std.specs.Prelude.{◌≡◌, IfOk, IfSome, MatchOption};
+ghost use Rattle.dom_article.specs.Found.{IsArticle, IsOfRound};
+ghost use Rattle.dom_article.specs.Nodes.{IsOrdered};
 ghost use Rattle.dom_article.specs.Pruned.{marked};
-ghost use Rattle.dom_article.specs.Texts.{IsArticle, ShowsNoText};
+ghost use Rattle.dom_article.specs.Texts.{ShowsNoText};
 
 use crate::choosing::{Choice, choose};
 use crate::copies::copy_kept;
@@ -83,7 +85,10 @@ fn whole(tree: &Tree) -> Result<Option<Vec<bool>>, OutOfMemory>
 }
 
 /// Returns what the rounds find, without the heading that says the title again.
-fn found_for(page: &Page<'_>, metadata: &Metadata) -> Result<Option<Found>, OutOfMemory> {
+fn found_for(page: &Page<'_>, metadata: &Metadata) -> Result<Option<Found>, OutOfMemory>
+    requires { IsOrdered page.now }
+    ensures { IfOk result (λ taken. IfSome taken (λ found. IsOfRound page.now found.root)) }
+{
     let Some(mut found) = found_in(page)? else {
         return Ok(None);
     };
@@ -96,6 +101,8 @@ fn found_for(page: &Page<'_>, metadata: &Metadata) -> Result<Option<Found>, OutO
 struct Found {
     root: NodeId,
     sure: bool,
+    /// Whether it is so much that no later round is asked.
+    is_enough: bool,
     /// By node id, which nodes are wanted.
     wanted: Vec<bool>,
     /// By node id, the wanted nodes and the ancestors of the root.
@@ -122,16 +129,16 @@ static ROUNDS: [Rules; 3] = [
 
 /// Returns what the rounds find. A later round is taken if it keeps more than twice as much. `None`
 /// if none of them keeps a text.
-fn found_in(page: &Page<'_>) -> Result<Option<Found>, OutOfMemory> {
+fn found_in(page: &Page<'_>) -> Result<Option<Found>, OutOfMemory>
+    requires { IsOrdered page.now }
+    ensures { IfOk result (λ taken. IfSome taken (λ found. IsOfRound page.now found.root)) }
+{
     let mut taken: Option<Found> = None;
     for rules in &ROUNDS {
-        let round = Round::new(page, *rules)?;
-        let Some(choice) = choose(page, &round)? else {
+        let Some(found) = found_by(page, *rules)? else {
             continue;
         };
-        let mut found = Found::of(page, &round, &choice)?;
-        let is_last = is_enough(&round, &found);
-        found.sure = is_last && rules.cleans;
+        let is_last = found.is_enough;
         let is_taken = match &taken {
             Some(other) => found.total / 2 > other.total,
             None => found.total > 0,
@@ -146,7 +153,24 @@ fn found_in(page: &Page<'_>) -> Result<Option<Found>, OutOfMemory> {
     Ok(taken)
 }
 
-/// Returns whether a round is the last one.
+/// Returns what a round finds. `None` if it has no block at all.
+fn found_by(page: &Page<'_>, rules: Rules) -> Result<Option<Found>, OutOfMemory>
+    requires { IsOrdered page.now }
+    ensures { IfOk result (λ taken. IfSome taken (λ found. IsOfRound page.now found.root)) }
+{
+    let round = Round::new(page, rules)?;
+    let Some(choice) = choose(page, &round)? else {
+        return Ok(None);
+    };
+    let mut found = Found::of(page, &round, &choice)?;
+    let is_last = is_enough(&round, &found);
+    let sure = is_last && rules.cleans;
+    found.is_enough = is_last;
+    found.sure = sure;
+    Ok(Some(found))
+}
+
+/// Returns whether a round found enough, so that it is the last one.
 fn is_enough(round: &Round, found: &Found) -> bool {
     if found.total >= ENOUGH as u64 {
         return true;
@@ -157,11 +181,14 @@ fn is_enough(round: &Round, found: &Found) -> bool {
 
 impl Found {
     /// Finds the nodes that the choice of a round wants.
-    fn of(page: &Page<'_>, round: &Round, choice: &Choice) -> Result<Found, OutOfMemory> {
+    fn of(page: &Page<'_>, round: &Round, choice: &Choice) -> Result<Found, OutOfMemory>
+        ensures { IfOk result (λ found. found.root ≡ choice.now.root) }
+    {
         let alloc = page.tree.allocator();
         let mut found = Found {
             root: choice.root,
             sure: false,
+            is_enough: false,
             wanted: vec![in alloc; false; page.tree.len()]?,
             around: vec![in alloc; false; page.tree.len()]?,
             total: 0,
@@ -184,7 +211,9 @@ impl Found {
     }
 
     /// Wants a node if its parent is wanted and the choice keeps it.
-    fn want(&mut self, page: &Page<'_>, round: &Round, choice: &Choice, id: NodeId) {
+    fn want(&mut self, page: &Page<'_>, round: &Round, choice: &Choice, id: NodeId)
+        ensures { self.new.root ≡ self.old.root }
+    {
         let Some(parent) = page.parent(id) else {
             return;
         };
@@ -202,7 +231,9 @@ impl Found {
 
     /// Leaves out the first heading of the article that says its title. Only the first headings are
     /// looked at.
-    fn leave_out_title(&mut self, page: &Page<'_>, metadata: &Metadata) -> Result<(), OutOfMemory> {
+    fn leave_out_title(&mut self, page: &Page<'_>, metadata: &Metadata) -> Result<(), OutOfMemory>
+        ensures { self.new.root ≡ self.old.root }
+    {
         let Some(title) = &metadata.title else {
             return Ok(());
         };

@@ -2,6 +2,7 @@
 #![tactic(auto)]
 
 mod badness;
+mod blocks;
 mod choosing;
 mod copies;
 mod finding;

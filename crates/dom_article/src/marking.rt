@@ -19,7 +19,7 @@ use dom_trees::tree::Tree;
 
 /// States that a tree is a well-formed forest. It does nothing at run time; a call of it brings its
 /// `ensures` clauses into the caller's proof.
-fn forest_laws(tree: &Tree)
+pub(crate) fn forest_laws(tree: &Tree)
     ensures forest { IsForest tree.now }
     ensures lines { AreLines tree.now }
 {

@@ -1,10 +1,13 @@
 //! What is known of each node of a page before it is judged in rounds.
 
-ghost use Rattle.std.specs.Prelude.{◌≡◌};
+ghost use Rattle.std.specs.Prelude.{◌≡◌, IfOk};
+ghost use Rattle.dom_links.specs.Forest.{parent};
 ghost use Rattle.dom_article.specs.Best.{facts_at};
+ghost use Rattle.dom_article.specs.Nodes.{IsOrdered};
 
 use crate::hidden::{hides, is_fallback_class};
 use crate::kinds::{Kind, Kinds, Tag};
+use crate::marking::forest_laws;
 use crate::tables::{HINT, ROLES};
 use crate::texts::TextFacts;
 use crate::words::{Found, Words};
@@ -108,12 +111,15 @@ static UNKNOWN: Facts = Facts {
 pub(crate) struct Page<'t> {
     pub(crate) tree: &'t Tree,
     pub(crate) order: Vec<NodeId>,
-    facts: Vec<Facts>,
+    pub(crate) facts: Vec<Facts>,
 }
 
 impl<'t> Page<'t> {
     /// Returns what is known of the nodes of a tree. Fails only when memory runs out.
-    pub(crate) fn new(tree: &'t Tree) -> Result<Page<'t>, OutOfMemory> {
+    pub(crate) fn new(tree: &'t Tree) -> Result<Page<'t>, OutOfMemory>
+        ensures tree { IfOk result (λ page. page.tree.now ≡ tree.now) }
+        ensures order { IfOk result (λ page. IsOrdered page) }
+    {
         let alloc = tree.allocator();
         let order = tree.descendant_ids_of(&tree.root_id())?;
         let mut facts = vec![in alloc; Facts::of(Kind::of(Tag::Document)); tree.len()]?;
@@ -133,12 +139,16 @@ impl<'t> Page<'t> {
     }
 
     /// Returns the tag of a node.
-    pub(crate) fn tag(&self, id: NodeId) -> Tag {
+    pub(crate) fn tag(&self, id: NodeId) -> Tag
+        ensures { result ≡ (facts_at self.now.facts.items id).kind.tag }
+    {
         self.at(id).kind.tag
     }
 
     /// Returns the parent of a node.
-    pub(crate) fn parent(&self, id: NodeId) -> Option<NodeId> {
+    pub(crate) fn parent(&self, id: NodeId) -> Option<NodeId>
+        ensures { result ≡ parent self.now.tree.now id }
+    {
         parent_in(self.tree, id)
     }
 }
@@ -182,8 +192,14 @@ fn add_up(tree: &Tree, order: &[NodeId], facts: &mut Vec<Facts>) {
 }
 
 /// Returns the parent of a node.
-fn parent_in(tree: &Tree, id: NodeId) -> Option<NodeId> {
-    tree.tree_node(&id)?.parent.get()
+fn parent_in(tree: &Tree, id: NodeId) -> Option<NodeId>
+    ensures { result ≡ parent tree.now id }
+{
+    forest_laws(tree);
+    match tree.tree_node(&id) {
+        Some(node) => node.parent.get(),
+        None => None,
+    }
 }
 
 /// Returns what is known of a node by itself.

@@ -1,15 +1,30 @@
 //! A round: which nodes are gone, and what is added up of the others.
 
-ghost use Rattle.std.specs.Prelude.{◌≡◌};
-ghost use Rattle.dom_article.specs.Badness.{is_gone_by};
-ghost use Rattle.dom_article.specs.Best.{is_gone, sums_at};
+ghost use Rattle.std.specs.Prelude.{◌≡◌, ◌&&◌, ◌||◌, ◌^◌, ◌-◌, not, min, IfOk, length, slice_set};
+ghost use Rattle.std.specs.List.{list_any};
+ghost use Rattle.dom_links.specs.Forest.{children_of};
+ghost use Rattle.dom_article.specs.Badness.{is_document, is_gone_by};
+ghost use Rattle.dom_article.specs.Best.{facts_at, is_gone, sums_at};
+ghost use Rattle.dom_article.specs.Blocks.{ended, with_images, with_line_break};
+ghost use Rattle.dom_article.specs.Nodes.{AreGone, AreSummed, IsOrdered, IsRound, begun_inline};
+ghost use Rattle.dom_article.specs.Nodes.{block_sums, finished};
+ghost use Rattle.dom_article.specs.Nodes.{has_gone_parent, inline_sums, is_block, is_block_itself};
+ghost use Rattle.dom_article.specs.Nodes.{is_break, is_image, is_kind_of_its_own, is_list};
+ghost use Rattle.dom_article.specs.Nodes.{is_part, is_text, node_sums, shown_sums, text_sums};
+ghost use Rattle.dom_article.specs.Nodes.{with_child, with_gone, with_inline_child, with_inline_in};
+ghost use Rattle.dom_article.specs.Nodes.{with_kind};
+ghost use Rattle.dom_article.specs.Texts.{page_nodes};
 
+use crate::badness::is_document;
+use crate::blocks::Block;
 use crate::kinds::Tag;
+use crate::marking::forest_laws;
 use crate::page::{Facts, Page};
 use crate::sums::{Run, Sums};
 use crate::{badness, scores};
 use dom_nodes::fault::OutOfMemory;
 use dom_nodes::node_id::NodeId;
+use std::alloc::Global;
 
 /// What a round looks at.
 #[derive(Clone, Copy, PartialEq, Eq, Drop)]
@@ -26,28 +41,95 @@ pub(crate) struct Round {
     pub(crate) rules: Rules,
     pub(crate) gone: Vec<bool>,
     pub(crate) sums: Vec<Sums>,
-    pub(crate) runs: Vec<Run>,
+    pub(crate) runs: Runs,
     /// The size of the texts that aren't gone.
     pub(crate) visible: u64,
 }
 
+/// The runs of a round, and by node id the number of the run that an inline child of a block is
+/// part of.
+#[derive(Drop)]
+pub(crate) struct Runs {
+    ended: Vec<Run>,
+    of: Vec<u32>,
+}
+
+impl Runs {
+    fn empty(alloc: Global) -> Runs {
+        Runs {
+            ended: Vec::new(alloc),
+            of: Vec::new(alloc),
+        }
+    }
+
+    /// Returns whether the run of an inline child of a block is a paragraph.
+    pub(crate) fn is_in_paragraph(&self, id: NodeId) -> bool {
+        let number = match self.of.get(id.value()) {
+            Some(number) => *number,
+            None => return false,
+        };
+        match self.ended.get(number as usize) {
+            Some(run) => run.is_paragraph(),
+            None => false,
+        }
+    }
+
+    /// Notes that an inline child is part of the run that has begun.
+    fn note(&mut self, id: NodeId) {
+        let number = number_of(self.ended.len());
+        if let Some(slot) = self.of.get_mut(id.value()) {
+            *slot = number;
+        }
+    }
+
+    /// Keeps a run that ends, if it has a text. Fails only when memory runs out.
+    fn keep(&mut self, run: Run) -> Result<(), OutOfMemory> {
+        if run.size > 0 {
+            self.ended.push(run)?;
+        }
+        Ok(())
+    }
+}
+
 impl Round {
     /// Looks at the nodes of a page by these rules. Fails only when memory runs out.
-    pub(crate) fn new(page: &Page<'_>, rules: Rules) -> Result<Round, OutOfMemory> {
+    pub(crate) fn new(page: &Page<'_>, rules: Rules) -> Result<Round, OutOfMemory>
+        requires { IsOrdered page.now }
+        ensures { IfOk result (λ round. IsRound page.now rules round) }
+    {
         let alloc = page.tree.allocator();
+        let gone = Gone::of(page, rules)?;
+        let mut runs = Runs {
+            ended: Vec::new(alloc),
+            of: vec![in alloc; u32::MAX; page.tree.len()]?,
+        };
         let mut round = Round {
             rules,
-            gone: vec![in alloc; false; page.tree.len()]?,
+            gone: gone.gone,
             sums: vec![in alloc; Sums::NONE; page.tree.len()]?,
-            runs: Vec::new(alloc),
-            visible: 0,
+            runs: Runs::empty(alloc),
+            visible: gone.visible,
         };
-        round.find_gone(page);
-        for id in page.order.iter().rev() {
-            round.add_up(page, *id)?;
-        }
-        round.add_up(page, page.tree.root_id())?;
+        round.add_up_all(page, &mut runs)?;
+        round.runs = runs;
         Ok(round)
+    }
+
+    /// Adds up what is below each node, from the last node to the first.
+    fn add_up_all(&mut self, page: &Page<'_>, runs: &mut Runs) -> Result<(), OutOfMemory>
+        requires ordered { IsOrdered page.now }
+        requires long { length self.old.sums.items ≡ length page.now.tree.now.content }
+        ensures rules { self.new.rules ≡ self.old.rules }
+        ensures gone { self.new.gone.items ≡ self.old.gone.items }
+        ensures sums { IfOk result (λ _. AreSummed page.now self.old.rules (is_gone self.old)
+            self.new.sums.items (page_nodes page.now.tree.now)) }
+    {
+        forest_laws(page.tree);
+        for id in page.order.iter().rev() {
+            self.add_up(page, *id, runs)?;
+        }
+        self.add_up(page, page.tree.root_id(), runs)?;
+        Ok(())
     }
 
     /// Returns whether a node is gone.
@@ -70,190 +152,279 @@ impl Round {
         }
     }
 
-    /// Finds the nodes that are gone, from the first node to the last.
-    fn find_gone(&mut self, page: &Page<'_>) {
-        for id in &page.order {
-            let above = match page.parent(*id) {
-                Some(parent) => self.is_gone(parent),
-                None => false,
-            };
-            let facts = page.at(*id);
-            let gone = above || is_gone_by(facts, self.rules);
-            if let Some(slot) = self.gone.get_mut(id.value()) {
-                *slot = gone;
-            }
-            if !gone {
-                self.visible = self.visible.saturating_add(facts.text.size as u64);
-            }
-        }
-    }
-
     /// Adds up what is below a node, when that is done for each of its children.
-    fn add_up(&mut self, page: &Page<'_>, id: NodeId) -> Result<(), OutOfMemory> {
-        if self.is_gone(id) {
-            return Ok(());
-        }
-        let facts = page.at(id);
-        let sums = match facts.kind.tag {
-            Tag::Text => of_text(facts),
-            Tag::Document => self.of_block(page, id)?,
-            _ if facts.kind.is_block || self.has_block(page, id) => self.of_block(page, id)?,
-            _ => self.of_inline(page, id),
-        };
+    fn add_up(&mut self, page: &Page<'_>, id: NodeId, runs: &mut Runs) -> Result<(), OutOfMemory>
+        ensures rules { self.new.rules ≡ self.old.rules }
+        ensures gone { self.new.gone.items ≡ self.old.gone.items }
+        ensures sums { IfOk result (λ _. self.new.sums.items ≡ slice_set self.old.sums.items id
+            (node_sums page.now self.old.rules (is_gone self.old)
+            (sums_at self.old.sums.items) id)) }
+    {
+        let sums = self.sums_of(page, id, runs)?;
         if let Some(slot) = self.sums.get_mut(id.value()) {
             *slot = sums;
         }
         Ok(())
     }
 
+    /// Returns what is added up of a node; of a node that is gone, nothing.
+    fn sums_of(&self, page: &Page<'_>, id: NodeId, runs: &mut Runs) -> Result<Sums, OutOfMemory>
+        ensures { IfOk result (λ sums. sums ≡ node_sums page.now self.now.rules
+            (is_gone self.now) (sums_at self.now.sums.items) id) }
+    {
+        if self.is_gone(id) {
+            return Ok(Sums::NONE);
+        }
+        if is_text(page.tag(id)) {
+            return Ok(of_text(page.at(id)));
+        }
+        if self.is_shown_block(page, id) {
+            return self.of_block(page, id, runs);
+        }
+        Ok(self.of_inline(page, id))
+    }
+
+    /// Returns whether an element that isn't gone is a block: by itself, or because a child is one.
+    fn is_shown_block(&self, page: &Page<'_>, id: NodeId) -> bool
+        ensures { result ≡ (is_block_itself (facts_at page.now.facts.items id)
+            || list_any (is_block (is_gone self.now) (sums_at self.now.sums.items))
+            (children_of page.now.tree.now id)) }
+    {
+        if is_block_itself(page.at(id)) {
+            return true;
+        }
+        self.has_block(page, id)
+    }
+
     /// Returns whether a child that isn't gone is a block.
-    fn has_block(&self, page: &Page<'_>, id: NodeId) -> bool {
+    fn has_block(&self, page: &Page<'_>, id: NodeId) -> bool
+        ensures { result ≡ list_any (is_block (is_gone self.now) (sums_at self.now.sums.items))
+            (children_of page.now.tree.now id) }
+    {
         for child in page.tree.child_ids_of_it(&id, false) {
-            if !self.is_gone(child) && !self.at(child).is_inline {
+            if self.is_block(child) {
                 return true;
             }
         }
         false
     }
 
-    /// Adds up an inline element.
-    fn of_inline(&self, page: &Page<'_>, id: NodeId) -> Sums {
-        let facts = page.at(id);
-        let mut sums = Sums::NONE;
-        if facts.kind.tag == Tag::Image {
-            sums.images = 1;
+    /// Returns whether a node isn't gone and is a block.
+    fn is_block(&self, id: NodeId) -> bool
+        ensures { result ≡ is_block (is_gone self.now) (sums_at self.now.sums.items) id }
+    {
+        if self.is_gone(id) {
+            return false;
         }
+        !self.at(id).is_inline
+    }
+
+    /// Adds up an inline element.
+    fn of_inline(&self, page: &Page<'_>, id: NodeId) -> Sums
+        ensures { result ≡ inline_sums (facts_at page.now.facts.items id) (is_gone self.now)
+            (sums_at self.now.sums.items) (children_of page.now.tree.now id) }
+    {
+        let facts = page.at(id);
+        let mut sums = begun_inline(facts);
         for child in page.tree.child_ids_of_it(&id, false) {
-            if !self.is_gone(child) {
-                sums.add_inline(self.at(child));
-            }
+            self.add_to_inline(&mut sums, child);
         }
         if facts.is_link {
             sums.link = sums.size;
         }
         sums
+    }
+
+    /// Adds a child of an inline element, if it isn't gone.
+    fn add_to_inline(&self, sums: &mut Sums, child: NodeId)
+        ensures { sums.new ≡ with_inline_child (is_gone self.now)
+            (sums_at self.now.sums.items) sums.old child }
+    {
+        if self.is_gone(child) {
+            return;
+        }
+        sums.add_inline(self.at(child));
     }
 
     /// Adds up a block.
-    fn of_block(&mut self, page: &Page<'_>, id: NodeId) -> Result<Sums, OutOfMemory> {
-        let mut block = Block {
-            sums: Sums::NONE,
-            run: Run::EMPTY,
-            breaks: 0,
-            first_run: self.runs.len(),
-            counted: 0,
-            child: None,
-        };
-        block.sums.is_inline = false;
+    fn of_block(&self, page: &Page<'_>, id: NodeId, runs: &mut Runs) -> Result<Sums, OutOfMemory>
+        ensures { IfOk result (λ sums. sums ≡ block_sums page.now self.now.rules
+            (is_gone self.now) (sums_at self.now.sums.items) id
+            (children_of page.now.tree.now id)) }
+    {
+        let facts = page.at(id);
+        let mut block = Block::begun(!facts.kind.is_heading, self.rules.cleans);
         for child in page.tree.child_ids_of_it(&id, false) {
-            if self.is_gone(child) {
-                if page.at(child).is_input {
-                    block.sums.inputs = block.sums.inputs.saturating_add(1);
-                }
-            } else if self.at(child).is_inline {
-                self.add_inline_child(page, &mut block, child)?;
-            } else {
-                self.add_block_child(&mut block, child)?;
-            }
+            self.add_child(page, &mut block, child, runs)?;
         }
-        self.end_run(&mut block)?;
-        Ok(self.finished(page, id, block))
+        end_run(&mut block, runs)?;
+        Ok(finished(facts, id, block.all(), self.rules))
     }
 
-    /// Adds an inline child of a block.
-    fn add_inline_child(
-        &mut self,
+    /// Adds a child of a block.
+    fn add_child(
+        &self,
         page: &Page<'_>,
         block: &mut Block,
         child: NodeId,
-    ) -> Result<(), OutOfMemory> {
-        let below = *self.at(child);
-        block.sums.images = block.sums.images.saturating_add(below.images);
-        if page.tag(child) == Tag::Br {
-            block.breaks = block.breaks.saturating_add(1);
-            if block.breaks == 2 {
-                self.end_run(block)?;
+        runs: &mut Runs,
+    ) -> Result<(), OutOfMemory>
+        ensures { IfOk result (λ _. block.new ≡ with_child page.now.facts.items
+            (is_gone self.now) (sums_at self.now.sums.items) block.old child) }
+    {
+        let facts = page.at(child);
+        if self.is_gone(child) {
+            if facts.is_input {
+                block.add_inputs(1);
             }
             return Ok(());
         }
-        if below.size > 0 {
-            block.breaks = 0;
-            block.run.add(&below);
-            if let Some(slot) = self.sums.get_mut(child.value()) {
-                slot.run = number_of(self.runs.len());
-            }
-        }
-        Ok(())
-    }
-
-    /// Ends the run of a block, if there is one.
-    fn end_run(&mut self, block: &mut Block) -> Result<(), OutOfMemory> {
-        if block.run.size > 0 {
-            self.runs.push(block.run)?;
-        }
-        block.run = Run::EMPTY;
-        Ok(())
-    }
-
-    /// Adds a child of a block that is a block itself.
-    fn add_block_child(&mut self, block: &mut Block, child: NodeId) -> Result<(), OutOfMemory> {
-        self.end_run(block)?;
-        block.breaks = 0;
         let below = self.at(child);
-        block.sums.inputs = block.sums.inputs.saturating_add(below.inputs);
-        block.sums.link_runs = block.sums.link_runs.saturating_add(below.link_runs);
-        if below.is_bad {
-            return Ok(());
+        if below.is_inline {
+            return add_inline(block, runs, child, facts, below);
         }
-        if below.size > 0 {
-            block.counted = block.counted.saturating_add(1);
-            block.child = Some(child);
-        }
-        block.sums.add_block(below);
+        end_run(block, runs)?;
+        block.add_block(below);
         Ok(())
     }
+}
 
-    /// Returns the sums of a block whose children were added.
-    fn finished(&self, page: &Page<'_>, id: NodeId, block: Block) -> Sums {
+/// Adds an inline child to a block.
+fn add_inline(
+    block: &mut Block,
+    runs: &mut Runs,
+    child: NodeId,
+    facts: &Facts,
+    below: &Sums,
+) -> Result<(), OutOfMemory>
+    ensures { IfOk result (λ _. block.new ≡ with_inline_in facts.now below.now
+        (with_images below.now.images block.old)) }
+{
+    block.add_images(below.images);
+    if is_break(facts.kind.tag) {
+        return add_break(block, runs);
+    }
+    if below.size > 0 {
+        block.add_text(below);
+        runs.note(child);
+    }
+    Ok(())
+}
+
+/// Adds a line break to a block. The second one in a row ends the run.
+fn add_break(block: &mut Block, runs: &mut Runs) -> Result<(), OutOfMemory>
+    ensures { IfOk result (λ _. block.new ≡ with_line_break block.old) }
+{
+    if block.add_break() {
+        return end_run(block, runs);
+    }
+    Ok(())
+}
+
+/// Ends the run of a block, if it has a text.
+fn end_run(block: &mut Block, runs: &mut Runs) -> Result<(), OutOfMemory>
+    ensures { IfOk result (λ _. block.new ≡ ended block.old) }
+{
+    runs.keep(block.run)?;
+    block.end_run();
+    Ok(())
+}
+
+/// Returns the sums of an inline element without children.
+fn begun_inline(facts: &Facts) -> Sums
+    ensures { result ≡ begun_inline facts.now }
+{
+    let mut sums = Sums::NONE;
+    if is_image(facts.kind.tag) {
+        sums.images = 1;
+    }
+    sums
+}
+
+/// Returns the sums of a block of whose children these are the sums: with what the block itself
+/// says, with its score, and with whether it is bad.
+fn finished(facts: &Facts, id: NodeId, all: Sums, rules: Rules) -> Sums
+    ensures { result ≡ finished rules facts.now id all }
+{
+    let mut sums = with_kind(facts, id, all);
+    sums.score = scores::score_of(facts, &sums, rules);
+    sums.is_bad = badness::is_bad(facts, &sums, rules);
+    sums
+}
+
+/// Returns the sums of a block with what its name, its class and its address say.
+fn with_kind(facts: &Facts, id: NodeId, all: Sums) -> Sums
+    ensures { result ≡ with_kind facts.now id all }
+{
+    let mut sums = all;
+    if is_kind_of_its_own(facts) {
+        sums.like = Some(number_of(id.value()));
+    }
+    if facts.is_link {
+        sums.link = sums.size;
+        sums.raw = 0;
+        sums.in_paragraphs = 0;
+        sums.paragraphs = 0;
+    }
+    if facts.kind.is_heading {
+        sums.in_headings = sums.size;
+    }
+    if is_list(facts.kind.tag) {
+        sums.in_lists = sums.size;
+    }
+    sums
+}
+
+/// The nodes of a page that are gone, by node id.
+#[derive(Drop)]
+struct Gone {
+    gone: Vec<bool>,
+    /// The size of the texts that aren't gone.
+    visible: u64,
+}
+
+impl Gone {
+    /// Finds the nodes that are gone, from the first node to the last.
+    fn of(page: &Page<'_>, rules: Rules) -> Result<Gone, OutOfMemory>
+        requires { IsOrdered page.now }
+        ensures { IfOk result (λ gone. AreGone page.now rules gone.gone.items) }
+    {
+        forest_laws(page.tree);
+        let mut found = Gone {
+            gone: vec![in page.tree.allocator(); false; page.tree.len()]?,
+            visible: 0,
+        };
+        for id in &page.order {
+            found.look_at(page, rules, *id);
+        }
+        Ok(found)
+    }
+
+    /// Looks at a node after its parent.
+    fn look_at(&mut self, page: &Page<'_>, rules: Rules, id: NodeId)
+        ensures { self.new.gone.items ≡ with_gone page.now rules id self.old.gone.items }
+    {
         let facts = page.at(id);
-        let mut sums = block.sums;
-        let runs = match self.runs.get(block.first_run..) {
-            Some(runs) => runs,
-            None => &[],
-        };
-        let wrapped = match block.child {
-            Some(child) if block.counted == 1 && runs.is_empty() => Some(self.at(child)),
-            _ => None,
-        };
-        sums.like = wrapped.and_then(|inner| inner.like);
-        if is_kind_of_its_own(facts) {
-            sums.like = Some(number_of(id.value()));
-        }
-        match wrapped {
-            Some(inner) => {
-                sums.is_leaf = inner.is_leaf;
-                sums.raw = inner.raw;
+        if is_gone_by(facts, rules) || self.has_gone_parent(page, id) {
+            if let Some(slot) = self.gone.get_mut(id.value()) {
+                *slot = true;
             }
-            None => sums.is_leaf = block.counted == 0 && runs.len() <= 1,
+        } else {
+            self.visible = self.visible.saturating_add(facts.text.size as u64);
         }
-        for run in runs {
-            sums.add_run(run, !facts.kind.is_heading, self.rules.cleans);
+    }
+
+    /// Returns whether the parent of a node is gone.
+    fn has_gone_parent(&self, page: &Page<'_>, id: NodeId) -> bool
+        ensures { result ≡ has_gone_parent page.now self.now.gone.items id }
+    {
+        let Some(parent) = page.parent(id) else {
+            return false;
+        };
+        match self.gone.get(parent.value()) {
+            Some(gone) => *gone,
+            None => true,
         }
-        if facts.is_link {
-            sums.link = sums.size;
-            sums.raw = 0;
-            sums.in_paragraphs = 0;
-            sums.paragraphs = 0;
-        }
-        if facts.kind.is_heading {
-            sums.in_headings = sums.size;
-        }
-        if facts.kind.tag == Tag::List {
-            sums.in_lists = sums.size;
-        }
-        sums.score = scores::score_of(facts, &sums, self.rules);
-        sums.is_bad = badness::is_bad(facts, &sums, self.rules);
-        sums
     }
 }
 
@@ -271,7 +442,6 @@ static NOTHING: Sums = Sums {
     link_runs: 0,
     raw: 0,
     score: 0,
-    run: u32::MAX,
     like: None,
     is_inline: true,
     is_leaf: true,
@@ -279,21 +449,6 @@ static NOTHING: Sums = Sums {
     ends: true,
     copyright: false,
 };
-
-/// A block whose children are being added.
-#[derive(Clone, Copy, Drop)]
-struct Block {
-    sums: Sums,
-    /// The run that has begun.
-    run: Run,
-    /// How many line breaks there are in a row.
-    breaks: u32,
-    /// The number of the first run of the block.
-    first_run: usize,
-    /// How many children are blocks that count, and the last of them.
-    counted: u32,
-    child: Option<NodeId>,
-}
 
 /// Returns whether a node is gone by itself.
 fn is_gone_by(facts: &Facts, rules: Rules) -> bool
@@ -309,7 +464,9 @@ fn is_gone_by(facts: &Facts, rules: Rules) -> bool
 }
 
 /// Returns what is added up of a text.
-fn of_text(facts: &Facts) -> Sums {
+fn of_text(facts: &Facts) -> Sums
+    ensures { result ≡ text_sums facts.now }
+{
     let mut sums = Sums::NONE;
     sums.size = facts.text.size;
     if sums.size > 0 {
@@ -321,12 +478,60 @@ fn of_text(facts: &Facts) -> Sums {
 }
 
 /// Returns whether a block is of a kind that its own name and class say.
-fn is_kind_of_its_own(facts: &Facts) -> bool {
-    facts.has_class || matches!(facts.kind.tag, Tag::Section | Tag::Article)
+fn is_kind_of_its_own(facts: &Facts) -> bool
+    ensures { result ≡ is_kind_of_its_own facts.now }
+{
+    if facts.has_class {
+        return true;
+    }
+    is_part(facts.kind.tag)
+}
+
+/// Returns whether a node is a block by itself.
+fn is_block_itself(facts: &Facts) -> bool
+    ensures { result ≡ is_block_itself facts.now }
+{
+    if is_document(facts.kind.tag) {
+        return true;
+    }
+    facts.kind.is_block
+}
+
+fn is_text(tag: Tag) -> bool
+    ensures { result ≡ is_text tag }
+{
+    matches!(tag, Tag::Text)
+}
+
+fn is_image(tag: Tag) -> bool
+    ensures { result ≡ is_image tag }
+{
+    matches!(tag, Tag::Image)
+}
+
+fn is_break(tag: Tag) -> bool
+    ensures { result ≡ is_break tag }
+{
+    matches!(tag, Tag::Br)
+}
+
+fn is_list(tag: Tag) -> bool
+    ensures { result ≡ is_list tag }
+{
+    matches!(tag, Tag::List)
+}
+
+/// Returns whether an element is an article or a section.
+fn is_part(tag: Tag) -> bool
+    ensures { result ≡ is_part tag }
+{
+    matches!(tag, Tag::Article | Tag::Section)
 }
 
 /// Returns a number as one of 32 bits, at most the greatest.
-fn number_of(number: usize) -> u32 {
+fn number_of(number: usize) -> u32
+    ensures { result ≡ min number (2 ^ 32 - 1) }
+{
     match u32::try_from(number) {
         Ok(number) => number,
         Err(_) => u32::MAX,

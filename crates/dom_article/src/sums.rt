@@ -1,8 +1,8 @@
 //! What is added up of a node, and of a run of texts.
 
 ghost use Rattle.std.specs.Prelude.{◌≡◌, ◌≤◌, ◌*◌, ◌/◌, ◌&&◌};
-ghost use Rattle.dom_article.specs.Sums.{AddsBlock, AddsInline, AddsRun, AddsToRun};
-ghost use Rattle.dom_article.specs.Sums.{is_of_links, is_paragraph, one_if, weight, weight_if};
+ghost use Rattle.dom_article.specs.Sums.{is_of_links, is_paragraph, one_if, run_with, weight};
+ghost use Rattle.dom_article.specs.Sums.{weight_if, with_block, with_inline, with_run};
 
 use crate::tables::{LINK_RUN, PARAGRAPH, POINT, SHORTEST_RUN};
 
@@ -31,7 +31,7 @@ impl Run {
 
     /// Adds what an inline node has.
     pub(crate) fn add(&mut self, sums: &Sums)
-        ensures { AddsToRun self.old sums.now self.new }
+        ensures { self.new ≡ run_with self.old sums.now }
     {
         self.size = self.size.saturating_add(sums.size);
         self.link = self.link.saturating_add(sums.link);
@@ -137,8 +137,6 @@ pub(crate) struct Sums {
     pub(crate) link_runs: u32,
     pub(crate) raw: u64,
     pub(crate) score: i64,
-    /// The number of the run that an inline child of a block is part of.
-    pub(crate) run: u32,
     /// The id of the node whose name and class say of what kind this one is.
     pub(crate) like: Option<u32>,
     pub(crate) is_inline: bool,
@@ -163,7 +161,6 @@ impl Sums {
         link_runs: 0,
         raw: 0,
         score: 0,
-        run: u32::MAX,
         like: None,
         is_inline: true,
         is_leaf: true,
@@ -174,7 +171,7 @@ impl Sums {
 
     /// Adds what an inline child of an inline node has.
     pub(crate) fn add_inline(&mut self, below: &Sums)
-        ensures { AddsInline self.old below.now self.new }
+        ensures { self.new ≡ with_inline self.old below.now }
     {
         self.size = self.size.saturating_add(below.size);
         self.link = self.link.saturating_add(below.link);
@@ -188,7 +185,7 @@ impl Sums {
 
     /// Adds what a child has that is a block and isn't bad.
     pub(crate) fn add_block(&mut self, below: &Sums)
-        ensures { AddsBlock self.old below.now self.new }
+        ensures { self.new ≡ with_block self.old below.now }
     {
         self.size = self.size.saturating_add(below.size);
         self.link = self.link.saturating_add(below.link);
@@ -211,7 +208,7 @@ impl Sums {
 
     /// Adds a run of the block. `weighs` says that its text counts, as it does outside of headings.
     pub(crate) fn add_run(&mut self, run: &Run, weighs: bool, cleans: bool)
-        ensures { AddsRun weighs cleans self.old run.now self.new }
+        ensures { self.new ≡ with_run weighs cleans self.old run.now }
     {
         self.size = self.size.saturating_add(run.size);
         self.link = self.link.saturating_add(run.link);

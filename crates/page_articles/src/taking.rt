@@ -1,7 +1,8 @@
 //! Taking the article out of a page.
 
 ghost use Rattle.std.specs.Prelude.{IfOk, MatchOption};
-ghost use Rattle.dom_article.specs.Texts.{IsArticle, ShowsNoText};
+ghost use Rattle.dom_article.specs.Found.{IsArticle};
+ghost use Rattle.dom_article.specs.Texts.{ShowsNoText};
 
 use crate::linked_data::linked_data_of;
 use dom_article::{Article, article_of_known};
