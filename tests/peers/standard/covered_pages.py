@@ -20,11 +20,17 @@ import whole_parsing  # noqa: E402
 
 
 class Watched(construction.Builder):
-    """A builder that notes the turns that are not covered."""
+    """A builder that notes the turns that are not covered, and whether characters keep the flag for foreign content."""
 
     def __init__(self, *args, **names):
-        self.missed, self.deepest_of_all = set(), 0
+        self.missed, self.deepest_of_all, self.keeps_flag = set(), 0, True
         super().__init__(*args, **names)
+
+    def step(self, token):
+        before = self.foreign
+        super().step(token)
+        if token[0] == "char" and self.foreign != before:
+            self.keeps_flag = False
 
     def use(self, mode):
         if mode == "dispatcher":
@@ -36,10 +42,11 @@ class Watched(construction.Builder):
 
 
 def missed(text, scripting=False):
-    """The turns of a page that are not covered, and whether `[CDATA[` occurs in it, or rules use rules more than 64 deep."""
+    """The turns of a page that are not covered, and whether `[CDATA[` occurs in it while a character changes the flag for foreign content, or
+    rules use rules more than 64 deep."""
     builder = Watched(scripting)
     whole_parsing.run(text, builder)
-    others = [("any mode", "[CDATA[")] if "[CDATA[" in text else []
+    others = [("any mode", "[CDATA[")] if "[CDATA[" in text and not builder.keeps_flag else []
     others += [("any mode", "more than 64 deep")] if builder.deepest_of_all > 64 else []
     return builder.missed.union(others)
 
