@@ -1,3 +1,6 @@
+mod BytePageLemmas
+mod DecodingLemmas
+mod HeldLemmas
 mod PageLemmas
 mod PartLemmas
 pub mod StandardLemmas

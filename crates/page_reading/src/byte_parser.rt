@@ -1,6 +1,7 @@
 //! Parsing pages in any encoding whose bytes come in pieces.
 
-ghost use Rattle.std.specs.Prelude.{IfOk};
+ghost use Rattle.std.specs.Prelude.{[], IfOk, OnOk};
+ghost use Rattle.page_reading.specs.BytePages.{HasParsedPage, ParsesPage, ParsesPageOn};
 ghost use Rattle.page_trees.specs.Shape.{IsPage};
 
 use crate::charset::ReadPage;
@@ -36,7 +37,9 @@ impl PageByteParser {
         alloc: Global,
         charset: Charset,
         options: Options,
-    ) -> Result<PageByteParser, PageFault> {
+    ) -> Result<PageByteParser, PageFault>
+        ensures { IfOk result (HasParsedPage options []) }
+    {
         Ok(PageByteParser {
             source: PageDecoder::new(alloc, charset),
             reader: PageReader::page(alloc, options)?,
@@ -46,7 +49,9 @@ impl PageByteParser {
 
     /// Parses the next bytes of the page. Fails only with `Memory` or `TooManyNodes`; then nothing
     /// more is parsed, and each further call returns the same error.
-    pub fn feed(&mut self, piece: &[u8]) -> Result<(), PageFault> {
+    pub fn feed(&mut self, piece: &[u8]) -> Result<(), PageFault>
+        ensures { OnOk result (ParsesPageOn piece.now self.old self.new) }
+    {
         self.reader.settled()?;
         match self.source.feed(piece) {
             Ok(text) => {
@@ -55,15 +60,18 @@ impl PageByteParser {
             }
             Err(_) => {
                 self.reader.fail(PageFault::Memory);
-                self.reader.settled()
+                Err(PageFault::Memory)
             }
         }
     }
 
-    /// Returns the page after the last piece. Its document always has the shape of a page. Fails
-    /// with the error of an earlier call, or with `Memory` or `TooManyNodes`.
+    /// Returns the page after the last piece. Its document always has the shape of a page. It is
+    /// the one as which the HTML Standard parses the text of the bytes in the encoding that is
+    /// returned, as far as the code is proved to read it by the rules (`standard`). Fails with the
+    /// error of an earlier call, or with `Memory` or `TooManyNodes`.
     pub fn finish(self) -> Result<ReadPage, PageFault>
-        ensures { IfOk result (λ read. IsPage read.document.tree) }
+        ensures page { IfOk result (λ read. IsPage read.document.tree) }
+        ensures standard { IfOk result (ParsesPage self) }
     {
         let mut reader = self.reader;
         reader.settled()?;

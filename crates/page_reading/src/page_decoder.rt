@@ -1,10 +1,21 @@
 //! The text of a page whose bytes come in pieces, and whose encoding has to be found first.
 
+ghost use Rattle.std.specs.Prelude.{◌≡◌, ◌≤◌, [], IfOk, List, drop, string_bytes, take, ℕ};
+ghost use Rattle.std.specs.Prelude.{encode_utf8_all, false, length, true, ◌++◌};
+ghost use Rattle.std.specs.Str.{IsAscii};
+ghost use Rattle.decoded_text.specs.Characters.{text_of};
+ghost use Rattle.encodings.specs.declared.encoding.Encoding.TheVariants.{Utf8 as UTF8};
+ghost use Rattle.page_reading.specs.PageDecoding.{DecodesHeld, DecodesOn, Finds, HasDecoded};
+ghost use Rattle.page_reading.specs.PageDecoding.{IsGuess, IsUnknown, LacksMark, WaitsAt};
+ghost use Rattle.page_reading.specs.PageDecoding.{text_in};
+ghost use Rattle.page_reading.specs.declared.page_decoder.Stage.TheVariants as stage;
+ghost use Rattle.text_decoding.specs.Decoding.{Begins, characters, characters_behind, text_bytes};
+
 use std::alloc::{AllocError, Global};
 use std::mem;
 use text_decoding::{
     Charset, Confidence, Decoded, DecodedText, Decoder, Encoding, Fallback, SingleByte,
-    declared_encoding,
+    declared_encoding, decode,
 };
 
 /// How many bytes are held to find the encoding that they declare.
@@ -24,7 +35,9 @@ pub(crate) struct PageDecoder {
     stage: Stage,
     /// Bytes that were not decoded yet, since the encoding isn't known.
     held: Vec<u8>,
-    /// The decoder: of UTF-8 until the encoding is known, since only ASCII is decoded before.
+    /// The encoding: UTF-8 until it is known, since only ASCII is decoded before.
+    encoding: Encoding,
+    /// The decoder once the encoding is known.
     decoder: Decoder,
     confidence: Confidence,
 }
@@ -60,12 +73,15 @@ struct Part {
 
 impl PageDecoder {
     /// A decoder before the first piece.
-    pub(crate) fn new(alloc: Global, charset: Charset) -> PageDecoder {
+    pub(crate) fn new(alloc: Global, charset: Charset) -> PageDecoder
+        ensures { HasDecoded false [] [] result }
+    {
         PageDecoder {
             alloc,
             charset,
             stage: Stage::First,
             held: Vec::new(alloc),
+            encoding: Encoding::Utf8,
             decoder: Decoder::new(alloc, Encoding::Utf8),
             confidence: Confidence::Fallback,
         }
@@ -73,7 +89,9 @@ impl PageDecoder {
 
     /// Returns the text of the next piece, as far as it can be told before the following ones. It
     /// is lent where it is the piece itself. After an error nothing is known of the decoder.
-    pub(crate) fn feed<'b>(&mut self, piece: &'b [u8]) -> Result<DecodedText<'b>, AllocError> {
+    pub(crate) fn feed<'b>(&mut self, piece: &'b [u8]) -> Result<DecodedText<'b>, AllocError>
+        ensures { IfOk result (λ text. DecodesOn piece.now self.old self.new (text_bytes text)) }
+    {
         if self.stage == Stage::Known {
             return self.decoder.feed_lent(piece);
         }
@@ -83,57 +101,108 @@ impl PageDecoder {
     }
 
     /// Returns the text of what is left at the end of the page, and the page's encoding.
-    pub(crate) fn finish(self) -> Result<PageEnd, AllocError> {
+    pub(crate) fn finish(self) -> Result<PageEnd, AllocError>
+        ensures { (bytes read cs : List ℕ) → HasDecoded false bytes read self →
+            IfOk result (λ end. string_bytes end.text.text ≡ encode_utf8_all cs →
+            text_in end.encoding bytes ≡ read ++ cs) }
+    {
         let mut decoder = self;
         let mut text = decoder.decode_held(true)?;
-        let encoding = decoder.decoder.encoding();
+        let encoding = decoder.encoding;
+        let confidence = decoder.confidence;
         let last = decoder.decoder.finish()?;
         text.text.push_str(last.text.as_str())?;
         text.replaced = text.replaced.saturating_add(last.replaced);
         Ok(PageEnd {
             text,
             encoding,
-            confidence: decoder.confidence,
+            confidence,
         })
     }
 
     /// Decodes what can be decoded of the bytes that are held.
-    fn decode_held(&mut self, is_end: bool) -> Result<Decoded, AllocError> {
+    fn decode_held(&mut self, is_end: bool) -> Result<Decoded, AllocError>
+        ensures { IfOk result (λ text.
+            DecodesHeld is_end self.old self.new (string_bytes text.text)) }
+    {
         let held = mem::replace(&mut self.held, Vec::new(self.alloc));
         let bytes = held.as_slice();
         let part = self.decodable(bytes, is_end)?;
-        let text = self.decoder.feed(between(part, bytes))?;
+        let text = self.decode(between(part, bytes))?;
         self.held.extend_from_slice(behind(part.to, bytes))?;
         Ok(text)
     }
 
+    /// Decodes these bytes. They are ASCII where the encoding isn't known.
+    fn decode(&mut self, bytes: &[u8]) -> Result<Decoded, AllocError>
+        ensures only { self.new ≡ record self.old { decoder = self.new.decoder } }
+        ensures known { self.old.stage ≡ stage.Known → (more : List ℕ) → IfOk result (λ text.
+            Begins text (characters_behind self.old.decoder (bytes.now ++ more))
+            (characters_behind self.new.decoder more)) }
+        ensures ascii { (self.old.stage ≡ stage.Known → ⊥) → IfOk result (λ text.
+            (self.new ≡ self.old)
+            × (string_bytes text.text ≡ text_of (characters UTF8 bytes.now))) }
+    {
+        if self.stage == Stage::Known {
+            return self.decoder.feed(bytes);
+        }
+        ascii_text(self.alloc, bytes)
+    }
+
     /// Finds the encoding, if these bytes tell it, and returns which of them can be decoded then.
-    fn decodable(&mut self, bytes: &[u8], is_end: bool) -> Result<Part, AllocError> {
-        let all = Part {
-            from: 0,
-            to: bytes.len(),
-        };
+    fn decodable(&mut self, bytes: &[u8], is_end: bool) -> Result<Part, AllocError>
+        ensures held { self.new.held ≡ self.old.held }
+        ensures finds { (before : List ℕ) → WaitsAt self.old.stage before bytes.now self.old →
+            IfOk result (λ part. Finds is_end before bytes.now part self.new) }
+        ensures known { self.old.stage ≡ stage.Known → IfOk result (λ part.
+            (self.new ≡ self.old) × (part.from ≡ 0) × (part.to ≡ length bytes.now)) }
+    {
         match self.stage {
-            Stage::Known => Ok(all),
+            Stage::Known => Ok(all_of(bytes)),
             Stage::Ascii => self.ascii_part(bytes, is_end),
-            Stage::First if !is_end && bytes.len() < self.held_at_first() => Ok(Part {
-                from: 0,
-                to: 0,
-            }),
-            Stage::First => self.first_part(bytes, is_end),
+            Stage::First => self.part_at_first(bytes, is_end),
         }
     }
 
+    /// The same for the first bytes of the page: none of them as long as there are too few.
+    fn part_at_first(&mut self, bytes: &[u8], is_end: bool) -> Result<Part, AllocError>
+        ensures held { self.new.held ≡ self.old.held }
+        ensures finds { self.old.stage ≡ stage.First → IsUnknown self.old →
+            IfOk result (λ part. Finds is_end [] bytes.now part self.new) }
+    {
+        if self.awaits_first(bytes, is_end) {
+            return Ok(Part { from: 0, to: 0 });
+        }
+        self.first_part(bytes, is_end)
+    }
+
+    /// Returns whether there are too few bytes yet to look for the encoding.
+    fn awaits_first(&self, bytes: &[u8], is_end: bool) -> bool
+        ensures few { result ≡ true → is_end ≡ false }
+        ensures enough { result ≡ false → is_end ≡ false → 3 ≤ length bytes.now }
+    {
+        if is_end {
+            return false;
+        }
+        bytes.len() < self.held_at_first()
+    }
+
     /// How many bytes have to be there before the encoding is looked for.
-    fn held_at_first(&self) -> usize {
+    fn held_at_first(&self) -> usize
+        ensures { 3 ≤ result }
+    {
         if self.charset.transport.is_some() {
             return MARK;
         }
         HELD
     }
 
-    /// The same for the first bytes of the page.
-    fn first_part(&mut self, bytes: &[u8], is_end: bool) -> Result<Part, AllocError> {
+    /// The same where there are enough of the first bytes, or the page has ended.
+    fn first_part(&mut self, bytes: &[u8], is_end: bool) -> Result<Part, AllocError>
+        ensures held { self.new.held ≡ self.old.held }
+        ensures finds { (is_end ≡ false → 3 ≤ length bytes.now) → IsUnknown self.old →
+            IfOk result (λ part. Finds is_end [] bytes.now part self.new) }
+    {
         if let Some((encoding, length)) = Encoding::for_bom(bytes) {
             self.know(encoding, Confidence::Mark);
             return Ok(Part {
@@ -141,14 +210,19 @@ impl PageDecoder {
                 to: bytes.len(),
             });
         }
-        let all = Part {
-            from: 0,
-            to: bytes.len(),
-        };
         if let Some((encoding, confidence)) = self.said(bytes) {
             self.know(encoding, confidence);
-            return Ok(all);
+            return Ok(all_of(bytes));
         }
+        self.guessed_part(bytes, is_end)
+    }
+
+    /// The same where nothing says the encoding.
+    fn guessed_part(&mut self, bytes: &[u8], is_end: bool) -> Result<Part, AllocError>
+        ensures held { self.new.held ≡ self.old.held }
+        ensures finds { LacksMark is_end bytes.now → IsUnknown self.old →
+            IfOk result (λ part. Finds is_end [] bytes.now part self.new) }
+    {
         let first = front(HELD, bytes);
         if first.is_ascii() {
             self.stage = Stage::Ascii;
@@ -156,7 +230,7 @@ impl PageDecoder {
         }
         let encoding = guessed(self.alloc, first, is_end && bytes.len() <= HELD)?;
         self.know(encoding, Confidence::Fallback);
-        Ok(all)
+        Ok(all_of(bytes))
     }
 
     /// The encoding of a page without a byte order mark, unless it has to be guessed.
@@ -174,23 +248,35 @@ impl PageDecoder {
     }
 
     /// The same where all bytes before these are ASCII.
-    fn ascii_part(&mut self, bytes: &[u8], is_end: bool) -> Result<Part, AllocError> {
+    fn ascii_part(&mut self, bytes: &[u8], is_end: bool) -> Result<Part, AllocError>
+        ensures held { self.new.held ≡ self.old.held }
+        ensures finds { (before : List ℕ) → self.old.stage ≡ stage.Ascii → IsUnknown self.old
+            → IsAscii before → LacksMark is_end (before ++ bytes.now) →
+            IfOk result (λ part. Finds is_end before bytes.now part self.new) }
+    {
         let ascii = ascii_length(bytes);
         let rest = behind(ascii, bytes);
-        if rest.is_empty() || (rest.len() < CHARACTER && !is_end) {
+        if awaits_character(rest, is_end) {
             return Ok(Part { from: 0, to: ascii });
         }
         let is_all = rest.len() <= CHARACTER && is_end;
         let encoding = guessed(self.alloc, front(CHARACTER, rest), is_all)?;
         self.know(encoding, Confidence::Fallback);
-        Ok(Part {
-            from: 0,
-            to: bytes.len(),
-        })
+        Ok(all_of(bytes))
     }
 
     /// The page is in this encoding. What was decoded before is ASCII.
-    fn know(&mut self, encoding: Encoding, confidence: Confidence) {
+    fn know(&mut self, encoding: Encoding, confidence: Confidence)
+        ensures only { self.new ≡ record self.old {
+          encoding = encoding;
+          decoder = self.new.decoder;
+          confidence = confidence;
+          stage = stage.Known;
+        } }
+        ensures decoder { (bytes : List ℕ) →
+            characters_behind self.new.decoder bytes ≡ characters encoding bytes }
+    {
+        self.encoding = encoding;
         self.decoder = Decoder::new(self.alloc, encoding);
         self.confidence = confidence;
         self.stage = Stage::Known;
@@ -199,7 +285,9 @@ impl PageDecoder {
 
 /// Returns UTF-8 if the bytes are UTF-8, apart from a character that is cut at their end unless the
 /// page ends there, and otherwise windows-1252.
-fn guessed(alloc: Global, bytes: &[u8], is_end: bool) -> Result<Encoding, AllocError> {
+fn guessed(alloc: Global, bytes: &[u8], is_end: bool) -> Result<Encoding, AllocError>
+    ensures { IfOk result IsGuess }
+{
     let mut decoder = Decoder::new(alloc, Encoding::Utf8);
     let text = decoder.feed(bytes)?;
     let end = decoder.finish()?;
@@ -209,8 +297,31 @@ fn guessed(alloc: Global, bytes: &[u8], is_end: bool) -> Result<Encoding, AllocE
     Ok(Encoding::SingleByte(SingleByte::Windows1252))
 }
 
+/// Returns whether these bytes behind ASCII are too few yet to guess the encoding from them.
+fn awaits_character(rest: &[u8], is_end: bool) -> bool
+    ensures { result ≡ true → is_end ≡ true → rest.now ≡ [] }
+{
+    if is_end {
+        return rest.is_empty();
+    }
+    rest.len() < CHARACTER
+}
+
+/// Returns the text of bytes that are ASCII.
+fn ascii_text(alloc: Global, bytes: &[u8]) -> Result<Decoded, AllocError>
+    ensures { IfOk result (λ text.
+        string_bytes text.text ≡ text_of (characters UTF8 bytes.now)) }
+{
+    let text = decode(alloc, Encoding::Utf8, bytes)?;
+    let mut out = Decoded::with_capacity(alloc, bytes.len())?;
+    out.text.push_str(text.as_str())?;
+    Ok(out)
+}
+
 /// Returns how many bytes at the front are ASCII.
-fn ascii_length(bytes: &[u8]) -> usize {
+fn ascii_length(bytes: &[u8]) -> usize
+    ensures { IsAscii (take result bytes.now) }
+{
     for (i, byte) in bytes.iter().enumerate() {
         if !byte.is_ascii() {
             return i;
@@ -219,8 +330,20 @@ fn ascii_length(bytes: &[u8]) -> usize {
     bytes.len()
 }
 
+/// Returns all of the bytes.
+fn all_of(bytes: &[u8]) -> Part
+    ensures { result ≡ record { from = 0; to = length bytes.now } }
+{
+    Part {
+        from: 0,
+        to: bytes.len(),
+    }
+}
+
 /// Returns the bytes at the front, at most so many.
-fn front(length: usize, bytes: &[u8]) -> &[u8] {
+fn front(length: usize, bytes: &[u8]) -> &[u8]
+    ensures { result.now ≡ take length bytes.now }
+{
     match bytes.get(..length) {
         Some(front) => front,
         None => bytes,
@@ -228,7 +351,9 @@ fn front(length: usize, bytes: &[u8]) -> &[u8] {
 }
 
 /// Returns the bytes without so many at the front.
-fn behind(length: usize, bytes: &[u8]) -> &[u8] {
+fn behind(length: usize, bytes: &[u8]) -> &[u8]
+    ensures { result.now ≡ drop length bytes.now }
+{
     match bytes.get(length..) {
         Some(rest) => rest,
         None => &[],
@@ -236,9 +361,8 @@ fn behind(length: usize, bytes: &[u8]) -> &[u8] {
 }
 
 /// Returns a part of the bytes.
-fn between(part: Part, bytes: &[u8]) -> &[u8] {
-    match bytes.get(part.from..part.to) {
-        Some(bytes) => bytes,
-        None => &[],
-    }
+fn between(part: Part, bytes: &[u8]) -> &[u8]
+    ensures { result.now ≡ drop part.from (take part.to bytes.now) }
+{
+    behind(part.from, front(part.to, bytes))
 }

@@ -206,8 +206,10 @@ impl PageParser {
     }
 
     /// Parses the next bytes of a page in UTF-8, in pieces as a file or a connection delivers them.
-    /// The page may be split anywhere, even inside a character. A byte order mark at the start is
-    /// removed, and bytes that are not UTF-8 become U+FFFD. Fails as `feed` does.
+    /// The page may be split anywhere, even inside a character. A byte order mark at the start of
+    /// the bytes is removed, and bytes that are not UTF-8 become U+FFFD. A text that `feed` parsed
+    /// before them doesn't change that: the HTML Standard's decoder looks at the bytes alone. Fails
+    /// as `feed` does.
     pub fn feed_bytes(&mut self, piece: &[u8]) -> Result<(), PageFault>
         ensures page { ReadsPage self.old → ReadsPage self.new }
         ensures parses { OnOk result (ParsesBytesOn piece.now self.old self.new) }

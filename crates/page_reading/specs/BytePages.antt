@@ -1,0 +1,27 @@
+-- What parsing a page in any encoding gives, whose bytes come in pieces.
+use Rattle.std.specs.Prelude.{◌≡◌, ◌++◌, List, false, ℕ}
+use Rattle.page_trees.specs.PagesRead.{HasBuilt}
+use Rattle.page_trees.specs.declared.reading.Options.{Options}
+use Rattle.page_reading.specs.PageDecoding.{HasDecoded, text_in}
+use Rattle.page_reading.specs.StandardPages.{IsCoveredPage, IsStandardPage}
+use Rattle.page_reading.specs.declared.byte_parser.PageByteParser.{PageByteParser}
+use Rattle.page_reading.specs.declared.charset.ReadPage.{ReadPage}
+
+-- The parser parses a page with these options, and these bytes came so far, in pieces cut anywhere. It has read this text of them.
+pub record HasParsedPage (options : Options) (bytes : List ℕ) (parser : PageByteParser) : Type 0 where
+  pub options_are : parser.reader.options ≡ options
+  pub read : List ℕ
+  pub built : HasBuilt options.scripting read parser.reader
+  pub decoded : HasDecoded false bytes read parser.source
+
+-- the parser has parsed so many more bytes
+abbrev pub ParsesPageOn : List ℕ → PageByteParser → PageByteParser → Type 0
+ParsesPageOn more old new =
+    (options : Options) (bytes : List ℕ) → HasParsedPage options bytes old → HasParsedPage options (bytes ++ more) new
+
+-- if the bytes that came are a whole page whose text, in the encoding that is returned, is covered, the document is the one as which it is
+-- parsed
+abbrev pub ParsesPage : PageByteParser → ReadPage → Type 0
+ParsesPage parser read =
+    (options : Options) (bytes : List ℕ) → HasParsedPage options bytes parser → IsCoveredPage options (text_in read.encoding bytes) →
+    IsStandardPage options (text_in read.encoding bytes) read.document
