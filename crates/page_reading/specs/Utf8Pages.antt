@@ -17,7 +17,7 @@ unmarked (c ∷ cs) = cond (c == 0xFEFF) cs (c ∷ cs)
 abbrev pub utf8_text : List ℕ → List ℕ
 utf8_text bytes = unmarked (with_replacements (characters Utf8 bytes))
 
--- the same text in UTF-8
+-- that text, encoded in UTF-8
 abbrev pub utf8_page : List ℕ → List ℕ
 utf8_page bytes = encode_utf8_all (utf8_text bytes)
 

@@ -137,7 +137,7 @@ passes p (t ∷ ss) (suc n) s all is =
 pub every_state : (p : StandardState → Bool) → list_all p states ≡ true → (s : StandardState) → p s ≡ true
 every_state p all s = passes p states (placed s).0 s all (placed s).1
 
--- ---- the same state
+-- ---- whether two states are equal
 
 abbrev pub is_state : StandardState → StandardState → Bool
 is_state s t = (placed s).0 == (placed t).0

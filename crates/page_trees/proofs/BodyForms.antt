@@ -54,7 +54,7 @@ taken_by false false x e = ap acts_by (sym e)
 form_choice : (b : Building) (x : Bool) → x ≡ (is_set b.tree.form && not (is_open (codes "template") b.tree)) → choice b (body_rules_for (example_of Group.Form)) ≡ acts_by x
 form_choice b x e = form_row b ∙ taken_by (is_set b.tree.form) (is_open (codes "template") b.tree) x e
 
--- what the test for a form that is open tells
+-- what the test for an open form answers
 abbrev pub TellsOfForm : TreeState → Bool → Type 0
 TellsOfForm state x = (t : GrowingTree) → Builds state t → x ≡ (is_set t.form && not (is_open (codes "template") t))
 

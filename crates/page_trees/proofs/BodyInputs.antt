@@ -147,7 +147,7 @@ unfolding perform
 still_flagged name tag b true c = c
 still_flagged name tag b false c = still name tag b (perform FramesetNotOk b) refl refl c
 
--- what the test of the context element tells
+-- what the test of the context element answers
 abbrev pub TellsOfContext : TreeBuilder → Bool → Type 0
 TellsOfContext s x = Tells is_context s.tree x
 

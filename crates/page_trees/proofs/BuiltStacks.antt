@@ -65,7 +65,7 @@ pub built_front : (s new : TreeState) (t : GrowingTree) (n : ℕ) (ns : List ℕ
 built_front s new t n ns e b is =
     built_as s new t (take n s.stack) ns e b is (front_numbered s.numbers t.nodes s.stack n b.numbered)
 
--- the same of what a view of the state tells
+-- the lemma above, for a view of the state
 pub built_cut : (view s new : TreeState) (t : GrowingTree) (n : ℕ) (ns : List ℕ) → view ≡ s → new ≡ record s { stack = take n s.stack } → Builds s t →
     (IsStackOf t view.stack → IsStackOf (with_stack t ns) (take n view.stack)) → Builds new (with_stack t ns)
 built_cut view s new t n ns v e b step =

@@ -81,7 +81,7 @@ pub record AgreeAt (t : GrowingTree) (wanted ends : Open → Bool) (stop : Growi
   pub sought : (o : Open) → StandsFor t.nodes o → wanted o ≡ is_one_of t names o.id
   pub ended : (o : Open) → StandsFor t.nodes o → ends o ≡ stop t o.id
 
--- the same of every tree
+-- this holds in every tree
 pub record Agree (wanted ends : Open → Bool) (stop : GrowingTree → ℕ → Bool) (names : List (List ℕ)) : Type 0 where
   pub sought : (t : GrowingTree) (o : Open) → StandsFor t.nodes o → wanted o ≡ is_one_of t names o.id
   pub ended : (t : GrowingTree) (o : Open) → StandsFor t.nodes o → ends o ≡ stop t o.id

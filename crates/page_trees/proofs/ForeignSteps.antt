@@ -81,7 +81,7 @@ svg_element name tag b starts c =
 
 -- ---- the element is inserted
 
--- the same state with another current token
+-- the state with another current token
 retold : (s : TreeBuilder) (b : Building) (t : GrowingTree) (token : Token) (attrs : List NodeAttr) → Constructs s (with_tree b t) → Constructs s (record b { tree = t; token = token; attrs = attrs })
 retold s b t token attrs c = record {
   tree = c.tree;

@@ -156,7 +156,7 @@ next_number written old new none long finds = record {
     once a name other n false true one two e f = absurd (omega (arith, same_Some _ _ f, a.below name n e))
     once a name other n false false one two e f = a.once name other n e f
 
--- the same of the map
+-- and this in the map
 pub inserted_number : {A : Type 0} → (m n : BTreeMap (String A) ℕ) (key : String A) (written : List ℕ) (number : ℕ) (was : Option ℕ) → string_bytes key ≡ written →
     number ≡ length m.entries → None ≡ number_in (numbers_of m.entries) written → was ≡ get string_cmp m key → btree_map_len n ≡ btree_map_len m + (if is_some was then 0 else 1) →
     Updates string_cmp m n key (Some number) → IsNumberFor Name.Other written number (numbers_of m.entries) (numbers_of n.entries)

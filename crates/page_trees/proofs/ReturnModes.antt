@@ -212,7 +212,7 @@ with_modes Returning b modes h at = (at.0, at.1, h)
 with_modes Settled b modes h at = (at.0, h)
 with_modes Kept b modes h at = (at.0, at.1, h)
 
--- the same modes
+-- two states whose modes are equal
 abbrev pub SameModes : Building → Building → Type 0
 SameModes b c = (c.mode ≡ b.mode) × (c.original ≡ b.original) × (c.template_modes ≡ b.template_modes)
 

@@ -114,7 +114,7 @@ taken_out t x stands = by_ends (Takes t x) (λ p all once e. absurd (omega (arit
         let inside = last_place_le (is_this x.name x.id) ys in
         top_left t x ys y p all (sym is) (omega (arith, e, inside)) (more p all.1 once e)
 
--- ---- the order of the open elements tells that none is open twice
+-- ---- by the order of the open elements, none is open twice
 
 not_member : (n : ℕ) (xs : List Open) → All (λ o. n ≡ o.id → ⊥) xs → is_member n (map (λ o. o.id) (reverse xs)) ≡ false
 not_member n = by_ends (λ xs. All (λ o. n ≡ o.id → ⊥) xs → is_member n (map (λ o. o.id) (reverse xs)) ≡ false) (λ all. refl) (λ ys y more all.

@@ -261,7 +261,7 @@ unfolding taken entries
 after_ends f seen tag true rest answer h = slash_goes f seen AfterAttributeName tag rest answer h (λ foreign m text. refl)
 after_ends f seen tag false rest answer h = end_goes f seen AfterAttributeName tag rest answer h (λ foreign m text. refl)
 
--- the same from a state that leads there
+-- also from a state that leads there
 by_after : (f : Feedback) (seen : List Token) (s : State) (tag : Tag) (slash : Bool) (rest : List ℕ) (answer : Option State) → f.switch (seen ++ token_of (closed slash tag) ∷ []) ≡ answer →
     ((foreign : Bool) (m : Machine) (text : List ℕ) → taken foreign m (47 ∷ text) (entries s) ≡ taking [] (Reconsume AfterAttributeName) (47 ∷ [])) →
     ((foreign : Bool) (m : Machine) (text : List ℕ) → taken foreign m (62 ∷ text) (entries s) ≡ taking [] (Reconsume AfterAttributeName) (62 ∷ [])) →

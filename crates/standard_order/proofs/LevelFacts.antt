@@ -312,7 +312,7 @@ body_only : (o : Option ℕ) (t : GrowingTree) → OnlyNodes t (body_removed o t
 body_only None t = only_same t
 body_only (Some n) t = record { grows = grows_same t.nodes (removed n t.nodes) (labels_removed n t.nodes); only = refl }
 
--- the same modes, token and tree
+-- two states with equal modes, token and tree
 abbrev pub Alike : Building → Building → Type 0
 Alike b c = (c.mode ≡ b.mode) × (c.original ≡ b.original) × (c.template_modes ≡ b.template_modes) × (c.token ≡ b.token) × (c.tree ≡ b.tree)
 

@@ -451,7 +451,7 @@ past_at place kind names info b i at k scope ok table =
     ends_cells ButtonScope h = refl
     ends_cells TableScope h = cc
 
--- the same without a claim
+-- where nothing is claimed
 pub past_plain : (place : Where) (kind : ScopeKind) (names : Names) (info : Info) (b : Building) → is_in place ≡ true →
     LateAt place Of false b → holds_of info b.token ≡ true →
     has_in_scope kind (names_for names b.token) b.tree ≡ true → names_apart framing names info ≡ true →

@@ -184,7 +184,7 @@ no_cell _ = false
 -- Never: no state is there, since the tests of the rule can't be met;
 -- Late: there is a head element; what is known of the mode and of the stack;
 -- Scoped: also, one of these elements is in scope;
--- Opened: also, a template is open; OpenedFree: the same, where a cell needn't be open any more;
+-- Opened: also, a template is open; OpenedFree: as Opened, where a cell needn't be open any more;
 -- Foreign: also, the element that the token names comes before those in HTML.
 pub data Level : Type 0 where
   Fine Bare RootMade Before HeadMade TextMode TableText Behind Never : Level
