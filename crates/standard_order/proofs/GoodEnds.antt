@@ -226,7 +226,7 @@ last_held ls t names (Formatting m ∷ es) h n e = by (is_one t names m) e (λ m
     by true k go = subst (λ i. Is held ls i) (same_Some m n k) h.0
     by false k go = go k
 
-entry_held : (ls : List Label) (n : ℕ) (es : List Entry) → AllListed ls es → list_any (is_entry n) es ≡ true → Is held ls n
+pub entry_held : (ls : List Label) (n : ℕ) (es : List Entry) → AllListed ls es → list_any (is_entry n) es ≡ true → Is held ls n
 entry_held ls n [] h e = cc
 entry_held ls n (Marker ∷ es) h e = entry_held ls n es h e
 entry_held ls n (Formatting m ∷ es) h e = by (nat_eq m n) refl e (λ more. entry_held ls n es h.1 more)
@@ -372,7 +372,7 @@ pub record Climbed (claim : Bool) (old : GrowingTree) (c : Climb) : Type 0 where
   pub grows : Grows old.nodes c.tree.nodes
 
 -- a copy of an entry's element takes its place
-copy_placed : (claim : Bool) (t : GrowingTree) (node last : ℕ) → Is held (labels t.nodes) node → Is loose (labels t.nodes) node →
+pub copy_placed : (claim : Bool) (t : GrowingTree) (node last : ℕ) → Is held (labels t.nodes) node → Is loose (labels t.nodes) node →
     Good Inside claim t →
     Good Inside claim (put last (EndOf (fresh t)) (replaced node (fresh t) (copied node t))) × Grows t.nodes
     (put last (EndOf (fresh t)) (replaced node (fresh t) (copied node t))).nodes
@@ -424,7 +424,7 @@ copy_placed claim t node last h l good = (
         (put last (EndOf (fresh t)) (replaced node (fresh t) (record t { nodes = nodes })))
         (record { grows = grows_put last (EndOf (fresh t)) nodes; only = refl }) first
 
-climbed : (claim : Bool) (nodes : List ℕ) (count last : ℕ) (mark : Option ℕ) (t : GrowingTree) → AllLoose (labels t.nodes) nodes →
+pub climbed : (claim : Bool) (nodes : List ℕ) (count last : ℕ) (mark : Option ℕ) (t : GrowingTree) → AllLoose (labels t.nodes) nodes →
     Good Inside claim t → Climbed claim t (climb nodes count last mark t)
 climbed claim [] count last mark t loose_all good = record { good = good; grows = grows_same t.nodes t.nodes refl }
 climbed claim (node ∷ nodes) count last mark t loose_all good =
@@ -505,11 +505,11 @@ bookmark_good claim (Some mark) old new t q good =
     good_listed Inside claim (unlisted old t) (bookmarked new mark (unlisted old t).listed) (listed_bookmarked (labels t.nodes) new mark q
     (unlisted old t).listed first.2.entries) first
 
-bookmark_nodes : (mark : Option ℕ) (old new : ℕ) (t : GrowingTree) → (at_bookmark mark old new t).nodes ≡ t.nodes
+pub bookmark_nodes : (mark : Option ℕ) (old new : ℕ) (t : GrowingTree) → (at_bookmark mark old new t).nodes ≡ t.nodes
 bookmark_nodes None old new t = refl
 bookmark_nodes (Some mark) old new t = refl
 
-adopted_good : (claim : Bool) (formatting block : ℕ) (c : Climb) → Is held (labels c.tree.nodes) formatting →
+pub adopted_good : (claim : Bool) (formatting block : ℕ) (c : Climb) → Is held (labels c.tree.nodes) formatting →
     Is loose (labels c.tree.nodes) block → Good Inside claim c.tree →
     Good Inside claim (adopted_by formatting block c) × Grows c.tree.nodes (adopted_by formatting block c).nodes
 adopted_good claim formatting block c f_held b_loose good = (
@@ -586,7 +586,7 @@ adopted_good claim formatting block c f_held b_loose good = (
     new_loose = held_loose (labels after.nodes) new (subst (λ ls. Is held ls new) (sym after_same) new_made)
 
 -- the furthest block is loose, and so are the elements between it and the formatting element
-block_loose : (claim : Bool) (t : GrowingTree) (formatting block : ℕ) → Good Inside claim t → in_scope (nat_eq formatting)
+pub block_loose : (claim : Bool) (t : GrowingTree) (formatting block : ℕ) → Good Inside claim t → in_scope (nat_eq formatting)
     (ends_scope Scope t) t.stack ≡ true →
     last_special t None (before_in formatting t.stack) ≡ Some block → Is loose (labels t.nodes) block × AllLoose (labels t.nodes)
     (before_in formatting (behind_in block t.stack))

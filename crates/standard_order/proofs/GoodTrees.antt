@@ -87,7 +87,7 @@ listed_grown old new grows [] h = tt
 listed_grown old new grows (Marker ∷ es) h = listed_grown old new grows es h
 listed_grown old new grows (Formatting n ∷ es) h = (grows_at held old new grows n h.0, listed_grown old new grows es h.1)
 
-held_grown : (old new : List Node) → Grows old new → (ns : List ℕ) → AllHeld (labels old) ns → AllHeld (labels new) ns
+pub held_grown : (old new : List Node) → Grows old new → (ns : List ℕ) → AllHeld (labels old) ns → AllHeld (labels new) ns
 held_grown old new grows [] h = tt
 held_grown old new grows (n ∷ ns) h = (grows_at held old new grows n h.0, held_grown old new grows ns h.1)
 
@@ -217,7 +217,7 @@ reopened_good k claim (n ∷ ns) t h good =
     inner : Good k claim after
     inner = good_inserted_at k claim (place t) Html name (attrs_of t n) t (held_allowed k (label_for Html name) ok) good
 
-closed_held : (ls : List Label) (stack : List ℕ) (es : List Entry) → AllListed ls es → AllHeld ls (closed_entries stack es)
+pub closed_held : (ls : List Label) (stack : List ℕ) (es : List Entry) → AllListed ls es → AllHeld ls (closed_entries stack es)
 closed_held ls stack [] h = tt
 closed_held ls stack (Marker ∷ es) h = tt
 closed_held ls stack (Formatting n ∷ es) h = by (is_member n stack) (closed_held ls stack es h.1)
@@ -231,7 +231,7 @@ held_turned : (ls : List Label) (ns ms : List ℕ) → AllHeld ls ns → AllHeld
 held_turned ls [] ms h k = k
 held_turned ls (n ∷ ns) ms h k = held_turned ls ns (n ∷ ms) h.1 (h.0, k)
 
-held_reversed : (ls : List Label) (ns : List ℕ) → AllHeld ls ns → AllHeld ls (reverse ns)
+pub held_reversed : (ls : List Label) (ns : List ℕ) → AllHeld ls ns → AllHeld ls (reverse ns)
 held_reversed ls ns h = held_turned ls ns [] h tt
 
 listed_dropped : (ls : List Label) (n : ℕ) (es : List Entry) → AllListed ls es → AllListed ls (drop n es)

@@ -34,7 +34,7 @@ html_of_head ls (n ∷ []) h = absurd h.1
 html_of_head ls (n ∷ r ∷ []) h = h.1
 html_of_head ls (n ∷ r ∷ m ∷ ns) h = absurd h.1
 
-never_empty : (shape : Shape) (ls : List Label) → Stk shape ls [] → ⊥
+pub never_empty : (shape : Shape) (ls : List Label) → Stk shape ls [] → ⊥
 never_empty Nothing ls h = h
 never_empty Root ls h = h
 never_empty Head ls h = h

@@ -290,7 +290,7 @@ good_of k c mode rel t e (inr (inr f)) h = whole (subst (λ s. TreeIs s t) (ap (
 pub of_good : (k : Sort) (c : Bool) (mode : Mode) (t : GrowingTree) → own mode ≡ Std k c → Good k c t → TreeIs (own mode) t
 of_good k c mode t e g = subst (λ s. TreeIs s t) (sym e) ((g.0, g.1), g.2)
 
-settled_rel : (place : Where) (rel : Rel) → settled place rel ≡ true → ((rel ≡ Of) ⊎ ((rel ≡ OfHeld) ⊎ (rel ≡ OfPlain))) ×
+pub settled_rel : (place : Where) (rel : Rel) → settled place rel ≡ true → ((rel ≡ Of) ⊎ ((rel ≡ OfHeld) ⊎ (rel ≡ OfPlain))) ×
     (has_sort place ≡ true)
 settled_rel place Of h = (inl refl, h)
 settled_rel place OfHeld h = (inr (inl refl), h)

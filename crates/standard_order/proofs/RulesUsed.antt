@@ -541,7 +541,7 @@ taken_among P b (rule ps tests acts ∷ more) h = by (list_any (λ p. fits p b.t
     by true false k = k
     by false y k = k
 
-anything_met : (b : Building) (test : Test) (acts : List Act) (more : List Rule) → is_met b test ≡ true →
+pub anything_met : (b : Building) (test : Test) (acts : List Act) (more : List Rule) → is_met b test ≡ true →
     taken b (rule (Anything ∷ []) (test ∷ []) acts ∷ more) ≡ acts
 unfolding taken
 anything_met b test acts more e = ap (λ x. elim (x && true) as (λ _. List Act) [ true ↦ acts | false ↦ taken b more ]) e

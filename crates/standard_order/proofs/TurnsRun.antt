@@ -10,7 +10,7 @@ use Rattle.standard_trees.specs.TreeRules.{rules}
 use Rattle.standard_trees.specs.GrowingTree.{GrowingTree, with_stack}
 use Rattle.standard_trees.specs.Building.{Building, gone, is_line_feed, perform, performed, run, start, taken, tree_step, tree_steps}
 use Rattle.standard_trees.specs.Building.{with_head, with_next, with_tree}
-use Rattle.standard_order.specs.Order.{OrderNeedsNoTest, TurnsBeginInOrder, in_order_too, is_in_order}
+use Rattle.standard_order.specs.Order.{OrderNeedsNoTest, TurnsBeginInOrder, is_in_order}
 use Rattle.standard_order.specs.Turns.{is_barred, run_while, tree_step_while, tree_steps_while}
 use Rattle.standard_order.proofs.Labels.{Is as IsAt, labels}
 use Rattle.standard_order.proofs.StandingStacks.{Closed, both, head, never}
@@ -37,7 +37,7 @@ pub record Runs (f g : Mode → Building → Option Building) : Type 0 where
 
 -- ---- acts
 
-table_text_is : (level : Level) (mode : Mode) (b : Building) → is_table_text level mode ≡ true → At level b → (InBody ≡ mode) × PendingAt b
+pub table_text_is : (level : Level) (mode : Mode) (b : Building) → is_table_text level mode ≡ true → At level b → (InBody ≡ mode) × PendingAt b
 table_text_is TableText InBody b h at = (refl, (at.1, at.2, at.3))
 table_text_is level mode b h at = never h
 
@@ -90,20 +90,35 @@ acts_run f g runs (goes (UseForEachPending mode) ∷ acts) level info b k pass a
 abbrev pub carried_acts : List Act
 carried_acts = does PushHeadPointer [] ∷ goes (Use InHead) ∷ does RemoveHeadFromStack [] ∷ []
 
-carried_is : (acts : List Act) → is_carried acts ≡ true → carried_acts ≡ acts
+pub carried_is : (acts : List Act) → is_carried acts ≡ true → carried_acts ≡ acts
 carried_is (does PushHeadPointer [] ∷ goes (Use InHead) ∷ does RemoveHeadFromStack [] ∷ []) h = refl
 carried_is _ h = never h
 
-after_head_is : (level : Level) (b : Building) → is_after_head level ≡ true → At level b → LateAt (Exact AfterHead) Of false b
+pub after_head_is : (level : Level) (b : Building) → is_after_head level ≡ true → At level b → LateAt (Exact AfterHead) Of false b
 after_head_is (Late (Exact AfterHead) Of kept) b h at = (at.0, at.1, at.2, λ k. never k)
 after_head_is _ b h at = never h
 
-head_node : (t : GrowingTree) → PointersOf t → (n : ℕ) × (t.head ≡ Some n) × IsAt head (labels t.nodes) n
+pub head_node : (t : GrowingTree) → PointersOf t → (n : ℕ) × (t.head ≡ Some n) × IsAt head (labels t.nodes) n
 head_node t p = by t.head refl p.head_is
   where
     by : (o : Option ℕ) → t.head ≡ o → IsHeadPointer (labels t.nodes) o → (n : ℕ) × (t.head ≡ Some n) × IsAt head (labels t.nodes) n
     by None e h = absurd h
     by (Some n) e h = (n, e, h)
+
+pub carried_holds : (b : Building) → LateAt (Exact AfterHead) Of false b → (node : (n : ℕ) × (b.tree.head ≡ Some n) × IsAt head (labels b.tree.nodes) n) →
+    Carries node.0 b.tree.stack (with_tree b (with_stack b.tree (with_head b.tree.head b.tree.stack)))
+carried_holds b at node = record {
+  mode_is = at.0;
+  modes = at.1;
+  head_at = node.1;
+  stack_is = ap (λ o. with_head o b.tree.stack) node.1;
+  is_head = node.2;
+  below = closed.0.0;
+  pointers = at.2.1;
+}
+  where
+    closed : TreeIs (Std Closed false) b.tree
+    closed = subst (λ m. TreeIs (own m) b.tree) at.0 at.2
 
 carried_run : (f g : Mode → Building → Option Building) → Runs f g → (b : Building) → LateAt (Exact AfterHead) Of false b →
     holds_of (Start heads) b.token ≡ true →
@@ -112,7 +127,7 @@ unfolding perform
 carried_run f g runs b at h =
     then_follows Carried Turn (performed f (does RemoveHeadFromStack [] ∷ [])) (performed g (does RemoveHeadFromStack [] ∷ []))
     (λ x c d k. (k, subst Turn (same_Some (perform RemoveHeadFromStack x) d k) c)) (f InHead pushed_head) (g InHead pushed_head)
-    (runs.carries node.0 b.tree.stack pushed_head holding h)
+    (runs.carries node.0 b.tree.stack pushed_head (carried_holds b at node) h)
   where
     node : (n : ℕ) × (b.tree.head ≡ Some n) × IsAt head (labels b.tree.nodes) n
     node = head_node b.tree at.2.1
@@ -120,26 +135,12 @@ carried_run f g runs b at h =
     pushed_head : Building
     pushed_head = with_tree b (with_stack b.tree (with_head b.tree.head b.tree.stack))
 
-    closed : TreeIs (Std Closed false) b.tree
-    closed = subst (λ m. TreeIs (own m) b.tree) at.0 at.2
-
-    holding : Carries node.0 b.tree.stack pushed_head
-    holding = record {
-      mode_is = at.0;
-      modes = at.1;
-      head_at = node.1;
-      stack_is = ap (λ o. with_head o b.tree.stack) node.1;
-      is_head = node.2;
-      below = closed.0.0;
-      pointers = at.2.1;
-    }
-
 -- ---- the characters of a table
 
 abbrev pub pending_acts : List Act
 pending_acts = does EmptyPending [] ∷ does KeepMode [] ∷ does (SwitchTo InTableText) [] ∷ goes Reprocess ∷ []
 
-pending_is : (acts : List Act) → is_pending acts ≡ true → pending_acts ≡ acts
+pub pending_is : (acts : List Act) → is_pending acts ≡ true → pending_acts ≡ acts
 pending_is (does EmptyPending [] ∷ does KeepMode [] ∷ does (SwitchTo InTableText) [] ∷ goes Reprocess ∷ []) h = refl
 pending_is _ h = never h
 
@@ -179,44 +180,52 @@ ready_run f g runs acts b (level, info, tests, k, at, met, pass) = by (is_carrie
 
 -- ---- runs
 
-abbrev pub RunsInOrder : (Building → Bool) → ℕ → Type 0
-RunsInOrder test d = Runs (run_while test d) (run_while (in_order_too test) d)
+-- a state passes a test, and that is so of it
+abbrev pub fact_too : (Building → Bool) → (Building → Bool) → Building → Bool
+fact_too fact test b = test b && fact b
+
+-- that is so of every state with which a turn may begin
+abbrev pub Known : (Building → Bool) → Type 0
+Known fact = (b : Building) → Turn b → fact b ≡ true
+
+abbrev pub RunsKnow : (Building → Bool) → (Building → Bool) → ℕ → Type 0
+RunsKnow fact test d = Runs (run_while test d) (run_while (fact_too fact test) d)
 
 no_result : (P : Building → Type 0) → Follows P None None
 no_result P c h = cc
 
-barred_too : (test : Building → Bool) (mode : Mode) (b : Building) → Uses mode b → is_barred test mode b ≡ false →
-    is_barred (in_order_too test) mode b ≡ false
-barred_too test Dispatcher b uses h = passes_both (test b) (is_in_order b) true (turn_in_order b uses) (λ k. refl) h
-barred_too test _ b uses h = refl
+barred_too : (fact : Building → Bool) → Known fact → (test : Building → Bool) (mode : Mode) (b : Building) → Uses mode b → is_barred test mode b ≡ false →
+    is_barred (fact_too fact test) mode b ≡ false
+barred_too fact known test Dispatcher b uses h = passes_both (test b) (fact b) true (known b uses) (λ k. refl) h
+barred_too fact known test _ b uses h = refl
 
-acts_are_body : (test : Building → Bool) (d : ℕ) (x : ℕ) (b : Building) → PendingAt b →
+acts_are_body : (fact test : Building → Bool) (d : ℕ) (x : ℕ) (b : Building) → PendingAt b →
     Follows PendingAt (performed (run_while test d) (taken (with_char x b) (rules InBody)) (with_char x b))
-    (performed (run_while (in_order_too test) d) (taken (with_char x b) (rules InBody)) (with_char x b))
-acts_are_body test d x b at = subst (λ acts. Follows PendingAt (performed (run_while test d) acts (with_char x b))
-    (performed (run_while (in_order_too test) d) acts (with_char x b)))
-    (sym (body_taken x b)) (body_char (run_while test d) (run_while (in_order_too test) d) x (with_char x b) at)
+    (performed (run_while (fact_too fact test) d) (taken (with_char x b) (rules InBody)) (with_char x b))
+acts_are_body fact test d x b at = subst (λ acts. Follows PendingAt (performed (run_while test d) acts (with_char x b))
+    (performed (run_while (fact_too fact test) d) acts (with_char x b)))
+    (sym (body_taken x b)) (body_char (run_while test d) (run_while (fact_too fact test) d) x (with_char x b) at)
 
-pub runs_in_order : (test : Building → Bool) (d : ℕ) → RunsInOrder test d
+pub runs_know : (fact : Building → Bool) → Known fact → (test : Building → Bool) (d : ℕ) → RunsKnow fact test d
 unfolding run_while
-runs_in_order test zero = record {
+runs_know fact known test zero = record {
   uses = λ mode b u. no_result Turn;
   carries = λ n s b c h. no_result Carried;
   chars = λ x b at. no_result PendingAt;
 }
-runs_in_order test (suc d) = record {
-  uses = λ mode b u. barred_follows Turn (is_barred test mode b) (is_barred (in_order_too test) mode b)
+runs_know fact known test (suc d) = record {
+  uses = λ mode b u. barred_follows Turn (is_barred test mode b) (is_barred (fact_too fact test) mode b)
       (performed (run_while test d) (taken b (rules mode)) b)
-      (performed (run_while (in_order_too test) d) (taken b (rules mode)) b) (barred_too test mode b u)
-      (ready_run (run_while test d) (run_while (in_order_too test) d) (runs_in_order test d) (taken b (rules mode)) b (ready mode b u));
-  carries = λ n s b c h. acts_carried (run_while test d) (run_while (in_order_too test) d) n s b (taken b (rules InHead)) (head_acts b h) c;
-  chars = λ x b at. acts_are_body test d x b at;
+      (performed (run_while (fact_too fact test) d) (taken b (rules mode)) b) (barred_too fact known test mode b u)
+      (ready_run (run_while test d) (run_while (fact_too fact test) d) (runs_know fact known test d) (taken b (rules mode)) b (ready mode b u));
+  carries = λ n s b c h. acts_carried (run_while test d) (run_while (fact_too fact test) d) n s b (taken b (rules InHead)) (head_acts b h) c;
+  chars = λ x b at. acts_are_body fact test d x b at;
 }
 
 -- ---- turns
 
 -- another token
-turn_next : (token : Token) (b : Building) → Turn b → Turn (with_next token b)
+pub turn_next : (token : Token) (b : Building) → Turn b → Turn (with_next token b)
 turn_next token b turn = (turn.0, by b.mode turn.1)
   where
     by : (m : Mode) → TurnIs m b → TurnIs m (with_next token b)
@@ -227,32 +236,39 @@ turn_next token b turn = (turn.0, by b.mode turn.1)
     by InTableText h = h
     by _ h = h
 
-step_in_order : (test : Building → Bool) (d : ℕ) (b : Building) (token : Token) → Turn b → Follows Turn (tree_step_while test d b token)
-    (tree_step_while (in_order_too test) d b token)
+step_knows : (fact : Building → Bool) → Known fact → (test : Building → Bool) (d : ℕ) (b : Building) (token : Token) → Turn b →
+    Follows Turn (tree_step_while test d b token) (tree_step_while (fact_too fact test) d b token)
 unfolding tree_step_while
-step_in_order test d b token turn = by (b.skip && is_line_feed token)
+step_knows fact known test d b token turn = by (b.skip && is_line_feed token)
   where
     next : Turn (with_next token b)
     next = turn_next token b turn
 
     by : (x : Bool) → Follows Turn (elim x [ true ↦ Some (with_next token b) | false ↦ run_while test d Dispatcher (with_next token b) ])
-        (elim x [ true ↦ Some (with_next token b) | false ↦ run_while (in_order_too test) d Dispatcher (with_next token b) ])
+        (elim x [ true ↦ Some (with_next token b) | false ↦ run_while (fact_too fact test) d Dispatcher (with_next token b) ])
     by true = λ c h. (h, subst Turn (same_Some (with_next token b) c h) next)
-    by false = (runs_in_order test d).uses Dispatcher (with_next token b) next
+    by false = (runs_know fact known test d).uses Dispatcher (with_next token b) next
 
-pub steps_in_order : (test : Building → Bool) (d : ℕ) (tokens : List Token) (b : Building) → Turn b →
-    Follows Turn (tree_steps_while test d b tokens) (tree_steps_while (in_order_too test) d b tokens)
-steps_in_order test d [] b turn = λ c h. (h, subst Turn (same_Some b c h) turn)
-steps_in_order test d (token ∷ more) b turn =
-    then_follows Turn Turn (λ after. tree_steps_while test d after more) (λ after. tree_steps_while (in_order_too test) d after more)
-    (λ x k. steps_in_order test d more x k) (tree_step_while test d b token) (tree_step_while (in_order_too test) d b token)
-    (step_in_order test d b token turn)
+pub steps_know : (fact : Building → Bool) → Known fact → (test : Building → Bool) (d : ℕ) (tokens : List Token) (b : Building) → Turn b →
+    Follows Turn (tree_steps_while test d b tokens) (tree_steps_while (fact_too fact test) d b tokens)
+steps_know fact known test d [] b turn = λ c h. (h, subst Turn (same_Some b c h) turn)
+steps_know fact known test d (token ∷ more) b turn =
+    then_follows Turn Turn (λ after. tree_steps_while test d after more) (λ after. tree_steps_while (fact_too fact test) d after more)
+    (λ x k. steps_know fact known test d more x k) (tree_step_while test d b token) (tree_step_while (fact_too fact test) d b token)
+    (step_knows fact known test d b token turn)
 
 start_turn : (scripting : Bool) → Turn (start scripting)
 start_turn scripting = (refl, (refl, (refl, refl, refl, refl)))
 
+-- so no test of turns need ask for it
+pub fact_needs_no_test : (fact : Building → Bool) → Known fact → (test : Building → Bool) (depth : ℕ) (scripting : Bool) (tokens : List Token)
+    (end : Building) → tree_steps_while test depth (start scripting) tokens ≡ Some end →
+    tree_steps_while (fact_too fact test) depth (start scripting) tokens ≡ Some end
+fact_needs_no_test fact known test depth scripting tokens end h =
+    (steps_know fact known test depth tokens (start scripting) (start_turn scripting) end h).0
+
 pub order_needs_no_test : OrderNeedsNoTest
-order_needs_no_test test depth scripting tokens end h = (steps_in_order test depth tokens (start scripting) (start_turn scripting) end h).0
+order_needs_no_test test depth scripting tokens end h = fact_needs_no_test is_in_order turn_in_order test depth scripting tokens end h
 
 -- ---- runs without a test
 
@@ -272,7 +288,7 @@ all_body d x b at = subst (λ acts. Follows PendingAt (performed (run d) acts (w
     (with_char x b)))
     (sym (body_taken x b)) (body_char (run d) (run_while is_in_order d) x (with_char x b) at)
 
-all_in_order : (d : ℕ) → Runs (run d) (run_while is_in_order d)
+pub all_in_order : (d : ℕ) → Runs (run d) (run_while is_in_order d)
 unfolding run run_while
 all_in_order zero = record {
   uses = λ mode b u. no_result Turn;

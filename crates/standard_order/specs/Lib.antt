@@ -1,2 +1,9 @@
 pub mod Order
 pub mod Turns
+pub mod Pending
+pub mod PageShape
+pub mod PageTops
+pub mod ListedOnce
+pub mod Begun
+pub mod CurrentNodes
+pub mod FormattingListed
