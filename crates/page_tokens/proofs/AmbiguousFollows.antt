@@ -114,8 +114,8 @@ other_arm old mid new c is_part letter part mid_is remembers new_is is none =
           record {
             machine = n;
             characters = [];
-            goes = subst (λ front. Goes old.in_foreign m (front ++ c ∷ rest) [] n (c ∷ rest)) (sym here.inside)
-                (subst (λ k. Goes old.in_foreign k (c ∷ rest) [] n (c ∷ rest)) (in_its_state m there.AmbiguousAmpersand here.state) (ambiguous_ends old.in_foreign m c rest (no_letter_of c letter)));
+            goes = subst (λ front. Goes m (front ++ c ∷ rest) [] n (c ∷ rest)) (sym here.inside)
+                (subst (λ k. Goes k (c ∷ rest) [] n (c ∷ rest)) (in_its_state m there.AmbiguousAmpersand here.state) (ambiguous_ends old.in_foreign m c rest (no_letter_of c letter)));
             stands = subst (λ t. Stands t [] n) (sym only) stands_on;
             text = ap text_of only ∙ sym (append-nil (text_of old));
           };
@@ -139,7 +139,7 @@ number_arm old new c is_part is_sharp part writes is none =
       machine = record m { state = there.NumericCharacterReference; buffer = codes "&#" };
       ahead = [];
       goes = placed m there.CharacterReference c ahead rest here.state here.inside.0
-          (subst (λ d. Goes old.in_foreign (at_state m there.CharacterReference) (d ∷ rest) [] (record m { state = there.NumericCharacterReference; buffer = codes "&#" }) rest) (sym is_sharp) (number_begins old.in_foreign m rest));
+          (subst (λ d. Goes (at_state m there.CharacterReference) (d ∷ rest) [] (record m { state = there.NumericCharacterReference; buffer = codes "&#" }) rest) (sym is_sharp) (number_begins old.in_foreign m rest));
       outside = outside_on old m there.NumericCharacterReference (codes "&#") m.code here.outside;
       state = refl;
       inside = (refl, w.written ∙ ap (λ e. e ++ encode_utf8 c) here.inside.1 ∙ ap (λ d. codes "&" ++ encode_utf8 d) is_sharp);
@@ -152,6 +152,6 @@ unfolding encode_utf8
 none_arm old new c is_part letter no_sharp part ends is none =
     subst (ReadsReference old new c) (sym part) (ended old new c false (string_bytes old.written) (ends none) (λ m ahead rest stands.
     let here : At old reference.Begun ahead m = at old reference.Begun ahead m is stands in
-    flushed old new (with_ampersand m) (λ ts n. Goes old.in_foreign m (ahead ++ (c ∷ []) ++ rest) ts n (c ∷ rest)) (outside_on old m there.CharacterReference (codes "&") m.code here.outside)
+    flushed old new (with_ampersand m) (λ ts n. Goes m (ahead ++ (c ∷ []) ++ rest) ts n (c ∷ rest)) (outside_on old m there.CharacterReference (codes "&") m.code here.outside)
     (subst (EndsReference old new) here.inside.1 (ends none))
     (placed m there.CharacterReference c ahead rest here.state here.inside.0 (no_reference old.in_foreign m c rest (no_letter_of c letter) (ne_eqb 35 c (λ e. no_sharp (sym e)))))))

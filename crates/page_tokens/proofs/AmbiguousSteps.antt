@@ -47,24 +47,24 @@ abbrev pub ambiguous : Machine → Machine
 ambiguous m = at_state m there.AmbiguousAmpersand
 
 pub value_letter : (b : Bool) (m : Machine) (c : ℕ) (rest : List ℕ) → is_value m.return_state ≡ true → Letter c →
-    Goes b (ambiguous m) (c ∷ rest) [] (ambiguous (added AttrValue (c ∷ []) m)) rest
+    Goes (ambiguous m) (c ∷ rest) [] (ambiguous (added AttrValue (c ∷ []) m)) rest
 unfolding taken entries
-value_letter b m c rest value (digit is) = by_entry (ambiguous m) (c ∷ rest) (taking (Add AttrValue Current ∷ []) Stay (c ∷ [])) (rw (is, value) refl) refl
-value_letter b m c rest value (upper other is) = by_entry (ambiguous m) (c ∷ rest) (taking (Add AttrValue Current ∷ []) Stay (c ∷ [])) (rw (other, is, value) refl) refl
-value_letter b m c rest value (lower other none is) = by_entry (ambiguous m) (c ∷ rest) (taking (Add AttrValue Current ∷ []) Stay (c ∷ [])) (rw (other, none, is, value) refl) refl
+value_letter b m c rest value (digit is) = by_entry (ambiguous m) (c ∷ rest) (taking (Add AttrValue Current ∷ []) Stay (c ∷ [])) (λ x. rw (is, value) refl) refl
+value_letter b m c rest value (upper other is) = by_entry (ambiguous m) (c ∷ rest) (taking (Add AttrValue Current ∷ []) Stay (c ∷ [])) (λ x. rw (other, is, value) refl) refl
+value_letter b m c rest value (lower other none is) = by_entry (ambiguous m) (c ∷ rest) (taking (Add AttrValue Current ∷ []) Stay (c ∷ [])) (λ x. rw (other, none, is, value) refl) refl
 
-pub text_letter : (b : Bool) (m : Machine) (c : ℕ) (rest : List ℕ) → is_value m.return_state ≡ false → Letter c → Goes b (ambiguous m) (c ∷ rest) (AChar c ∷ []) (ambiguous m) rest
+pub text_letter : (b : Bool) (m : Machine) (c : ℕ) (rest : List ℕ) → is_value m.return_state ≡ false → Letter c → Goes (ambiguous m) (c ∷ rest) (AChar c ∷ []) (ambiguous m) rest
 unfolding taken entries
-text_letter b m c rest value (digit is) = by_entry (ambiguous m) (c ∷ rest) (taking (Emit Current ∷ []) Stay (c ∷ [])) (rw (is, value) refl) refl
-text_letter b m c rest value (upper other is) = by_entry (ambiguous m) (c ∷ rest) (taking (Emit Current ∷ []) Stay (c ∷ [])) (rw (other, is, value) refl) refl
-text_letter b m c rest value (lower other none is) = by_entry (ambiguous m) (c ∷ rest) (taking (Emit Current ∷ []) Stay (c ∷ [])) (rw (other, none, is, value) refl) refl
+text_letter b m c rest value (digit is) = by_entry (ambiguous m) (c ∷ rest) (taking (Emit Current ∷ []) Stay (c ∷ [])) (λ x. rw (is, value) refl) refl
+text_letter b m c rest value (upper other is) = by_entry (ambiguous m) (c ∷ rest) (taking (Emit Current ∷ []) Stay (c ∷ [])) (λ x. rw (other, is, value) refl) refl
+text_letter b m c rest value (lower other none is) = by_entry (ambiguous m) (c ∷ rest) (taking (Emit Current ∷ []) Stay (c ∷ [])) (λ x. rw (other, none, is, value) refl) refl
 
-pub ambiguous_ends : (b : Bool) (m : Machine) (c : ℕ) (rest : List ℕ) → IsNoLetter c → Goes b (ambiguous m) (c ∷ rest) [] (at_state m m.return_state) (c ∷ rest)
+pub ambiguous_ends : (b : Bool) (m : Machine) (c : ℕ) (rest : List ℕ) → IsNoLetter c → Goes (ambiguous m) (c ∷ rest) [] (at_state m m.return_state) (c ∷ rest)
 unfolding taken entries
 ambiguous_ends b m c rest other =
-    by_bool (λ e x. IsNoLetter e → Goes b (ambiguous m) (e ∷ rest) [] (at_state m m.return_state) (e ∷ rest)) c 59
-    (λ other. by_entry (ambiguous m) (59 ∷ rest) (taking [] ReconsumeBack (59 ∷ [])) refl refl)
-    (λ h59 other. by_entry (ambiguous m) (c ∷ rest) (taking [] ReconsumeBack (c ∷ [])) (rw (other.digit, other.upper, other.lower, h59) refl) refl) other
+    by_bool (λ e x. IsNoLetter e → Goes (ambiguous m) (e ∷ rest) [] (at_state m m.return_state) (e ∷ rest)) c 59
+    (λ other. by_entry (ambiguous m) (59 ∷ rest) (taking [] ReconsumeBack (59 ∷ [])) (λ x. refl) refl)
+    (λ h59 other. by_entry (ambiguous m) (c ∷ rest) (taking [] ReconsumeBack (c ∷ [])) (λ x. rw (other.digit, other.upper, other.lower, h59) refl) refl) other
 
 -- ---- behind an ampersand
 
@@ -72,23 +72,23 @@ abbrev pub with_ampersand : Machine → Machine
 with_ampersand m = record m { state = there.CharacterReference; buffer = codes "&" }
 
 pub number_begins : (b : Bool) (m : Machine) (rest : List ℕ) →
-    Goes b (at_state m there.CharacterReference) (35 ∷ rest) [] (record m { state = there.NumericCharacterReference; buffer = codes "&#" }) rest
+    Goes (at_state m there.CharacterReference) (35 ∷ rest) [] (record m { state = there.NumericCharacterReference; buffer = codes "&#" }) rest
 unfolding taken entries
 number_begins b m rest =
-    by_entry (at_state m there.CharacterReference) (35 ∷ rest) (taking (SetEmpty Buffer ∷ Add Buffer (These (codes "&")) ∷ Add Buffer Current ∷ []) (Switch there.NumericCharacterReference) (35 ∷ [])) refl refl
+    by_entry (at_state m there.CharacterReference) (35 ∷ rest) (taking (SetEmpty Buffer ∷ Add Buffer (These (codes "&")) ∷ Add Buffer Current ∷ []) (Switch there.NumericCharacterReference) (35 ∷ [])) (λ x. refl) refl
 
 pub name_begins : (b : Bool) (m : Machine) (c : ℕ) (rest : List ℕ) → Letter c →
-    Goes b (at_state m there.CharacterReference) (c ∷ rest) [] (record m { state = there.NamedCharacterReference; buffer = codes "&" }) (c ∷ rest)
+    Goes (at_state m there.CharacterReference) (c ∷ rest) [] (record m { state = there.NamedCharacterReference; buffer = codes "&" }) (c ∷ rest)
 unfolding taken entries
 name_begins b m c rest (digit is) =
-    by_entry (at_state m there.CharacterReference) (c ∷ rest) (taking (SetEmpty Buffer ∷ Add Buffer (These (codes "&")) ∷ []) (Reconsume there.NamedCharacterReference) (c ∷ [])) (rw is refl) refl
+    by_entry (at_state m there.CharacterReference) (c ∷ rest) (taking (SetEmpty Buffer ∷ Add Buffer (These (codes "&")) ∷ []) (Reconsume there.NamedCharacterReference) (c ∷ [])) (λ x. rw is refl) refl
 name_begins b m c rest (upper other is) =
-    by_entry (at_state m there.CharacterReference) (c ∷ rest) (taking (SetEmpty Buffer ∷ Add Buffer (These (codes "&")) ∷ []) (Reconsume there.NamedCharacterReference) (c ∷ [])) (rw (other, is) refl) refl
+    by_entry (at_state m there.CharacterReference) (c ∷ rest) (taking (SetEmpty Buffer ∷ Add Buffer (These (codes "&")) ∷ []) (Reconsume there.NamedCharacterReference) (c ∷ [])) (λ x. rw (other, is) refl) refl
 name_begins b m c rest (lower other none is) =
-    by_entry (at_state m there.CharacterReference) (c ∷ rest) (taking (SetEmpty Buffer ∷ Add Buffer (These (codes "&")) ∷ []) (Reconsume there.NamedCharacterReference) (c ∷ [])) (rw (other, none, is) refl) refl
+    by_entry (at_state m there.CharacterReference) (c ∷ rest) (taking (SetEmpty Buffer ∷ Add Buffer (These (codes "&")) ∷ []) (Reconsume there.NamedCharacterReference) (c ∷ [])) (λ x. rw (other, none, is) refl) refl
 
 pub no_reference : (b : Bool) (m : Machine) (c : ℕ) (rest : List ℕ) → IsNoLetter c → (35 == c) ≡ false →
-    Goes b (at_state m there.CharacterReference) (c ∷ rest) (emitted [] Flush (with_ampersand m) ++ []) (flushing (with_ampersand m)) (c ∷ rest)
+    Goes (at_state m there.CharacterReference) (c ∷ rest) (emitted [] Flush (with_ampersand m) ++ []) (flushing (with_ampersand m)) (c ∷ rest)
 unfolding taken entries
 no_reference b m c rest other h35 =
-    by_entry (at_state m there.CharacterReference) (c ∷ rest) (taking (SetEmpty Buffer ∷ Add Buffer (These (codes "&")) ∷ Flush ∷ []) ReconsumeBack (c ∷ [])) (rw (other.digit, other.upper, other.lower, h35) refl) refl
+    by_entry (at_state m there.CharacterReference) (c ∷ rest) (taking (SetEmpty Buffer ∷ Add Buffer (These (codes "&")) ∷ Flush ∷ []) ReconsumeBack (c ∷ [])) (λ x. rw (other.digit, other.upper, other.lower, h35) refl) refl

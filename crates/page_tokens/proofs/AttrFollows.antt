@@ -64,18 +64,18 @@ none_held kept (b ∷ name) value attrs none held = absurd (cc)
 -- the character is the first letter of an attribute's name
 abbrev pub Begins : StandardState → ℕ → Type 0
 Begins s c = (b : Bool) (m : Machine) (rest : List ℕ) →
-    Goes b (at_state m s) (c ∷ rest) [] (with_attrs m there.AttributeName (an_attr (to_ascii_lowercase (shown_of c) ∷ []) [] ∷ m.tag.attrs)) rest
+    Goes (at_state m s) (c ∷ rest) [] (with_attrs m there.AttributeName (an_attr (to_ascii_lowercase (shown_of c) ∷ []) [] ∷ m.tag.attrs)) rest
 
 pub first_letter : (s : StandardState) (c : ℕ) → Entry s c (NewAttr ∷ []) (Reconsume there.AttributeName) → IsNameLetter c → (61 == c) ≡ false → Begins s c
 first_letter s c entry is h61 b m rest =
-    then_on (by_entry (at_state m s) (c ∷ rest) (taking (NewAttr ∷ []) (Reconsume there.AttributeName) (c ∷ [])) (entry b m rest) refl) (attr_letter b m [] [] rest m.tag.attrs c is h61)
+    then_on (by_entry (at_state m s) (c ∷ rest) (taking (NewAttr ∷ []) (Reconsume there.AttributeName) (c ∷ [])) (λ x. entry x m rest) refl) (attr_letter b m [] [] rest m.tag.attrs c is h61)
 
 -- before a name, `=` is a letter
 pub begins_before : (c : ℕ) → IsNameLetter c → Begins there.BeforeAttributeName c
 unfolding taken entries
 begins_before c is b m rest =
-    by_bool (λ d _. Goes b M (d ∷ rest) [] (with_attrs m there.AttributeName (an_attr (to_ascii_lowercase (shown_of d) ∷ []) [] ∷ m.tag.attrs)) rest) c 61
-    (by_entry M (61 ∷ rest) (taking (NewAttr ∷ Add AttrName Current ∷ []) (Switch there.AttributeName) (61 ∷ [])) refl refl)
+    by_bool (λ d _. Goes M (d ∷ rest) [] (with_attrs m there.AttributeName (an_attr (to_ascii_lowercase (shown_of d) ∷ []) [] ∷ m.tag.attrs)) rest) c 61
+    (by_entry M (61 ∷ rest) (taking (NewAttr ∷ Add AttrName Current ∷ []) (Switch there.AttributeName) (61 ∷ [])) (λ x. refl) refl)
     (λ h61. first_letter there.BeforeAttributeName c (λ b m rest. rw (is.tab, is.line_feed, is.form_feed, is.space, is.slash, is.greater, h61) refl) is h61 b m rest)
   where
     M : Machine
@@ -183,7 +183,7 @@ named_follows old mid new c told is mid_is remembers gains keeps letter h61 told
     let same : Held (state.Attribute attr.Name) made [] n = (refl, new_draft, some) in
     record {
       machine = n;
-      goes = subst (λ attrs. Goes old.in_foreign (with_attrs m there.AttributeName attrs) (c ∷ rest) [] n rest) (sym was.are) (attr_letter old.in_foreign m was.attr.name was.attr.value rest was.older c letter h61);
+      goes = subst (λ attrs. Goes (with_attrs m there.AttributeName attrs) (c ∷ rest) [] n rest) (sym was.are) (attr_letter old.in_foreign m was.attr.name was.attr.value rest was.older c letter h61);
       stands = subst (λ t. Stands t [] n) (sym only) (record { reference = stands.reference; state = ap state_of (sym is); last_start = stands.last_start; held = subst (λ s. Held s made [] n) (sym is) same });
     })
 
@@ -194,11 +194,11 @@ abbrev pub InValue : AttrState → Type 0
 InValue inner = (t : Tokenizer) (m : Machine) → ((Held (state.Attribute inner) t [] m → 0 < length (string_bytes t.tag.attr_name)) × (IsDraft t.tag m.tag → 0 < length (string_bytes t.tag.attr_name) → Held (state.Attribute inner) t [] m))
 
 value_letter : (s : StandardState) (b : Bool) (m : Machine) (name value rest : List ℕ) (older : List Attr) (c : ℕ) → Entry s 0 (Add AttrValue replacement ∷ []) Stay → ((0 == c) ≡ false → Entry s c (Add AttrValue Current ∷ []) Stay) →
-    Goes b (with_attrs m s (an_attr name value ∷ older)) (c ∷ rest) [] (with_attrs m s (an_attr name (value ++ shown_of c ∷ []) ∷ older)) rest
+    Goes (with_attrs m s (an_attr name value ∷ older)) (c ∷ rest) [] (with_attrs m s (an_attr name (value ++ shown_of c ∷ []) ∷ older)) rest
 value_letter s b m name value rest older c null other =
-    by_bool (λ d x. Goes b M (d ∷ rest) [] (with_attrs m s (an_attr name (value ++ cond x 0xfffd d ∷ []) ∷ older)) rest) c 0
-    (by_entry M (0 ∷ rest) (taking (Add AttrValue replacement ∷ []) Stay (0 ∷ [])) (null b M rest) refl)
-    (λ h0. by_entry M (c ∷ rest) (taking (Add AttrValue Current ∷ []) Stay (c ∷ [])) (other h0 b M rest) refl)
+    by_bool (λ d x. Goes M (d ∷ rest) [] (with_attrs m s (an_attr name (value ++ cond x 0xfffd d ∷ []) ∷ older)) rest) c 0
+    (by_entry M (0 ∷ rest) (taking (Add AttrValue replacement ∷ []) Stay (0 ∷ [])) (λ x. null x M rest) refl)
+    (λ h0. by_entry M (c ∷ rest) (taking (Add AttrValue Current ∷ []) Stay (c ∷ [])) (λ x. other h0 x M rest) refl)
   where
     M : Machine
     M = with_attrs m s (an_attr name value ∷ older)
@@ -229,6 +229,6 @@ valued_follows old mid new inner c told is mid_is remembers gains keeps told_is 
     let same : Held (state.Attribute inner) made [] n = (in_value made n).1 new_draft some in
     record {
       machine = n;
-      goes = subst (λ attrs. Goes old.in_foreign (with_attrs m (attr_state_of inner) attrs) (c ∷ rest) [] n rest) (sym was.are) (value_letter (attr_state_of inner) old.in_foreign m was.attr.name was.attr.value rest was.older c null other);
+      goes = subst (λ attrs. Goes (with_attrs m (attr_state_of inner) attrs) (c ∷ rest) [] n rest) (sym was.are) (value_letter (attr_state_of inner) old.in_foreign m was.attr.name was.attr.value rest was.older c null other);
       stands = subst (λ t. Stands t [] n) (sym only) (record { reference = stands.reference; state = ap state_of (sym is); last_start = stands.last_start; held = subst (λ s. Held s made [] n) (sym is) same });
     })

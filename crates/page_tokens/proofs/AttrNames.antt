@@ -36,15 +36,15 @@ pub slash_before : {E : Type 0} (old new : Tokenizer) (c : ℕ) (r : Result (Opt
 unfolding taken entries
 slash_before old new c r is at only told_is =
     switch_arm old old new (state.Attribute attr.BeforeName) (state.Tag tag.SelfClosing) c r is refl (λ e. e) only told_is
-    (subst (Over there.BeforeAttributeName there.SelfClosingStartTag) (sym at) (λ b m rest. then_on (by_entry (at_state m there.BeforeAttributeName) (47 ∷ rest) (taking [] (Reconsume there.AfterAttributeName) (47 ∷ [])) refl refl)
-    (by_entry (at_state m there.AfterAttributeName) (47 ∷ rest) (taking [] (Switch there.SelfClosingStartTag) (47 ∷ [])) refl refl)))
+    (subst (Over there.BeforeAttributeName there.SelfClosingStartTag) (sym at) (λ b m rest. then_on (by_entry (at_state m there.BeforeAttributeName) (47 ∷ rest) (taking [] (Reconsume there.AfterAttributeName) (47 ∷ [])) (λ x. refl) refl)
+    (by_entry (at_state m there.AfterAttributeName) (47 ∷ rest) (taking [] (Switch there.SelfClosingStartTag) (47 ∷ [])) (λ x. refl) refl)))
     (λ t ahead m held. held.0) (λ t other ahead m held. (refl, held.1))
 
 emits_before_name : EmitsOver there.BeforeAttributeName as_it_is
 unfolding taken entries
 emits_before_name b m rest =
-    then_on (by_entry (at_state m there.BeforeAttributeName) (62 ∷ rest) (taking [] (Reconsume there.AfterAttributeName) (62 ∷ [])) refl refl)
-    (by_entry (at_state m there.AfterAttributeName) (62 ∷ rest) (taking (EmitTag ∷ []) (Switch there.Data) (62 ∷ [])) refl refl)
+    then_on (by_entry (at_state m there.BeforeAttributeName) (62 ∷ rest) (taking [] (Reconsume there.AfterAttributeName) (62 ∷ [])) (λ x. refl) refl)
+    (by_entry (at_state m there.AfterAttributeName) (62 ∷ rest) (taking (EmitTag ∷ []) (Switch there.Data) (62 ∷ [])) (λ x. refl) refl)
 
 pub greater_before : {E : Type 0} (old new : Tokenizer) (c : ℕ) (r : Result (Option TokenKind) E) → old.state ≡ state.Attribute attr.BeforeName → c ≡ 62 → OnOk r (new.refused ≡ false → Keeps old new) →
     (0 < length (string_bytes old.tag.name) → IfOk r (λ told. new.refused ≡ false → EmitsTag old new told)) → Follows old new (c ∷ []) r

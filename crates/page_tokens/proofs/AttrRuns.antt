@@ -30,7 +30,7 @@ at_attr m s one older at are = ap (λ attrs. with_attrs m s attrs) (sym are) ∙
 
 pub attr_name_run : (old new : Tokenizer) (ends : ℕ → Bool) (cs : List ℕ) → old.state ≡ state.Attribute attr.Name → AddsToAttrName old new (encode_utf8_all cs) → old.refused ≡ false →
     ((b : Bool) (m : Machine) (name value : List ℕ) (older : List Attr) (c : ℕ) (rest : List ℕ) → ends c ≡ false →
-    Goes b (with_attrs m there.AttributeName (an_attr name value ∷ older)) (c ∷ rest) [] (with_attrs m there.AttributeName (an_attr (name ++ to_ascii_lowercase c ∷ []) value ∷ older)) rest) →
+    Goes (with_attrs m there.AttributeName (an_attr name value ∷ older)) (c ∷ rest) [] (with_attrs m there.AttributeName (an_attr (name ++ to_ascii_lowercase c ∷ []) value ∷ older)) rest) →
     NoneEnds ends cs → FollowsStandard old new cs None
 attr_name_run old new ends cs is adds none one all =
     let made : Tokenizer = record old { tag = record old.tag { attr_name = new.tag.attr_name } } in
@@ -44,7 +44,7 @@ attr_name_run old new ends cs is adds none one all =
     let more : List ℕ = was.attr.name ++ map to_ascii_lowercase cs in
     let n : Machine = with_attrs m s (an_attr more was.attr.value ∷ was.older) in
     let at : with_attrs m s (was.attr ∷ was.older) ≡ m = at_attr m s was.attr was.older (stands.state ∙ ap state_of is) was.are in
-    let run : Goes b (with_attrs m s (was.attr ∷ was.older)) (cs ++ rest) [] n rest =
+    let run : Goes (with_attrs m s (was.attr ∷ was.older)) (cs ++ rest) [] n rest =
     gathered_by to_ascii_lowercase ends (λ d. with_attrs m s (an_attr d was.attr.value ∷ was.older)) (λ d c rest goes_on. one b m d was.attr.value was.older c rest goes_on) was.attr.name cs rest all in
     let some : 0 < length (string_bytes new.tag.attr_name) = subst (λ (bytes : List ℕ). 0 < length bytes) (sym adds.1) (longer (string_bytes old.tag.attr_name) (encode_utf8_all cs) held.2) in
     let new_draft : IsDraft made.tag n.tag = record {
@@ -57,7 +57,7 @@ attr_name_run old new ends cs is adds none one all =
     } in
     record {
       machine = n;
-      goes = subst (λ front. Goes b m (front ++ cs ++ rest) [] n rest) (sym held.0) (subst (λ k. Goes b k (cs ++ rest) [] n rest) at run);
+      goes = subst (λ front. Goes m (front ++ cs ++ rest) [] n rest) (sym held.0) (subst (λ k. Goes k (cs ++ rest) [] n rest) at run);
       stands = record { reference = stands.reference; state = ap state_of (sym is); last_start = stands.last_start; held = subst (λ s. Held s made [] n) (sym is) (refl, new_draft, some) };
     }))
 
@@ -78,9 +78,9 @@ value_run old new inner ends cs is adds none entry nothing drafted in_value all 
     let more : List ℕ = was.attr.value ++ cs in
     let n : Machine = with_attrs m s (an_attr was.attr.name more ∷ was.older) in
     let at : with_attrs m s (was.attr ∷ was.older) ≡ m = at_attr m s was.attr was.older (stands.state ∙ ap state_of is) was.are in
-    let run : Goes b (with_attrs m s (was.attr ∷ was.older)) (cs ++ rest) [] n rest =
+    let run : Goes (with_attrs m s (was.attr ∷ was.older)) (cs ++ rest) [] n rest =
     gathered_plain ends (λ d. with_attrs m s (an_attr was.attr.name d ∷ was.older))
-    (λ d c rest goes_on. let k : Machine = with_attrs m s (an_attr was.attr.name d ∷ was.older) in by_entry k (c ∷ rest) (taking (Add AttrValue Current ∷ []) Stay (c ∷ [])) (entry c goes_on b k rest) refl) was.attr.value cs rest all in
+    (λ d c rest goes_on. let k : Machine = with_attrs m s (an_attr was.attr.name d ∷ was.older) in by_entry k (c ∷ rest) (taking (Add AttrValue Current ∷ []) Stay (c ∷ [])) (λ x. entry c goes_on x k rest) refl) was.attr.value cs rest all in
     let new_draft : IsDraft made.tag n.tag = record {
       kind = draft.kind;
       named = draft.named;
@@ -92,6 +92,6 @@ value_run old new inner ends cs is adds none entry nothing drafted in_value all 
     let same : Held (state.Attribute inner) made [] n = (in_value made n).1 new_draft named in
     record {
       machine = n;
-      goes = subst (λ front. Goes b m (front ++ cs ++ rest) [] n rest) (sym empty) (subst (λ k. Goes b k (cs ++ rest) [] n rest) at run);
+      goes = subst (λ front. Goes m (front ++ cs ++ rest) [] n rest) (sym empty) (subst (λ k. Goes k (cs ++ rest) [] n rest) at run);
       stands = record { reference = stands.reference; state = ap state_of (sym is); last_start = stands.last_start; held = subst (λ s. Held s made [] n) (sym is) same };
     }))

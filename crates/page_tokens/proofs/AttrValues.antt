@@ -208,7 +208,7 @@ closed one = record one { self_closing = true }
 
 emits_closed : EmitsOver there.SelfClosingStartTag closed
 unfolding taken entries
-emits_closed b m rest = by_entry (at_state m there.SelfClosingStartTag) (62 ∷ rest) (taking (SelfClosing ∷ EmitTag ∷ []) (Switch there.Data) (62 ∷ [])) refl refl
+emits_closed b m rest = by_entry (at_state m there.SelfClosingStartTag) (62 ∷ rest) (taking (SelfClosing ∷ EmitTag ∷ []) (Switch there.Data) (62 ∷ [])) (λ x. refl) refl
 
 pub greater_closes : {E : Type 0} (old new : Tokenizer) (c : ℕ) (r : Result (Option TokenKind) E) → old.state ≡ state.Tag tag.SelfClosing → c ≡ 62 →
     OnOk r (new.refused ≡ false → Keeps (record old { tag = record old.tag { self_closing = true } }) new) →

@@ -35,17 +35,17 @@ Comes inner c its.Text = Over (state.Cdata inner) (state.Cdata cdata.Section) c 
 
 pub section_over : (c : ℕ) → (93 == c) ≡ false → Over (state.Cdata cdata.Section) (state.Cdata cdata.Section) c (c ∷ [])
 unfolding taken entries
-section_over c h93 b m rest = by_entry (at_state m there.CDATASection) (c ∷ rest) (taking (Emit Current ∷ []) Stay (c ∷ [])) (rw h93 refl) refl
+section_over c h93 b m rest = by_entry (at_state m there.CDATASection) (c ∷ rest) (taking (Emit Current ∷ []) Stay (c ∷ [])) (λ x. rw h93 refl) refl
 
 bracket_over : (c : ℕ) → (93 == c) ≡ false → Over (state.Cdata cdata.Bracket) (state.Cdata cdata.Section) c (93 ∷ c ∷ [])
 unfolding taken entries
 bracket_over c h93 b m rest =
-    then_on (by_entry (at_state m there.CDATASectionBracket) (c ∷ rest) (taking (Emit (These (codes "]")) ∷ []) (Reconsume there.CDATASection) (c ∷ [])) (rw h93 refl) refl) (section_over c h93 b m rest)
+    then_on (by_entry (at_state m there.CDATASectionBracket) (c ∷ rest) (taking (Emit (These (codes "]")) ∷ []) (Reconsume there.CDATASection) (c ∷ [])) (λ x. rw h93 refl) refl) (section_over c h93 b m rest)
 
 end_over : (c : ℕ) → (93 == c) ≡ false → (62 == c) ≡ false → Over (state.Cdata cdata.End) (state.Cdata cdata.Section) c (93 ∷ 93 ∷ c ∷ [])
 unfolding taken entries
 end_over c h93 h62 b m rest =
-    then_on (by_entry (at_state m there.CDATASectionEnd) (c ∷ rest) (taking (Emit (These (codes "]]")) ∷ []) (Reconsume there.CDATASection) (c ∷ [])) (rw (h93, h62) refl) refl) (section_over c h93 b m rest)
+    then_on (by_entry (at_state m there.CDATASectionEnd) (c ∷ rest) (taking (Emit (These (codes "]]")) ∷ []) (Reconsume there.CDATASection) (c ∷ [])) (λ x. rw (h93, h62) refl) refl) (section_over c h93 b m rest)
 
 comes : (inner : CdataState) (c : ℕ) → Comes inner c (cdata_step_of inner c)
 unfolding taken entries
@@ -55,7 +55,7 @@ comes cdata.Bracket c =
     by_test (Comes cdata.Bracket) c 93 (its.Then (state.Cdata cdata.End)) its.Text ((λ b m rest. refl), (λ t m. refl)) (λ h93. bracket_over c h93)
 comes cdata.End c =
     by_test (Comes cdata.End) c 93 its.Bracket (cond (c == 62) (its.Then state.Data) its.Text)
-    (λ b m rest. by_entry (at_state m there.CDATASectionEnd) (93 ∷ rest) (taking (Emit (These (codes "]")) ∷ []) Stay (93 ∷ [])) refl refl)
+    (λ b m rest. by_entry (at_state m there.CDATASectionEnd) (93 ∷ rest) (taking (Emit (These (codes "]")) ∷ []) Stay (93 ∷ [])) (λ x. refl) refl)
     (λ h93. by_test (Comes cdata.End) c 62 (its.Then state.Data) its.Text ((λ b m rest. refl), (λ t m. refl)) (λ h62. end_over c h93 h62))
 
 plain : (inner : CdataState) → encode_utf8_all (brackets_of inner) ≡ brackets_of inner

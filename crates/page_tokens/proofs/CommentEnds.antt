@@ -22,7 +22,7 @@ use Rattle.page_tokens.proofs.StandardSteps.{by_entry, taking}
 -- where the machine stops
 record Stopping (b : Bool) (m : Machine) (text : List ℕ) (d : List ℕ) : Type 0 where
   pub machine : Machine
-  pub goes : Goes b m text [] machine []
+  pub goes : Goes m text [] machine []
   pub stops : (step b machine []).stopped ≡ true
   pub emits : (step b machine []).tokens ≡ AComment d ∷ AnEof ∷ []
 
@@ -30,17 +30,17 @@ comment_stops : (inner : CommentState) (b : Bool) (m : Machine) (d : List ℕ) �
 unfolding step taken entries
 comment_stops Bogus b m d = record { machine = commenting m there.BogusComment d; goes = stays; stops = refl; emits = refl }
 comment_stops Start b m d =
-    record { machine = commenting m there.CommentState d; goes = by_entry (commenting m there.CommentStart d) [] (taking [] (Reconsume there.CommentState) []) refl refl; stops = refl; emits = refl }
+    record { machine = commenting m there.CommentState d; goes = by_entry (commenting m there.CommentStart d) [] (taking [] (Reconsume there.CommentState) []) (λ x. refl) refl; stops = refl; emits = refl }
 comment_stops StartDash b m d = record { machine = commenting m there.CommentStartDash d; goes = stays; stops = refl; emits = refl }
 comment_stops Comment b m d = record { machine = commenting m there.CommentState d; goes = stays; stops = refl; emits = refl }
 comment_stops LessThan b m d =
-    record { machine = commenting m there.CommentState d; goes = by_entry (commenting m there.CommentLessThanSign d) [] (taking [] (Reconsume there.CommentState) []) refl refl; stops = refl; emits = refl }
+    record { machine = commenting m there.CommentState d; goes = by_entry (commenting m there.CommentLessThanSign d) [] (taking [] (Reconsume there.CommentState) []) (λ x. refl) refl; stops = refl; emits = refl }
 comment_stops LessThanBang b m d =
-    record { machine = commenting m there.CommentState d; goes = by_entry (commenting m there.CommentLessThanSignBang d) [] (taking [] (Reconsume there.CommentState) []) refl refl; stops = refl; emits = refl }
+    record { machine = commenting m there.CommentState d; goes = by_entry (commenting m there.CommentLessThanSignBang d) [] (taking [] (Reconsume there.CommentState) []) (λ x. refl) refl; stops = refl; emits = refl }
 comment_stops LessThanBangDash b m d =
-    record { machine = commenting m there.CommentEndDash d; goes = by_entry (commenting m there.CommentLessThanSignBangDash d) [] (taking [] (Reconsume there.CommentEndDash) []) refl refl; stops = refl; emits = refl }
+    record { machine = commenting m there.CommentEndDash d; goes = by_entry (commenting m there.CommentLessThanSignBangDash d) [] (taking [] (Reconsume there.CommentEndDash) []) (λ x. refl) refl; stops = refl; emits = refl }
 comment_stops LessThanBangDashDash b m d =
-    record { machine = commenting m there.CommentEnd d; goes = by_entry (commenting m there.CommentLessThanSignBangDashDash d) [] (taking [] (Reconsume there.CommentEnd) []) refl refl; stops = refl; emits = refl }
+    record { machine = commenting m there.CommentEnd d; goes = by_entry (commenting m there.CommentLessThanSignBangDashDash d) [] (taking [] (Reconsume there.CommentEnd) []) (λ x. refl) refl; stops = refl; emits = refl }
 comment_stops EndDash b m d = record { machine = commenting m there.CommentEndDash d; goes = stays; stops = refl; emits = refl }
 comment_stops End b m d = record { machine = commenting m there.CommentEnd d; goes = stays; stops = refl; emits = refl }
 comment_stops EndBang b m d = record { machine = commenting m there.CommentEndBang d; goes = stays; stops = refl; emits = refl }
@@ -56,7 +56,7 @@ comment_end old new inner is only m ahead stands =
       characters = [];
       last = [];
       tokens = AComment m.comment ∷ [];
-      goes = subst (λ text. Goes b m text [] stopping.machine []) (sym at.nothing) (subst (λ k. Goes b k [] [] stopping.machine []) at.machine stopping.goes);
+      goes = subst (λ text. Goes m text [] stopping.machine []) (sym at.nothing) (subst (λ k. Goes k [] [] stopping.machine []) at.machine stopping.goes);
       stops = stopping.stops;
       emits = stopping.emits;
       text = ap text_of only ∙ sym (append-nil (text_of old));

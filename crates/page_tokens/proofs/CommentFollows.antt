@@ -74,15 +74,15 @@ ended old other inner c is memory came = record {
   reads = λ m ahead rest stands.
       let at : InComment old inner ahead m = in_comment old inner ahead m is stands in
       let b : Bool = old.in_foreign in
-      let goes : Goes b (commenting m (comment_state_of inner) m.comment) (c ∷ rest) (AComment m.comment ∷ []) (commenting m there.Data m.comment) rest =
+      let goes : Goes (commenting m (comment_state_of inner) m.comment) (c ∷ rest) (AComment m.comment ∷ []) (commenting m there.Data m.comment) rest =
       subst (Comes b inner m m.comment rest c) came (came_comes inner b m m.comment rest c) in
       record {
         machine = commenting m there.Data m.comment;
         ahead' = [];
         characters = [];
         tokens = AComment m.comment ∷ [];
-        goes = subst (λ front. Goes b m (front ++ (c ∷ []) ++ rest) (AComment m.comment ∷ []) (commenting m there.Data m.comment) rest) (sym at.nothing)
-            (subst (λ n. Goes b n (c ∷ rest) (AComment m.comment ∷ []) (commenting m there.Data m.comment) rest) at.machine goes);
+        goes = subst (λ front. Goes m (front ++ (c ∷ []) ++ rest) (AComment m.comment ∷ []) (commenting m there.Data m.comment) rest) (sym at.nothing)
+            (subst (λ n. Goes n (c ∷ rest) (AComment m.comment ∷ []) (commenting m there.Data m.comment) rest) at.machine goes);
         holds = inl (record { reference = stands.reference; state = refl; last_start = stands.last_start; held = refl });
         text = sym (append-nil (text_of old));
         ends = (m.comment, refl, at.comment);
@@ -94,7 +94,7 @@ ended old other inner c is memory came = record {
 -- a machine in a comment that has read this
 went_on : (old other : Tokenizer) (inner next : CommentState) (c : ℕ) (more : List ℕ) → old.state ≡ state.Comment inner → old.refused ≡ false →
     string_bytes other.comment ≡ string_bytes old.comment ++ encode_utf8_all more →
-    ((m : Machine) (rest : List ℕ) → Goes old.in_foreign (commenting m (comment_state_of inner) m.comment) (c ∷ rest) [] (commenting m (comment_state_of next) (m.comment ++ more)) rest) →
+    ((m : Machine) (rest : List ℕ) → Goes (commenting m (comment_state_of inner) m.comment) (c ∷ rest) [] (commenting m (comment_state_of next) (m.comment ++ more)) rest) →
     FollowsStandard old (record old { state = state.Comment next; comment = other.comment; errors = other.errors; refused = other.refused }) (c ∷ []) None
 went_on old other inner next c more is memory bytes steps = record {
   memory = memory;
@@ -108,7 +108,7 @@ went_on old other inner next c more is memory bytes steps = record {
         ahead' = [];
         characters = [];
         tokens = [];
-        goes = subst (λ front. Goes b m (front ++ (c ∷ []) ++ rest) [] n rest) (sym at.nothing) (subst (λ k. Goes b k (c ∷ rest) [] n rest) at.machine (steps m rest));
+        goes = subst (λ front. Goes m (front ++ (c ∷ []) ++ rest) [] n rest) (sym at.nothing) (subst (λ k. Goes k (c ∷ rest) [] n rest) at.machine (steps m rest));
         holds = inl (record {
           reference = stands.reference;
           state = refl;
@@ -139,7 +139,7 @@ ends_follow old mid new inner c told is only remembers comes new_is told_is none
 -- in each other case the comment goes on
 pub goes_on_follow : (old mid new : Tokenizer) (inner next : CommentState) (c : ℕ) (more bytes : List ℕ) (told : Option TokenKind) → old.state ≡ state.Comment inner → OnlyErrors old mid →
     Remembers old mid → CommentGoesOn mid new next bytes → bytes ≡ encode_utf8_all more →
-    ((b : Bool) (m : Machine) (rest : List ℕ) → Goes b (commenting m (comment_state_of inner) m.comment) (c ∷ rest) [] (commenting m (comment_state_of next) (m.comment ++ more)) rest) →
+    ((b : Bool) (m : Machine) (rest : List ℕ) → Goes (commenting m (comment_state_of inner) m.comment) (c ∷ rest) [] (commenting m (comment_state_of next) (m.comment ++ more)) rest) →
     told ≡ None → FollowsStandard old new (c ∷ []) told
 goes_on_follow old mid new inner next c more bytes told is only remembers goes bytes_are steps told_is =
     let made : Tokenizer = record old { state = state.Comment next; comment = new.comment; errors = new.errors; refused = new.refused } in
@@ -177,7 +177,7 @@ again_follows old mid new inner c text told is only remembers came goes told_is 
     (ap (λ e. e ++ encode_utf8_all (added_again c)) (sym ascii) ∙ sym (encodes-append text (added_again c)))
     (λ b m rest.
     let front : Comes b inner m m.comment rest c (Resumes text) = subst (Comes b inner m m.comment rest c) (sym came) (came_comes inner b m m.comment rest c) in
-    subst (λ e. Goes b (commenting m (comment_state_of inner) m.comment) (c ∷ rest) [] (commenting m (comment_state_of (state_again c)) e) rest)
+    subst (λ e. Goes (commenting m (comment_state_of inner) m.comment) (c ∷ rest) [] (commenting m (comment_state_of (state_again c)) e) rest)
     (append_assoc m.comment text (added_again c)) (then_on front (again b m (m.comment ++ text) rest c))) told_is
 
 -- ---- the same of a call's result

@@ -8,7 +8,7 @@ use Rattle.std.proofs.lemmas.Bool.{eqb-true, eqb-false}
 use Rattle.std.proofs.lemmas.List.{append-nil, append_assoc}
 use mathlib.Core.Path.{◌∙◌, sym, ap, subst}
 use Rattle.standard_tokens.specs.Entries.{NewComment, Add, Comment as TheComment, Current, Stay, Switch, Reconsume}
-use Rattle.standard_tokens.specs.Machine.{Machine, at_state, same_case_less, taken}
+use Rattle.standard_tokens.specs.Machine.{Machine, Taken, all_emitted, at_state, same_case_less, step, step_by, stops, taken}
 use Rattle.standard_tokens.specs.States as there
 use Rattle.standard_tokens.specs.Table.{entries}
 use Rattle.page_tokens.specs.Declarations.{letter_is, declared_of}
@@ -68,20 +68,39 @@ itself_taken : (b : Bool) (m : Machine) (c : ℕ) (text : List ℕ) → Itself c
 unfolding taken entries
 itself_taken b m c text is = rw (is.no_end, is.no_null) refl
 
-pub bogus_run : (b : Bool) (m : Machine) (d front rest : List ℕ) → AllThemselves front → Goes b (commenting m there.BogusComment d) (front ++ rest) [] (commenting m there.BogusComment (d ++ front)) rest
-bogus_run b m d [] rest all = subst (λ e. Goes b (commenting m there.BogusComment d) rest [] (commenting m there.BogusComment e) rest) (sym (append-nil d)) stays
+pub bogus_run : (b : Bool) (m : Machine) (d front rest : List ℕ) → AllThemselves front → Goes (commenting m there.BogusComment d) (front ++ rest) [] (commenting m there.BogusComment (d ++ front)) rest
+bogus_run b m d [] rest all = subst (λ e. Goes (commenting m there.BogusComment d) rest [] (commenting m there.BogusComment e) rest) (sym (append-nil d)) stays
 bogus_run b m d (c ∷ front) rest all =
     let M : Machine = commenting m there.BogusComment d in
-    let one : Goes b M (c ∷ (front ++ rest)) [] (commenting m there.BogusComment (d ++ c ∷ [])) (front ++ rest) =
-    by_entry M (c ∷ (front ++ rest)) (taking (Add TheComment Current ∷ []) Stay (c ∷ [])) (itself_taken b M c (front ++ rest) all.0) refl in
-    subst (λ e. Goes b M (c ∷ (front ++ rest)) [] (commenting m there.BogusComment e) rest) (append_assoc d (c ∷ []) front) (then_on one (bogus_run b m (d ++ c ∷ []) front rest all.1))
+    let one : Goes M (c ∷ (front ++ rest)) [] (commenting m there.BogusComment (d ++ c ∷ [])) (front ++ rest) =
+    by_entry M (c ∷ (front ++ rest)) (taking (Add TheComment Current ∷ []) Stay (c ∷ [])) (λ x. itself_taken x M c (front ++ rest) all.0) refl in
+    subst (λ e. Goes M (c ∷ (front ++ rest)) [] (commenting m there.BogusComment e) rest) (append_assoc d (c ∷ []) front) (then_on one (bogus_run b m (d ++ c ∷ []) front rest all.1))
 
 -- nothing else begins, and what was read is a bogus comment
 bogus : (b : Bool) (m : Machine) (ahead rest : List ℕ) (c : ℕ) → dashes (ahead ++ c ∷ rest) ≡ false → doctypes (ahead ++ c ∷ rest) ≡ false → cdatas (ahead ++ c ∷ rest) ≡ false → AllThemselves ahead →
-    Goes b (opening m) (ahead ++ c ∷ rest) [] (commenting m there.BogusComment ahead) (c ∷ rest)
+    Goes (opening m) (ahead ++ c ∷ rest) [] (commenting m there.BogusComment ahead) (c ∷ rest)
 bogus b m ahead rest c one two three all =
     let text : List ℕ = ahead ++ c ∷ rest in
-    then_on (by_entry (opening m) text (taking (NewComment ∷ []) (Reconsume there.BogusComment) (take 1 text)) (bogus_taken b (opening m) text one two three) refl) (bogus_run b m [] ahead (c ∷ rest) all)
+    then_on (by_entry (opening m) text (taking (NewComment ∷ []) (Reconsume there.BogusComment) (take 1 text)) (λ x. bogus_taken x (opening m) text one two three) refl) (bogus_run b m [] ahead (c ∷ rest) all)
+
+-- ---- the step for which it is asked whether this is foreign content
+
+-- where one step leads that emits nothing
+pub record StepsTo (b : Bool) (m : Machine) (text : List ℕ) (n : Machine) (rest : List ℕ) : Type 0 where
+  pub runs : (step b m text).stopped ≡ false
+  pub tokens : (step b m text).tokens ≡ []
+  pub machine : (step b m text).machine ≡ n
+  pub rest_is : (step b m text).rest ≡ rest
+
+asked_entry : (b : Bool) (m : Machine) (text : List ℕ) (t : Taken) → taken b m text (entries m.state) ≡ t → stops t.goes ≡ false → all_emitted t.current t.acts m ≡ [] →
+    StepsTo b m text (step_by m text t).machine (step_by m text t).rest
+unfolding step
+asked_entry b m text t is runs silent = record {
+  runs = ap (λ (k : Taken). stops k.goes) is ∙ runs;
+  tokens = ap (λ (k : Taken). all_emitted k.current k.acts m) is ∙ silent;
+  machine = ap (λ (k : Taken). (step_by m text k).machine) is;
+  rest_is = ap (λ (k : Taken). (step_by m text k).rest) is;
+}
 
 -- ---- what each state comes to
 
@@ -91,10 +110,10 @@ behind_cdata false m front = commenting m there.BogusComment front
 
 abbrev pub Declares : Bool → Machine → List ℕ → List ℕ → ℕ → Declared → Type 0
 Declares b m ahead rest c (it.More next) = IsSeen next (ahead ++ c ∷ [])
-Declares b m ahead rest c it.Comment = Goes b (opening m) (ahead ++ c ∷ rest) [] (commenting m there.CommentStart []) rest
-Declares b m ahead rest c it.Bogus = Goes b (opening m) (ahead ++ c ∷ rest) [] (commenting m there.BogusComment ahead) (c ∷ rest)
-Declares b m ahead rest c it.Doctype = Goes b (opening m) (ahead ++ c ∷ rest) [] (at_state m there.DOCTYPEState) rest
-Declares b m ahead rest c it.Cdata = Goes b (opening m) (ahead ++ c ∷ rest) [] (behind_cdata b m (ahead ++ c ∷ [])) rest
+Declares b m ahead rest c it.Comment = Goes (opening m) (ahead ++ c ∷ rest) [] (commenting m there.CommentStart []) rest
+Declares b m ahead rest c it.Bogus = Goes (opening m) (ahead ++ c ∷ rest) [] (commenting m there.BogusComment ahead) (c ∷ rest)
+Declares b m ahead rest c it.Doctype = Goes (opening m) (ahead ++ c ∷ rest) [] (at_state m there.DOCTYPEState) rest
+Declares b m ahead rest c it.Cdata = StepsTo b (opening m) (ahead ++ c ∷ rest) (behind_cdata b m (ahead ++ c ∷ [])) rest
 
 -- nothing was seen
 no_d : (c : ℕ) → (100 == c) ≡ false → (68 == c) ≡ false → (100 == to_ascii_lowercase c) ≡ false
@@ -116,7 +135,7 @@ dash : (b : Bool) (m : Machine) (rest : List ℕ) (c : ℕ) → Declares b m (co
 unfolding taken entries
 dash b m rest c =
     by_test (Declares b m (codes "-") rest) c 45 it.Comment it.Bogus
-    (by_entry (opening m) (45 ∷ 45 ∷ rest) (taking (NewComment ∷ []) (Switch there.CommentStart) (45 ∷ 45 ∷ [])) refl refl)
+    (by_entry (opening m) (45 ∷ 45 ∷ rest) (taking (NewComment ∷ []) (Switch there.CommentStart) (45 ∷ 45 ∷ [])) (λ x. refl) refl)
     (λ h45. bogus b m (codes "-") rest c (rw h45 refl) refl refl (record { no_end = refl; no_null = refl }, tt))
 
 -- ---- words
@@ -164,13 +183,13 @@ not_six n other low = omega (arith, other, low)
 in_doctype : (b : Bool) (m : Machine) (ahead rest : List ℕ) (n c : ℕ) → IsSeen (seen.Doctype n) ahead → Declares b m ahead rest c (declared_of (seen.Doctype n) c)
 in_doctype b m ahead rest n c is = go (letter_is (codes "doctype") n (to_ascii_lowercase c)) refl
   where
-    whole : (m : Machine) (front rest : List ℕ) → map to_ascii_lowercase front ≡ codes "doctype" → dashes (front ++ rest) ≡ false → Goes b (opening m) (front ++ rest) [] (at_state m there.DOCTYPEState) rest
+    whole : (m : Machine) (front rest : List ℕ) → map to_ascii_lowercase front ≡ codes "doctype" → dashes (front ++ rest) ≡ false → Goes (opening m) (front ++ rest) [] (at_state m there.DOCTYPEState) rest
     whole m front rest same one =
         let text : List ℕ = front ++ rest in
         let cut : take 7 text ≡ front = taken_word to_ascii_lowercase (codes "DOCTYPE") front rest same in
-        subst (λ t. Goes b (opening m) text [] (at_state m there.DOCTYPEState) t) (drop-append_seam front rest)
+        subst (λ t. Goes (opening m) text [] (at_state m there.DOCTYPEState) t) (drop-append_seam front rest)
         (by_entry (opening m) text (taking [] (Switch there.DOCTYPEState) front)
-        (doctype_taken b (opening m) text one (begins to_ascii_lowercase (codes "DOCTYPE") front rest same) ∙ ap (taking [] (Switch there.DOCTYPEState)) cut) refl)
+        (λ x. doctype_taken x (opening m) text one (begins to_ascii_lowercase (codes "DOCTYPE") front rest same) ∙ ap (taking [] (Switch there.DOCTYPEState)) cut) refl)
 
     longer : letter_is (codes "doctype") n (to_ascii_lowercase c) ≡ true → map to_ascii_lowercase (ahead ++ c ∷ []) ≡ take (suc n) (codes "doctype")
     longer h = map_snoc to_ascii_lowercase ahead c ∙ ap (λ t. t ++ to_ascii_lowercase c ∷ []) is.2 ∙ sym (extends (codes "doctype") n (to_ascii_lowercase c) h)
@@ -180,7 +199,7 @@ in_doctype b m ahead rest n c is = go (letter_is (codes "doctype") n (to_ascii_l
         let n_is : n ≡ 6 = eqb-true n 6 six in
         let same : map to_ascii_lowercase (ahead ++ c ∷ []) ≡ codes "doctype" = longer h ∙ ap (λ k. take (suc k) (codes "doctype")) n_is in
         let joined : (ahead ++ c ∷ []) ++ rest ≡ ahead ++ c ∷ rest = append_assoc ahead (c ∷ []) rest in
-        subst (λ t. Goes b (opening m) t [] (at_state m there.DOCTYPEState) rest) joined
+        subst (λ t. Goes (opening m) t [] (at_state m there.DOCTYPEState) rest) joined
         (whole m (ahead ++ c ∷ []) rest same (ap dashes joined ∙ (d_first ahead n is.0 is.2 c rest).0))
     at h false no_six =
         let e : suc n ≡ n + 1 = omega arith in
@@ -216,21 +235,21 @@ bracket_first (suc n) some c rest = (refl, refl)
 in_cdata_word : (b : Bool) (m : Machine) (rest : List ℕ) (n c : ℕ) → 0 < n → n < 7 → Declares b m (take n (codes "[CDATA[")) rest c (declared_of (seen.Cdata n) c)
 in_cdata_word b m rest n c some low = go (letter_is (codes "[CDATA[") n c) refl
   where
-    behind : (b : Bool) (m : Machine) (front rest : List ℕ) → front ≡ codes "[CDATA[" → dashes (front ++ rest) ≡ false → doctypes (front ++ rest) ≡ false → Goes b (opening m) (front ++ rest) [] (behind_cdata b m front) rest
+    behind : (b : Bool) (m : Machine) (front rest : List ℕ) → front ≡ codes "[CDATA[" → dashes (front ++ rest) ≡ false → doctypes (front ++ rest) ≡ false → StepsTo b (opening m) (front ++ rest) (behind_cdata b m front) rest
     behind true m front rest is one two =
         let text : List ℕ = front ++ rest in
         let e : map same front ≡ codes "[CDATA[" = map_same front ∙ is in
         let cut : take 7 text ≡ front = taken_word same (codes "[CDATA[") front rest e in
-        subst (λ t. Goes true (opening m) text [] (at_state m there.CDATASection) t) (drop-append_seam front rest)
-        (by_entry (opening m) text (taking [] (Switch there.CDATASection) front)
-        (cdata_taken (opening m) text one two (begins same (codes "[CDATA[") front rest e) ∙ ap (taking [] (Switch there.CDATASection)) cut) refl)
+        subst (λ t. StepsTo true (opening m) text (at_state m there.CDATASection) t) (drop-append_seam front rest)
+        (asked_entry true (opening m) text (taking [] (Switch there.CDATASection) front)
+        (cdata_taken (opening m) text one two (begins same (codes "[CDATA[") front rest e) ∙ ap (taking [] (Switch there.CDATASection)) cut) refl refl)
     behind false m front rest is one two =
         let text : List ℕ = front ++ rest in
         let e : map same front ≡ codes "[CDATA[" = map_same front ∙ is in
         let cut : take 7 text ≡ front = taken_word same (codes "[CDATA[") front rest e in
-        subst (λ t. Goes false (opening m) text [] (commenting m there.BogusComment front) t) (drop-append_seam front rest)
-        (by_entry (opening m) text (taking (NewComment ∷ Add TheComment Current ∷ []) (Switch there.BogusComment) front)
-        (no_cdata_taken (opening m) text one two (begins same (codes "[CDATA[") front rest e) ∙ ap (taking (NewComment ∷ Add TheComment Current ∷ []) (Switch there.BogusComment)) cut) refl)
+        subst (λ t. StepsTo false (opening m) text (commenting m there.BogusComment front) t) (drop-append_seam front rest)
+        (asked_entry false (opening m) text (taking (NewComment ∷ Add TheComment Current ∷ []) (Switch there.BogusComment) front)
+        (no_cdata_taken (opening m) text one two (begins same (codes "[CDATA[") front rest e) ∙ ap (taking (NewComment ∷ Add TheComment Current ∷ []) (Switch there.BogusComment)) cut) refl refl)
 
     at : letter_is (codes "[CDATA[") n c ≡ true → (x : Bool) → (n == 6) ≡ x → Declares b m (take n (codes "[CDATA[")) rest c (cond x it.Cdata (it.More (seen.Cdata (n + 1))))
     at h true six =
@@ -238,7 +257,7 @@ in_cdata_word b m rest n c some low = go (letter_is (codes "[CDATA[") n c) refl
         let n_is : n ≡ 6 = eqb-true n 6 six in
         let is : ahead ++ c ∷ [] ≡ codes "[CDATA[" = sym (extends (codes "[CDATA[") n c h) ∙ ap (λ k. take (suc k) (codes "[CDATA[")) n_is in
         let joined : (ahead ++ c ∷ []) ++ rest ≡ ahead ++ c ∷ rest = append_assoc ahead (c ∷ []) rest in
-        subst (λ t. Goes b (opening m) t [] (behind_cdata b m (ahead ++ c ∷ [])) rest) joined
+        subst (λ t. StepsTo b (opening m) t (behind_cdata b m (ahead ++ c ∷ [])) rest) joined
         (behind b m (ahead ++ c ∷ []) rest is (ap dashes joined ∙ (bracket_first n some c rest).0) (ap doctypes joined ∙ (bracket_first n some c rest).1))
     at h false no_six =
         let e : suc n ≡ n + 1 = omega arith in

@@ -76,7 +76,7 @@ is_broken false one other is = is
 -- the doctype at which the machine arrives
 record Arrives (b : Bool) (new : Tokenizer) (next : DoctypeState) (m : Machine) (text rest : List ℕ) : Type 0 where
   pub doctype : StandardDoctype
-  pub goes : Goes b m text [] (holding m (doctype_state_of next) doctype) rest
+  pub goes : Goes m text [] (holding m (doctype_state_of next) doctype) rest
   pub held : DoctypeHeld next new [] (holding m (doctype_state_of next) doctype)
 
 went_on : (old new : Tokenizer) (inner next : DoctypeState) (c : ℕ) (told : Option TokenKind) → old.state ≡ state.Doctype inner → old.refused ≡ false →
@@ -92,8 +92,8 @@ went_on old new inner next c told is memory only told_is arrives =
     let new_state : new.state ≡ state.Doctype next = ap (λ t. t.state) only in
     record {
       machine = n;
-      goes = subst (λ text. Goes b m text [] n rest) (sym (append_assoc ahead (c ∷ []) rest))
-          (subst (λ k. Goes b k (ahead ++ c ∷ rest) [] n rest) (in_its_state m (doctype_state_of inner) (stands.state ∙ ap state_of is)) to.goes);
+      goes = subst (λ text. Goes m text [] n rest) (sym (append_assoc ahead (c ∷ []) rest))
+          (subst (λ k. Goes k (ahead ++ c ∷ rest) [] n rest) (in_its_state m (doctype_state_of inner) (stands.state ∙ ap state_of is)) to.goes);
       stands = record {
         reference = ap (λ t. t.reference) only ∙ stands.reference;
         state = ap state_of (sym new_state);
@@ -189,14 +189,14 @@ ends_arm old mid new inner breaks c (Ok told) is only remembers came new_is told
           let b : Bool = old.in_foreign in
           let one : StandardDoctype = broken_there breaks (made_at inner m.doctype) in
           let n : Machine = holding m there.Data one in
-          let steps : Goes b (at inner m) (ahead ++ c ∷ rest) (ADoctype one ∷ []) n rest = subst (Comes b inner m ahead rest c) (sym came) (comes inner b m ahead rest c (is_ahead inner old ahead m held)) in
+          let steps : Goes (at inner m) (ahead ++ c ∷ rest) (ADoctype one ∷ []) n rest = subst (Comes b inner m ahead rest c) (sym came) (comes inner b m ahead rest c (is_ahead inner old ahead m held)) in
           record {
             machine = n;
             ahead' = [];
             characters = [];
             tokens = ADoctype one ∷ [];
-            goes = subst (λ text. Goes b m text (ADoctype one ∷ []) n rest) (sym (append_assoc ahead (c ∷ []) rest))
-                (subst (λ k. Goes b k (ahead ++ c ∷ rest) (ADoctype one ∷ []) n rest) (in_its_state m (doctype_state_of inner) (stands.state ∙ ap state_of is)) steps);
+            goes = subst (λ text. Goes m text (ADoctype one ∷ []) n rest) (sym (append_assoc ahead (c ∷ []) rest))
+                (subst (λ k. Goes k (ahead ++ c ∷ rest) (ADoctype one ∷ []) n rest) (in_its_state m (doctype_state_of inner) (stands.state ∙ ap state_of is)) steps);
             holds = inl (record { reference = stands.reference; state = refl; last_start = stands.last_start; held = refl });
             text = sym (append-nil (text_of old));
             ends = (one, refl, is_broken breaks old.doctype (made_at inner m.doctype) (is_made inner old ahead m held));

@@ -75,21 +75,21 @@ IsMadeIn inner = (t : Tokenizer) (m : Machine) → IsDoctype t.doctype m.doctype
 
 -- what a character comes to, behind what was read ahead
 abbrev pub Comes : Bool → DoctypeState → Machine → List ℕ → List ℕ → ℕ → DoctypeStep → Type 0
-Comes b inner m ahead rest c (its.Then next) = Goes b (at inner m) (ahead ++ c ∷ rest) [] (at next m) rest × Passes inner next
+Comes b inner m ahead rest c (its.Then next) = Goes (at inner m) (ahead ++ c ∷ rest) [] (at next m) rest × Passes inner next
 Comes b inner m ahead rest c its.NameBegins =
-    Goes b (at inner m) (ahead ++ c ∷ rest) [] (holding m there.DOCTYPEName (record no_doctype { name = Some (shown_of (to_ascii_lowercase c) ∷ []) })) rest
+    Goes (at inner m) (ahead ++ c ∷ rest) [] (holding m there.DOCTYPEName (record no_doctype { name = Some (shown_of (to_ascii_lowercase c) ∷ []) })) rest
     × ((one : StandardDoctype) → made_at inner one ≡ no_doctype)
 Comes b inner m ahead rest c its.NameLetter =
-    Goes b (at inner m) (ahead ++ c ∷ rest) [] (holding m (doctype_state_of inner) (record (made_at inner m.doctype) { name = with_more (made_at inner m.doctype).name (shown_of (to_ascii_lowercase c) ∷ []) })) rest
+    Goes (at inner m) (ahead ++ c ∷ rest) [] (holding m (doctype_state_of inner) (record (made_at inner m.doctype) { name = with_more (made_at inner m.doctype).name (shown_of (to_ascii_lowercase c) ∷ []) })) rest
     × IsMadeIn inner
-Comes b inner m ahead rest c (its.IdBegins which mark) = Goes b (at inner m) (ahead ++ c ∷ rest) [] (holding m (doctype_state_of (doctype.Quoted which mark)) (with_id which (Some []) (made_at inner m.doctype))) rest
+Comes b inner m ahead rest c (its.IdBegins which mark) = Goes (at inner m) (ahead ++ c ∷ rest) [] (holding m (doctype_state_of (doctype.Quoted which mark)) (with_id which (Some []) (made_at inner m.doctype))) rest
 Comes b inner m ahead rest c (its.IdLetter which) =
-    Goes b (at inner m) (ahead ++ c ∷ rest) [] (holding m (doctype_state_of inner) (with_id which (with_more (id_of which (made_at inner m.doctype)) (shown_of c ∷ [])) (made_at inner m.doctype))) rest
+    Goes (at inner m) (ahead ++ c ∷ rest) [] (holding m (doctype_state_of inner) (with_id which (with_more (id_of which (made_at inner m.doctype)) (shown_of c ∷ [])) (made_at inner m.doctype))) rest
     × IsMadeIn inner
 Comes b inner m ahead rest c (its.Letter which n) = (doctype_state_of inner ≡ there.AfterDOCTYPEName) × ((one : StandardDoctype) → made_at inner one ≡ one) × IsKeyword which n (ahead ++ c ∷ [])
 Comes b inner m ahead rest c (its.Ends breaks) =
-    Goes b (at inner m) (ahead ++ c ∷ rest) (ADoctype (broken_there breaks (made_at inner m.doctype)) ∷ []) (holding m there.Data (broken_there breaks (made_at inner m.doctype))) rest
-Comes b inner m ahead rest c (its.Malformed breaks) = Goes b (at inner m) (ahead ++ c ∷ rest) [] (holding m there.BogusDOCTYPE (broken_there breaks (made_at inner m.doctype))) rest
+    Goes (at inner m) (ahead ++ c ∷ rest) (ADoctype (broken_there breaks (made_at inner m.doctype)) ∷ []) (holding m there.Data (broken_there breaks (made_at inner m.doctype))) rest
+Comes b inner m ahead rest c (its.Malformed breaks) = Goes (at inner m) (ahead ++ c ∷ rest) [] (holding m there.BogusDOCTYPE (broken_there breaks (made_at inner m.doctype))) rest
 
 -- ---- white space
 
@@ -127,12 +127,12 @@ spaced_over inner next b m rest c other over passes otherwise =
 
 -- ---- the rest of a malformed doctype
 
-bogus : (b : Bool) (m : Machine) (rest : List ℕ) (c : ℕ) (one : StandardDoctype) → (62 == c) ≡ false → Goes b (holding m there.BogusDOCTYPE one) (c ∷ rest) [] (holding m there.BogusDOCTYPE one) rest
+bogus : (b : Bool) (m : Machine) (rest : List ℕ) (c : ℕ) (one : StandardDoctype) → (62 == c) ≡ false → Goes (holding m there.BogusDOCTYPE one) (c ∷ rest) [] (holding m there.BogusDOCTYPE one) rest
 unfolding taken entries
 bogus b m rest c one h62 =
-    by_bool (λ e _. Goes b (holding m there.BogusDOCTYPE one) (e ∷ rest) [] (holding m there.BogusDOCTYPE one) rest) c 0
-    (by_entry (holding m there.BogusDOCTYPE one) (0 ∷ rest) (taking [] Stay (0 ∷ [])) refl refl)
-    (λ h0. by_entry (holding m there.BogusDOCTYPE one) (c ∷ rest) (taking [] Stay (c ∷ [])) (rw (h62, h0) refl) refl)
+    by_bool (λ e _. Goes (holding m there.BogusDOCTYPE one) (e ∷ rest) [] (holding m there.BogusDOCTYPE one) rest) c 0
+    (by_entry (holding m there.BogusDOCTYPE one) (0 ∷ rest) (taking [] Stay (0 ∷ [])) (λ x. refl) refl)
+    (λ h0. by_entry (holding m there.BogusDOCTYPE one) (c ∷ rest) (taking [] Stay (c ∷ [])) (λ x. rw (h62, h0) refl) refl)
 
 -- ---- letters in lower case
 
@@ -145,31 +145,31 @@ shown_lower c h = ap (λ x. cond x 0xfffd (to_ascii_lowercase c)) (lower_some c 
 upper_some : (c : ℕ) → is_upper c ≡ true → (0 == c) ≡ false
 upper_some c h = grind arith
 
-name_begins : (b : Bool) (m : Machine) (rest : List ℕ) (c : ℕ) → NoSpace c → (62 == c) ≡ false → Goes b (at doctype.BeforeName m) (c ∷ rest) [] (holding m there.DOCTYPEName (record no_doctype { name = Some (shown_of (to_ascii_lowercase c) ∷ []) })) rest
+name_begins : (b : Bool) (m : Machine) (rest : List ℕ) (c : ℕ) → NoSpace c → (62 == c) ≡ false → Goes (at doctype.BeforeName m) (c ∷ rest) [] (holding m there.DOCTYPEName (record no_doctype { name = Some (shown_of (to_ascii_lowercase c) ∷ []) })) rest
 unfolding taken entries
 name_begins b m rest c s h62 =
-    by_bool (λ e _. Goes b (at doctype.BeforeName m) (e ∷ rest) [] (holding m there.DOCTYPEName (record no_doctype { name = Some (shown_of (to_ascii_lowercase e) ∷ []) })) rest) c 0
-    (by_entry (at doctype.BeforeName m) (0 ∷ rest) (taking (NewDoctype ∷ Add DoctypeName replacement ∷ []) (Switch there.DOCTYPEName) (0 ∷ [])) refl refl)
-    (λ h0. subst (λ d. Goes b (at doctype.BeforeName m) (c ∷ rest) [] (holding m there.DOCTYPEName (record no_doctype { name = Some (d ∷ []) })) rest) (sym (shown_lower c h0)) (go h0 (is_upper c) refl))
+    by_bool (λ e _. Goes (at doctype.BeforeName m) (e ∷ rest) [] (holding m there.DOCTYPEName (record no_doctype { name = Some (shown_of (to_ascii_lowercase e) ∷ []) })) rest) c 0
+    (by_entry (at doctype.BeforeName m) (0 ∷ rest) (taking (NewDoctype ∷ Add DoctypeName replacement ∷ []) (Switch there.DOCTYPEName) (0 ∷ [])) (λ x. refl) refl)
+    (λ h0. subst (λ d. Goes (at doctype.BeforeName m) (c ∷ rest) [] (holding m there.DOCTYPEName (record no_doctype { name = Some (d ∷ []) })) rest) (sym (shown_lower c h0)) (go h0 (is_upper c) refl))
   where
-    go : (0 == c) ≡ false → (x : Bool) → is_upper c ≡ x → Goes b (at doctype.BeforeName m) (c ∷ rest) [] (holding m there.DOCTYPEName (record no_doctype { name = Some (to_ascii_lowercase c ∷ []) })) rest
-    go h0 true e = by_entry (at doctype.BeforeName m) (c ∷ rest) (taking (NewDoctype ∷ Add DoctypeName Lower ∷ []) (Switch there.DOCTYPEName) (c ∷ [])) (rw (s.tab, s.line_feed, s.form_feed, s.space, h62, e) refl) refl
+    go : (0 == c) ≡ false → (x : Bool) → is_upper c ≡ x → Goes (at doctype.BeforeName m) (c ∷ rest) [] (holding m there.DOCTYPEName (record no_doctype { name = Some (to_ascii_lowercase c ∷ []) })) rest
+    go h0 true e = by_entry (at doctype.BeforeName m) (c ∷ rest) (taking (NewDoctype ∷ Add DoctypeName Lower ∷ []) (Switch there.DOCTYPEName) (c ∷ [])) (λ x. rw (s.tab, s.line_feed, s.form_feed, s.space, h62, e) refl) refl
     go h0 false e =
-        subst (λ d. Goes b (at doctype.BeforeName m) (c ∷ rest) [] (holding m there.DOCTYPEName (record no_doctype { name = Some (d ∷ []) })) rest) (sym (stays_lower c e))
-        (by_entry (at doctype.BeforeName m) (c ∷ rest) (taking (NewDoctype ∷ Add DoctypeName Current ∷ []) (Switch there.DOCTYPEName) (c ∷ [])) (rw (s.tab, s.line_feed, s.form_feed, s.space, h62, e, h0) refl) refl)
+        subst (λ d. Goes (at doctype.BeforeName m) (c ∷ rest) [] (holding m there.DOCTYPEName (record no_doctype { name = Some (d ∷ []) })) rest) (sym (stays_lower c e))
+        (by_entry (at doctype.BeforeName m) (c ∷ rest) (taking (NewDoctype ∷ Add DoctypeName Current ∷ []) (Switch there.DOCTYPEName) (c ∷ [])) (λ x. rw (s.tab, s.line_feed, s.form_feed, s.space, h62, e, h0) refl) refl)
 
-name_letter : (b : Bool) (m : Machine) (rest : List ℕ) (c : ℕ) → NoSpace c → (62 == c) ≡ false → Goes b (at doctype.Name m) (c ∷ rest) [] (holding m there.DOCTYPEName (record m.doctype { name = with_more m.doctype.name (shown_of (to_ascii_lowercase c) ∷ []) })) rest
+name_letter : (b : Bool) (m : Machine) (rest : List ℕ) (c : ℕ) → NoSpace c → (62 == c) ≡ false → Goes (at doctype.Name m) (c ∷ rest) [] (holding m there.DOCTYPEName (record m.doctype { name = with_more m.doctype.name (shown_of (to_ascii_lowercase c) ∷ []) })) rest
 unfolding taken entries
 name_letter b m rest c s h62 =
-    by_bool (λ e _. Goes b (at doctype.Name m) (e ∷ rest) [] (holding m there.DOCTYPEName (record m.doctype { name = with_more m.doctype.name (shown_of (to_ascii_lowercase e) ∷ []) })) rest) c 0
-    (by_entry (at doctype.Name m) (0 ∷ rest) (taking (Add DoctypeName replacement ∷ []) (Stay) (0 ∷ [])) refl refl)
-    (λ h0. subst (λ d. Goes b (at doctype.Name m) (c ∷ rest) [] (holding m there.DOCTYPEName (record m.doctype { name = with_more m.doctype.name (d ∷ []) })) rest) (sym (shown_lower c h0)) (go h0 (is_upper c) refl))
+    by_bool (λ e _. Goes (at doctype.Name m) (e ∷ rest) [] (holding m there.DOCTYPEName (record m.doctype { name = with_more m.doctype.name (shown_of (to_ascii_lowercase e) ∷ []) })) rest) c 0
+    (by_entry (at doctype.Name m) (0 ∷ rest) (taking (Add DoctypeName replacement ∷ []) (Stay) (0 ∷ [])) (λ x. refl) refl)
+    (λ h0. subst (λ d. Goes (at doctype.Name m) (c ∷ rest) [] (holding m there.DOCTYPEName (record m.doctype { name = with_more m.doctype.name (d ∷ []) })) rest) (sym (shown_lower c h0)) (go h0 (is_upper c) refl))
   where
-    go : (0 == c) ≡ false → (x : Bool) → is_upper c ≡ x → Goes b (at doctype.Name m) (c ∷ rest) [] (holding m there.DOCTYPEName (record m.doctype { name = with_more m.doctype.name (to_ascii_lowercase c ∷ []) })) rest
-    go h0 true e = by_entry (at doctype.Name m) (c ∷ rest) (taking (Add DoctypeName Lower ∷ []) (Stay) (c ∷ [])) (rw (s.tab, s.line_feed, s.form_feed, s.space, h62, e) refl) refl
+    go : (0 == c) ≡ false → (x : Bool) → is_upper c ≡ x → Goes (at doctype.Name m) (c ∷ rest) [] (holding m there.DOCTYPEName (record m.doctype { name = with_more m.doctype.name (to_ascii_lowercase c ∷ []) })) rest
+    go h0 true e = by_entry (at doctype.Name m) (c ∷ rest) (taking (Add DoctypeName Lower ∷ []) (Stay) (c ∷ [])) (λ x. rw (s.tab, s.line_feed, s.form_feed, s.space, h62, e) refl) refl
     go h0 false e =
-        subst (λ d. Goes b (at doctype.Name m) (c ∷ rest) [] (holding m there.DOCTYPEName (record m.doctype { name = with_more m.doctype.name (d ∷ []) })) rest) (sym (stays_lower c e))
-        (by_entry (at doctype.Name m) (c ∷ rest) (taking (Add DoctypeName Current ∷ []) (Stay) (c ∷ [])) (rw (s.tab, s.line_feed, s.form_feed, s.space, h62, e, h0) refl) refl)
+        subst (λ d. Goes (at doctype.Name m) (c ∷ rest) [] (holding m there.DOCTYPEName (record m.doctype { name = with_more m.doctype.name (d ∷ []) })) rest) (sym (stays_lower c e))
+        (by_entry (at doctype.Name m) (c ∷ rest) (taking (Add DoctypeName Current ∷ []) (Stay) (c ∷ [])) (λ x. rw (s.tab, s.line_feed, s.form_feed, s.space, h62, e, h0) refl) refl)
 
 before_name : (b : Bool) (m : Machine) (rest : List ℕ) (c : ℕ) → Comes b doctype.BeforeName m [] rest c (doctype_step_of doctype.BeforeName c)
 unfolding taken entries
@@ -177,7 +177,7 @@ before_name b m rest c =
     spaced_over doctype.BeforeName doctype.BeforeName b m rest c (ends_or_of true c its.NameBegins)
     (spaces_stay (doctype_state_of doctype.BeforeName) (λ b m rest. refl) (λ b m rest. refl) (λ b m rest. refl) (λ b m rest. refl)) (λ t ahead m held. (refl, held.1))
     (λ s. by_test (λ d k. Comes b doctype.BeforeName m [] rest d k) c 62 (its.Ends true) its.NameBegins
-    (by_entry (at doctype.BeforeName m) (62 ∷ rest) (taking (NewDoctype ∷ ForceQuirks ∷ EmitDoctype ∷ []) (Switch there.Data) (62 ∷ [])) refl refl)
+    (by_entry (at doctype.BeforeName m) (62 ∷ rest) (taking (NewDoctype ∷ ForceQuirks ∷ EmitDoctype ∷ []) (Switch there.Data) (62 ∷ [])) (λ x. refl) refl)
     (λ h62. (name_begins b m rest c s h62, (λ one. refl))))
 
 at_begin : (b : Bool) (m : Machine) (rest : List ℕ) (c : ℕ) → Comes b doctype.Begin m [] rest c (doctype_step_of doctype.Begin c)
@@ -186,8 +186,8 @@ at_begin b m rest c =
     spaced_over doctype.Begin doctype.BeforeName b m rest c (ends_or_of true c its.NameBegins)
     (spaces_switch (doctype_state_of doctype.Begin) (doctype_state_of doctype.BeforeName) (λ b m rest. refl) (λ b m rest. refl) (λ b m rest. refl) (λ b m rest. refl)) (λ t ahead m held. (refl, held.1))
     (λ s. by_test (λ d k. Comes b doctype.Begin m [] rest d k) c 62 (its.Ends true) its.NameBegins
-    (then_on (by_entry (at doctype.Begin m) (62 ∷ rest) (taking ([]) (Reconsume there.BeforeDOCTYPEName) (62 ∷ [])) refl refl) (by_entry (at doctype.BeforeName m) (62 ∷ rest) (taking (NewDoctype ∷ ForceQuirks ∷ EmitDoctype ∷ []) (Switch there.Data) (62 ∷ [])) refl refl))
-    (λ h62. (then_on (by_entry (at doctype.Begin m) (c ∷ rest) (taking ([]) (Reconsume there.BeforeDOCTYPEName) (c ∷ [])) (rw (s.tab, s.line_feed, s.form_feed, s.space, h62) refl) refl) (name_begins b m rest c s h62), (λ one. refl))))
+    (then_on (by_entry (at doctype.Begin m) (62 ∷ rest) (taking ([]) (Reconsume there.BeforeDOCTYPEName) (62 ∷ [])) (λ x. refl) refl) (by_entry (at doctype.BeforeName m) (62 ∷ rest) (taking (NewDoctype ∷ ForceQuirks ∷ EmitDoctype ∷ []) (Switch there.Data) (62 ∷ [])) (λ x. refl) refl))
+    (λ h62. (then_on (by_entry (at doctype.Begin m) (c ∷ rest) (taking ([]) (Reconsume there.BeforeDOCTYPEName) (c ∷ [])) (λ x. rw (s.tab, s.line_feed, s.form_feed, s.space, h62) refl) refl) (name_begins b m rest c s h62), (λ one. refl))))
 
 in_name : (b : Bool) (m : Machine) (rest : List ℕ) (c : ℕ) → Comes b doctype.Name m [] rest c (doctype_step_of doctype.Name c)
 unfolding taken entries
@@ -195,7 +195,7 @@ in_name b m rest c =
     spaced_over doctype.Name doctype.AfterName b m rest c (ends_or_of false c its.NameLetter)
     (spaces_switch (doctype_state_of doctype.Name) (doctype_state_of doctype.AfterName) (λ b m rest. refl) (λ b m rest. refl) (λ b m rest. refl) (λ b m rest. refl)) (λ t ahead m held. (refl, held.1))
     (λ s. by_test (λ d k. Comes b doctype.Name m [] rest d k) c 62 (its.Ends false) its.NameLetter
-    (by_entry (at doctype.Name m) (62 ∷ rest) (taking (EmitDoctype ∷ []) (Switch there.Data) (62 ∷ [])) refl refl)
+    (by_entry (at doctype.Name m) (62 ∷ rest) (taking (EmitDoctype ∷ []) (Switch there.Data) (62 ∷ [])) (λ x. refl) refl)
     (λ h62. (name_letter b m rest c s h62, (λ t m is. (refl, is)))))
 
 -- ---- identifiers
@@ -211,11 +211,11 @@ IsMadeBefore inner = (one : StandardDoctype) → made_at inner one ≡ one
 id_begins : (inner : DoctypeState) (which : Id) (mark : Quote) (d : ℕ) → IsMadeBefore inner → Entry (doctype_state_of inner) d (SetEmpty (place_of_id which) ∷ []) (Switch (doctype_state_of (doctype.Quoted which mark))) →
     (b : Bool) (m : Machine) (rest : List ℕ) → Comes b inner m [] rest d (its.IdBegins which mark)
 id_begins inner id.Public mark d made entry b m rest =
-    subst (λ one. Goes b (at inner m) (d ∷ rest) [] (holding m (doctype_state_of (doctype.Quoted id.Public mark)) (with_id id.Public (Some []) one)) rest) (sym (made m.doctype))
-    (by_entry (at inner m) (d ∷ rest) (taking (SetEmpty PublicId ∷ []) (Switch (doctype_state_of (doctype.Quoted id.Public mark))) (d ∷ [])) (entry b m rest) refl)
+    subst (λ one. Goes (at inner m) (d ∷ rest) [] (holding m (doctype_state_of (doctype.Quoted id.Public mark)) (with_id id.Public (Some []) one)) rest) (sym (made m.doctype))
+    (by_entry (at inner m) (d ∷ rest) (taking (SetEmpty PublicId ∷ []) (Switch (doctype_state_of (doctype.Quoted id.Public mark))) (d ∷ [])) (λ x. entry x m rest) refl)
 id_begins inner id.System mark d made entry b m rest =
-    subst (λ one. Goes b (at inner m) (d ∷ rest) [] (holding m (doctype_state_of (doctype.Quoted id.System mark)) (with_id id.System (Some []) one)) rest) (sym (made m.doctype))
-    (by_entry (at inner m) (d ∷ rest) (taking (SetEmpty SystemId ∷ []) (Switch (doctype_state_of (doctype.Quoted id.System mark))) (d ∷ [])) (entry b m rest) refl)
+    subst (λ one. Goes (at inner m) (d ∷ rest) [] (holding m (doctype_state_of (doctype.Quoted id.System mark)) (with_id id.System (Some []) one)) rest) (sym (made m.doctype))
+    (by_entry (at inner m) (d ∷ rest) (taking (SetEmpty SystemId ∷ []) (Switch (doctype_state_of (doctype.Quoted id.System mark))) (d ∷ [])) (λ x. entry x m rest) refl)
 
 abbrev ends_by : Bool → List Act
 ends_by true = ForceQuirks ∷ EmitDoctype ∷ []
@@ -223,17 +223,17 @@ ends_by false = EmitDoctype ∷ []
 
 ends_there : (inner : DoctypeState) (breaks : Bool) → IsMadeBefore inner → Entry (doctype_state_of inner) 62 (ends_by breaks) (Switch there.Data) → (b : Bool) (m : Machine) (rest : List ℕ) → Comes b inner m [] rest 62 (its.Ends breaks)
 ends_there inner true made entry b m rest =
-    subst (λ one. Goes b (at inner m) (62 ∷ rest) (ADoctype (broken_there true one) ∷ []) (holding m there.Data (broken_there true one)) rest) (sym (made m.doctype))
-    (by_entry (at inner m) (62 ∷ rest) (taking (ForceQuirks ∷ EmitDoctype ∷ []) (Switch there.Data) (62 ∷ [])) (entry b m rest) refl)
+    subst (λ one. Goes (at inner m) (62 ∷ rest) (ADoctype (broken_there true one) ∷ []) (holding m there.Data (broken_there true one)) rest) (sym (made m.doctype))
+    (by_entry (at inner m) (62 ∷ rest) (taking (ForceQuirks ∷ EmitDoctype ∷ []) (Switch there.Data) (62 ∷ [])) (λ x. entry x m rest) refl)
 ends_there inner false made entry b m rest =
-    subst (λ one. Goes b (at inner m) (62 ∷ rest) (ADoctype (broken_there false one) ∷ []) (holding m there.Data (broken_there false one)) rest) (sym (made m.doctype))
-    (by_entry (at inner m) (62 ∷ rest) (taking (EmitDoctype ∷ []) (Switch there.Data) (62 ∷ [])) (entry b m rest) refl)
+    subst (λ one. Goes (at inner m) (62 ∷ rest) (ADoctype (broken_there false one) ∷ []) (holding m there.Data (broken_there false one)) rest) (sym (made m.doctype))
+    (by_entry (at inner m) (62 ∷ rest) (taking (EmitDoctype ∷ []) (Switch there.Data) (62 ∷ [])) (λ x. entry x m rest) refl)
 
 malformed_there : (inner : DoctypeState) (c : ℕ) → IsMadeBefore inner → (62 == c) ≡ false → Entry (doctype_state_of inner) c (ForceQuirks ∷ []) (Reconsume there.BogusDOCTYPE) → (b : Bool) (m : Machine) (rest : List ℕ) →
     Comes b inner m [] rest c (its.Malformed true)
 malformed_there inner c made h62 entry b m rest =
-    subst (λ one. Goes b (at inner m) (c ∷ rest) [] (holding m there.BogusDOCTYPE (broken_there true one)) rest) (sym (made m.doctype))
-    (then_on (by_entry (at inner m) (c ∷ rest) (taking (ForceQuirks ∷ []) (Reconsume there.BogusDOCTYPE) (c ∷ [])) (entry b m rest) refl) (bogus b m rest c (record m.doctype { force_quirks = true }) h62))
+    subst (λ one. Goes (at inner m) (c ∷ rest) [] (holding m there.BogusDOCTYPE (broken_there true one)) rest) (sym (made m.doctype))
+    (then_on (by_entry (at inner m) (c ∷ rest) (taking (ForceQuirks ∷ []) (Reconsume there.BogusDOCTYPE) (c ∷ [])) (λ x. entry x m rest) refl) (bogus b m rest c (record m.doctype { force_quirks = true }) h62))
 
 -- where an identifier may begin
 before_id : (inner next : DoctypeState) (which : Id) (breaks : Bool) → IsMadeBefore inner → SpaceOver (doctype_state_of inner) (doctype_state_of next) → Passes inner next →
@@ -286,13 +286,13 @@ between_ids =
 
 -- a character of an identifier
 id_letter : (which : Id) (mark : Quote) (d : ℕ) (what : What) (shown : List ℕ) → ((m : Machine) → characters what m (d ∷ []) ≡ shown) → Entry (doctype_state_of (doctype.Quoted which mark)) d (Add (place_of_id which) what ∷ []) Stay →
-    (b : Bool) (m : Machine) (rest : List ℕ) → Goes b (at (doctype.Quoted which mark) m) (d ∷ rest) [] (holding m (doctype_state_of (doctype.Quoted which mark)) (with_id which (with_more (id_of which m.doctype) shown) m.doctype)) rest
+    (b : Bool) (m : Machine) (rest : List ℕ) → Goes (at (doctype.Quoted which mark) m) (d ∷ rest) [] (holding m (doctype_state_of (doctype.Quoted which mark)) (with_id which (with_more (id_of which m.doctype) shown) m.doctype)) rest
 id_letter id.Public mark d what shown is entry b m rest =
     let M : Machine = at (doctype.Quoted id.Public mark) m in
-    subst (λ cs. Goes b M (d ∷ rest) [] (holding m M.state (with_id id.Public (with_more m.doctype.public_id cs) m.doctype)) rest) (is M) (by_entry M (d ∷ rest) (taking (Add PublicId what ∷ []) Stay (d ∷ [])) (entry b m rest) refl)
+    subst (λ cs. Goes M (d ∷ rest) [] (holding m M.state (with_id id.Public (with_more m.doctype.public_id cs) m.doctype)) rest) (is M) (by_entry M (d ∷ rest) (taking (Add PublicId what ∷ []) Stay (d ∷ [])) (λ x. entry x m rest) refl)
 id_letter id.System mark d what shown is entry b m rest =
     let M : Machine = at (doctype.Quoted id.System mark) m in
-    subst (λ cs. Goes b M (d ∷ rest) [] (holding m M.state (with_id id.System (with_more m.doctype.system_id cs) m.doctype)) rest) (is M) (by_entry M (d ∷ rest) (taking (Add SystemId what ∷ []) Stay (d ∷ [])) (entry b m rest) refl)
+    subst (λ cs. Goes M (d ∷ rest) [] (holding m M.state (with_id id.System (with_more m.doctype.system_id cs) m.doctype)) rest) (is M) (by_entry M (d ∷ rest) (taking (Add SystemId what ∷ []) Stay (d ∷ [])) (λ x. entry x m rest) refl)
 
 in_quotes : (which : Id) (mark : Quote) (q : ℕ) → Entry (doctype_state_of (doctype.Quoted which mark)) q [] (Switch (doctype_state_of (doctype.AfterId which))) → Entry (doctype_state_of (doctype.Quoted which mark)) 62 (ForceQuirks ∷ EmitDoctype ∷ []) (Switch there.Data) →
     Entry (doctype_state_of (doctype.Quoted which mark)) 0 (Add (place_of_id which) replacement ∷ []) Stay →
@@ -305,7 +305,7 @@ in_quotes which mark q closed greater null other b m rest c =
     (switched (doctype_state_of inner) (doctype_state_of (doctype.AfterId which)) q closed b m rest, (λ t ahead m held. (refl, held.1)))
     (λ hq. by_test P c 62 (its.Ends true) (its.IdLetter which) (ends_there inner true (λ one. refl) greater b m rest)
     (λ h62. (
-      by_bool (λ e x. Goes b (at inner m) (e ∷ rest) [] (holding m (doctype_state_of inner) (with_id which (with_more (id_of which m.doctype) (cond x 0xfffd e ∷ [])) m.doctype)) rest) c 0
+      by_bool (λ e x. Goes (at inner m) (e ∷ rest) [] (holding m (doctype_state_of inner) (with_id which (with_more (id_of which m.doctype) (cond x 0xfffd e ∷ [])) m.doctype)) rest) c 0
           (id_letter which mark 0 replacement (0xfffd ∷ []) (λ m. refl) null b m rest)
           (λ h0. id_letter which mark c Current (c ∷ []) (λ m. refl) (other c hq h62 h0) b m rest),
       (λ t m is. (refl, is)),
@@ -324,15 +324,15 @@ after_system_id b m rest c =
     spaced_over (doctype.AfterId id.System) (doctype.AfterId id.System) b m rest c (ends_or_of false c (its.Malformed false))
     (spaces_stay (doctype_state_of (doctype.AfterId id.System)) (λ b m rest. refl) (λ b m rest. refl) (λ b m rest. refl) (λ b m rest. refl)) (λ t ahead m held. (refl, held.1))
     (λ s. by_test (λ d k. Comes b (doctype.AfterId id.System) m [] rest d k) c 62 (its.Ends false) (its.Malformed false)
-    (by_entry (at (doctype.AfterId id.System) m) (62 ∷ rest) (taking (EmitDoctype ∷ []) (Switch there.Data) (62 ∷ [])) refl refl)
-    (λ h62. then_on (by_entry (at (doctype.AfterId id.System) m) (c ∷ rest) (taking ([]) (Reconsume there.BogusDOCTYPE) (c ∷ [])) (rw (s.tab, s.line_feed, s.form_feed, s.space, h62) refl) refl) (bogus b m rest c m.doctype h62)))
+    (by_entry (at (doctype.AfterId id.System) m) (62 ∷ rest) (taking (EmitDoctype ∷ []) (Switch there.Data) (62 ∷ [])) (λ x. refl) refl)
+    (λ h62. then_on (by_entry (at (doctype.AfterId id.System) m) (c ∷ rest) (taking ([]) (Reconsume there.BogusDOCTYPE) (c ∷ [])) (λ x. rw (s.tab, s.line_feed, s.form_feed, s.space, h62) refl) refl) (bogus b m rest c m.doctype h62)))
 
 in_bogus : (b : Bool) (m : Machine) (rest : List ℕ) (c : ℕ) → Comes b doctype.Bogus m [] rest c (doctype_step_of doctype.Bogus c)
 unfolding taken entries
 in_bogus b m rest c =
     let P : ℕ → DoctypeStep → Type 0 = λ d k. Comes b doctype.Bogus m [] rest d k in
     by_test P c 62 (its.Ends false) (its.Malformed false)
-    (by_entry (at doctype.Bogus m) (62 ∷ rest) (taking (EmitDoctype ∷ []) (Switch there.Data) (62 ∷ [])) refl refl)
+    (by_entry (at doctype.Bogus m) (62 ∷ rest) (taking (EmitDoctype ∷ []) (Switch there.Data) (62 ∷ [])) (λ x. refl) refl)
     (λ h62. bogus b m rest c m.doctype h62)
 
 -- ---- the keywords
@@ -393,12 +393,12 @@ after_name b m rest c =
     (λ h115. by_bool (λ e x. P e (cond x (its.Letter id.System 1) (ends_or_of false e (its.Malformed true)))) c 83
     (refl, (λ one. refl), (omega arith, omega arith, refl))
     (λ h83. by_test P c 62 (its.Ends false) (its.Malformed true)
-    (by_entry (at doctype.AfterName m) (62 ∷ rest) (taking (EmitDoctype ∷ []) (Switch there.Data) (62 ∷ [])) refl refl)
+    (by_entry (at doctype.AfterName m) (62 ∷ rest) (taking (EmitDoctype ∷ []) (Switch there.Data) (62 ∷ [])) (λ x. refl) refl)
     (λ h62. then_on (by_entry (at doctype.AfterName m) (c ∷ rest) (taking (ForceQuirks ∷ []) (Reconsume there.BogusDOCTYPE) (c ∷ []))
-    (no_keyword_taken b (at doctype.AfterName m) c rest (first_of c s h62) (rw (no_p c h112 h80) refl) (rw (no_s c h115 h83) refl)) refl) (bogus b m rest c (record m.doctype { force_quirks = true }) h62)))))))
+    (λ x. no_keyword_taken x (at doctype.AfterName m) c rest (first_of c s h62) (rw (no_p c h112 h80) refl) (rw (no_s c h115 h83) refl)) refl) (bogus b m rest c (record m.doctype { force_quirks = true }) h62)))))))
 
 -- letters of a malformed doctype
-pub bogus_run : (b : Bool) (m : Machine) (front rest : List ℕ) (one : StandardDoctype) → AllThemselves front → Goes b (holding m there.BogusDOCTYPE one) (front ++ rest) [] (holding m there.BogusDOCTYPE one) rest
+pub bogus_run : (b : Bool) (m : Machine) (front rest : List ℕ) (one : StandardDoctype) → AllThemselves front → Goes (holding m there.BogusDOCTYPE one) (front ++ rest) [] (holding m there.BogusDOCTYPE one) rest
 bogus_run b m [] rest one all = stays
 bogus_run b m (c ∷ front) rest one all = then_on (bogus b m (front ++ rest) c one all.0.no_end) (bogus_run b m front rest one all.1)
 
@@ -455,7 +455,7 @@ no_public a text is = rw (other a is) refl
     other a is = grind arith
 
 -- the whole keyword was read
-whole : (which : Id) (b : Bool) (m : Machine) (front rest : List ℕ) → map to_ascii_lowercase front ≡ keyword_of which → Goes b (behind_name m) (front ++ rest) [] (at (doctype.AfterKeyword which) m) rest
+whole : (which : Id) (b : Bool) (m : Machine) (front rest : List ℕ) → map to_ascii_lowercase front ≡ keyword_of which → Goes (behind_name m) (front ++ rest) [] (at (doctype.AfterKeyword which) m) rest
 whole which b m [] rest same = absurd (none which same)
   where
     none : (which : Id) → [] ≡ keyword_of which → ⊥
@@ -464,15 +464,15 @@ whole which b m [] rest same = absurd (none which same)
 whole id.Public b m (a ∷ front) rest same =
     let cut : take 6 (a ∷ front ++ rest) ≡ a ∷ front = taken_word to_ascii_lowercase (codes "PUBLIC") (a ∷ front) rest same in
     let low : to_ascii_lowercase a ≡ 112 = cc in
-    subst (λ t. Goes b (behind_name m) (a ∷ front ++ rest) [] (at_state m there.AfterDOCTYPEPublicKeyword) t) (drop-append_seam (a ∷ front) rest)
+    subst (λ t. Goes (behind_name m) (a ∷ front ++ rest) [] (at_state m there.AfterDOCTYPEPublicKeyword) t) (drop-append_seam (a ∷ front) rest)
     (by_entry (behind_name m) (a ∷ (front ++ rest)) (taking [] (Switch there.AfterDOCTYPEPublicKeyword) (a ∷ front))
-    (public_taken b (behind_name m) a (front ++ rest) (first_is id.Public a low) (begins to_ascii_lowercase (codes "PUBLIC") (a ∷ front) rest same) ∙ ap (taking [] (Switch there.AfterDOCTYPEPublicKeyword)) cut) refl)
+    (λ x. public_taken x (behind_name m) a (front ++ rest) (first_is id.Public a low) (begins to_ascii_lowercase (codes "PUBLIC") (a ∷ front) rest same) ∙ ap (taking [] (Switch there.AfterDOCTYPEPublicKeyword)) cut) refl)
 whole id.System b m (a ∷ front) rest same =
     let cut : take 6 (a ∷ front ++ rest) ≡ a ∷ front = taken_word to_ascii_lowercase (codes "SYSTEM") (a ∷ front) rest same in
     let low : to_ascii_lowercase a ≡ 115 = cc in
-    subst (λ t. Goes b (behind_name m) (a ∷ front ++ rest) [] (at_state m there.AfterDOCTYPESystemKeyword) t) (drop-append_seam (a ∷ front) rest)
+    subst (λ t. Goes (behind_name m) (a ∷ front ++ rest) [] (at_state m there.AfterDOCTYPESystemKeyword) t) (drop-append_seam (a ∷ front) rest)
     (by_entry (behind_name m) (a ∷ (front ++ rest)) (taking [] (Switch there.AfterDOCTYPESystemKeyword) (a ∷ front))
-    (system_taken b (behind_name m) a (front ++ rest) (first_is id.System a low) (no_public a (front ++ rest) low) (begins to_ascii_lowercase (codes "SYSTEM") (a ∷ front) rest same) ∙ ap (taking [] (Switch there.AfterDOCTYPESystemKeyword)) cut) refl)
+    (λ x. system_taken x (behind_name m) a (front ++ rest) (first_is id.System a low) (no_public a (front ++ rest) low) (begins to_ascii_lowercase (codes "SYSTEM") (a ∷ front) rest same) ∙ ap (taking [] (Switch there.AfterDOCTYPESystemKeyword)) cut) refl)
 
 pub letters_high : (which : Id) → High (keyword_of which)
 letters_high id.Public = (omega arith, (omega arith, (omega arith, (omega arith, (omega arith, (omega arith, tt))))))
@@ -480,7 +480,7 @@ letters_high id.System = (omega arith, (omega arith, (omega arith, (omega arith,
 
 -- another character than the keyword's next one
 no_keyword : (which : Id) (b : Bool) (m : Machine) (ahead rest : List ℕ) (n c : ℕ) → IsKeyword which n ahead → letter_is (keyword_of which) n (to_ascii_lowercase c) ≡ false →
-    Goes b (behind_name m) (ahead ++ c ∷ rest) [] (holding m there.BogusDOCTYPE (record m.doctype { force_quirks = true })) (c ∷ rest)
+    Goes (behind_name m) (ahead ++ c ∷ rest) [] (holding m there.BogusDOCTYPE (record m.doctype { force_quirks = true })) (c ∷ rest)
 no_keyword which b m ahead rest zero c is other = absurd (omega (arith, is.0))
 no_keyword which b m [] rest (suc n) c is other = absurd (none which is.2)
   where
@@ -491,18 +491,18 @@ no_keyword id.Public b m (a ∷ ahead) rest (suc n) c is other =
     let text : List ℕ = ahead ++ c ∷ rest in
     let low : to_ascii_lowercase a ≡ 112 = cc in
     then_on (by_entry (behind_name m) (a ∷ text) (taking (ForceQuirks ∷ []) (Reconsume there.BogusDOCTYPE) (a ∷ []))
-    (no_keyword_taken b (behind_name m) a text (first_is id.Public a low) (fails to_ascii_lowercase (codes "PUBLIC") (a ∷ ahead) (suc n) c rest is.2 is.1 other) (no_system a text low)) refl)
+    (λ x. no_keyword_taken x (behind_name m) a text (first_is id.Public a low) (fails to_ascii_lowercase (codes "PUBLIC") (a ∷ ahead) (suc n) c rest is.2 is.1 other) (no_system a text low)) refl)
     (bogus_run b m (a ∷ ahead) (c ∷ rest) (record m.doctype { force_quirks = true }) (lower_themselves (a ∷ ahead) (take (suc n) (codes "public")) is.2 (high_taken (suc n) (codes "public") (letters_high id.Public))))
 no_keyword id.System b m (a ∷ ahead) rest (suc n) c is other =
     let text : List ℕ = ahead ++ c ∷ rest in
     let low : to_ascii_lowercase a ≡ 115 = cc in
     then_on (by_entry (behind_name m) (a ∷ text) (taking (ForceQuirks ∷ []) (Reconsume there.BogusDOCTYPE) (a ∷ []))
-    (no_keyword_taken b (behind_name m) a text (first_is id.System a low) (no_public a text low) (fails to_ascii_lowercase (codes "SYSTEM") (a ∷ ahead) (suc n) c rest is.2 is.1 other)) refl)
+    (λ x. no_keyword_taken x (behind_name m) a text (first_is id.System a low) (no_public a text low) (fails to_ascii_lowercase (codes "SYSTEM") (a ∷ ahead) (suc n) c rest is.2 is.1 other)) refl)
     (bogus_run b m (a ∷ ahead) (c ∷ rest) (record m.doctype { force_quirks = true }) (lower_themselves (a ∷ ahead) (take (suc n) (codes "system")) is.2 (high_taken (suc n) (codes "system") (letters_high id.System))))
 
-ends_bogus : (b : Bool) (m : Machine) (rest : List ℕ) (one : StandardDoctype) → Goes b (holding m there.BogusDOCTYPE one) (62 ∷ rest) (ADoctype one ∷ []) (holding m there.Data one) rest
+ends_bogus : (b : Bool) (m : Machine) (rest : List ℕ) (one : StandardDoctype) → Goes (holding m there.BogusDOCTYPE one) (62 ∷ rest) (ADoctype one ∷ []) (holding m there.Data one) rest
 unfolding taken entries
-ends_bogus b m rest one = by_entry (holding m there.BogusDOCTYPE one) (62 ∷ rest) (taking (EmitDoctype ∷ []) (Switch there.Data) (62 ∷ [])) refl refl
+ends_bogus b m rest one = by_entry (holding m there.BogusDOCTYPE one) (62 ∷ rest) (taking (EmitDoctype ∷ []) (Switch there.Data) (62 ∷ [])) (λ x. refl) refl
 
 not_five : (n : ℕ) → ((n ≡ 5) → ⊥) → n < 6 → n + 1 < 6
 not_five n other low = omega (arith, other, low)
@@ -520,7 +520,7 @@ in_keyword which b m ahead rest n c is = go (letter_is (keyword_of which) n (to_
     goes_on : letter_is (keyword_of which) n (to_ascii_lowercase c) ≡ true → (x : Bool) → (n == 5) ≡ x → Comes b (doctype.Keyword which n) m ahead rest c (cond x (its.Then (doctype.AfterKeyword which)) (its.Letter which (n + 1)))
     goes_on h true five =
         let same : map to_ascii_lowercase (ahead ++ c ∷ []) ≡ keyword_of which = longer h ∙ ap (λ k. take (suc k) (keyword_of which)) (eqb-true n 5 five) ∙ all_of which in (
-          subst (λ t. Goes b (behind_name m) t [] (at (doctype.AfterKeyword which) m) rest) (append_assoc ahead (c ∷ []) rest) (whole which b m (ahead ++ c ∷ []) rest same),
+          subst (λ t. Goes (behind_name m) t [] (at (doctype.AfterKeyword which) m) rest) (append_assoc ahead (c ∷ []) rest) (whole which b m (ahead ++ c ∷ []) rest same),
           (λ t ahead m held. (refl, held.1)),
         )
     goes_on h false no_five =
@@ -529,7 +529,7 @@ in_keyword which b m ahead rest n c is = go (letter_is (keyword_of which) n (to_
 
     stops : letter_is (keyword_of which) n (to_ascii_lowercase c) ≡ false → Comes b (doctype.Keyword which n) m ahead rest c (ends_or_of true c (its.Malformed true))
     stops h =
-        by_test (λ d k. Goes b (behind_name m) (ahead ++ d ∷ rest) [] (holding m there.BogusDOCTYPE (record m.doctype { force_quirks = true })) (d ∷ rest) → Comes b (doctype.Keyword which n) m ahead rest d k) c 62
+        by_test (λ d k. Goes (behind_name m) (ahead ++ d ∷ rest) [] (holding m there.BogusDOCTYPE (record m.doctype { force_quirks = true })) (d ∷ rest) → Comes b (doctype.Keyword which n) m ahead rest d k) c 62
         (its.Ends true) (its.Malformed true) (λ goes. then_on goes (ends_bogus b m rest (record m.doctype { force_quirks = true })))
         (λ h62 goes. then_on goes (bogus b m rest c (record m.doctype { force_quirks = true }) h62)) (no_keyword which b m ahead rest n c is h)
 

@@ -31,11 +31,11 @@ use Rattle.page_tokens.proofs.TextFollows.{BackTo, Over}
 
 abbrev pub Comes : Raw → ℕ → LessThanStep → Type 0
 Comes which c its.EndTag =
-    (b : Bool) (m : Machine) (rest : List ℕ) → Goes b (at_state m (end_tag_state_of which end_tag.LessThan)) (c ∷ rest) [] (record m { state = end_tag_state_of which end_tag.Open; buffer = [] }) rest
+    (b : Bool) (m : Machine) (rest : List ℕ) → Goes (at_state m (end_tag_state_of which end_tag.LessThan)) (c ∷ rest) [] (record m { state = end_tag_state_of which end_tag.Open; buffer = [] }) rest
 Comes which c its.Escape = Over (state.EndTag which end_tag.LessThan) (state.ScriptData script.EscapeStart) c (codes "<!")
 Comes which c its.Double =
     (b : Bool) (m : Machine) (rest : List ℕ) →
-    Goes b (at_state m (end_tag_state_of which end_tag.LessThan)) (c ∷ rest) (AChar 60 ∷ []) (record m { state = there.ScriptDataDoubleEscapeStart; buffer = [] }) (c ∷ rest)
+    Goes (at_state m (end_tag_state_of which end_tag.LessThan)) (c ∷ rest) (AChar 60 ∷ []) (record m { state = there.ScriptDataDoubleEscapeStart; buffer = [] }) (c ∷ rest)
 Comes which c its.Text = BackTo (state.EndTag which end_tag.LessThan) (raw_state_of which) c (codes "<")
 
 escaped_comes : (c : ℕ) → (47 == c) ≡ false → Comes raw.Escaped c (cond (is_ascii_alphabetic c) its.Double its.Text)
@@ -44,32 +44,32 @@ escaped_comes c h47 = go (is_ascii_alphabetic c) refl (is_upper c) refl
   where
     go : (x : Bool) → is_ascii_alphabetic c ≡ x → (y : Bool) → is_upper c ≡ y → Comes raw.Escaped c (cond x its.Double its.Text)
     go true e true f = λ b m rest.
-        by_entry (at_state m there.ScriptDataEscapedLessThanSign) (c ∷ rest) (taking (SetEmpty Buffer ∷ Emit (These (codes "<")) ∷ []) (Reconsume there.ScriptDataDoubleEscapeStart) (c ∷ [])) (rw (h47, f) refl) refl
+        by_entry (at_state m there.ScriptDataEscapedLessThanSign) (c ∷ rest) (taking (SetEmpty Buffer ∷ Emit (These (codes "<")) ∷ []) (Reconsume there.ScriptDataDoubleEscapeStart) (c ∷ [])) (λ x. rw (h47, f) refl) refl
     go true e false f = λ b m rest.
         by_entry (at_state m there.ScriptDataEscapedLessThanSign) (c ∷ rest) (taking (SetEmpty Buffer ∷ Emit (These (codes "<")) ∷ []) (Reconsume there.ScriptDataDoubleEscapeStart) (c ∷ []))
-        (rw (h47, f, is_lower_of c e f) refl) refl
+        (λ x. rw (h47, f, is_lower_of c e f) refl) refl
     go false e y f = λ b m rest.
-        by_entry (at_state m there.ScriptDataEscapedLessThanSign) (c ∷ rest) (taking (Emit (These (codes "<")) ∷ []) (Reconsume there.ScriptDataEscaped) (c ∷ [])) (rw (h47, no_upper c e, no_lower c e) refl) refl
+        by_entry (at_state m there.ScriptDataEscapedLessThanSign) (c ∷ rest) (taking (Emit (These (codes "<")) ∷ []) (Reconsume there.ScriptDataEscaped) (c ∷ [])) (λ x. rw (h47, no_upper c e, no_lower c e) refl) refl
 
 pub comes : (which : Raw) (c : ℕ) → Comes which c (less_than_step_of which c)
 unfolding taken entries
 comes raw.Rcdata c =
     by_test (Comes raw.Rcdata) c 47 its.EndTag its.Text
-    (λ b m rest. by_entry (at_state m there.RCDATALessThanSign) (47 ∷ rest) (taking (SetEmpty Buffer ∷ []) (Switch there.RCDATAEndTagOpen) (47 ∷ [])) refl refl)
-    (λ h47 b m rest. by_entry (at_state m there.RCDATALessThanSign) (c ∷ rest) (taking (Emit (These (codes "<")) ∷ []) (Reconsume there.RCDATA) (c ∷ [])) (rw h47 refl) refl)
+    (λ b m rest. by_entry (at_state m there.RCDATALessThanSign) (47 ∷ rest) (taking (SetEmpty Buffer ∷ []) (Switch there.RCDATAEndTagOpen) (47 ∷ [])) (λ x. refl) refl)
+    (λ h47 b m rest. by_entry (at_state m there.RCDATALessThanSign) (c ∷ rest) (taking (Emit (These (codes "<")) ∷ []) (Reconsume there.RCDATA) (c ∷ [])) (λ x. rw h47 refl) refl)
 comes raw.Rawtext c =
     by_test (Comes raw.Rawtext) c 47 its.EndTag its.Text
-    (λ b m rest. by_entry (at_state m there.RAWTEXTLessThanSign) (47 ∷ rest) (taking (SetEmpty Buffer ∷ []) (Switch there.RAWTEXTEndTagOpen) (47 ∷ [])) refl refl)
-    (λ h47 b m rest. by_entry (at_state m there.RAWTEXTLessThanSign) (c ∷ rest) (taking (Emit (These (codes "<")) ∷ []) (Reconsume there.RAWTEXT) (c ∷ [])) (rw h47 refl) refl)
+    (λ b m rest. by_entry (at_state m there.RAWTEXTLessThanSign) (47 ∷ rest) (taking (SetEmpty Buffer ∷ []) (Switch there.RAWTEXTEndTagOpen) (47 ∷ [])) (λ x. refl) refl)
+    (λ h47 b m rest. by_entry (at_state m there.RAWTEXTLessThanSign) (c ∷ rest) (taking (Emit (These (codes "<")) ∷ []) (Reconsume there.RAWTEXT) (c ∷ [])) (λ x. rw h47 refl) refl)
 comes raw.Script c =
     by_test (Comes raw.Script) c 47 its.EndTag (cond (c == 33) its.Escape its.Text)
-    (λ b m rest. by_entry (at_state m there.ScriptDataLessThanSign) (47 ∷ rest) (taking (SetEmpty Buffer ∷ []) (Switch there.ScriptDataEndTagOpen) (47 ∷ [])) refl refl)
+    (λ b m rest. by_entry (at_state m there.ScriptDataLessThanSign) (47 ∷ rest) (taking (SetEmpty Buffer ∷ []) (Switch there.ScriptDataEndTagOpen) (47 ∷ [])) (λ x. refl) refl)
     (λ h47. by_test (Comes raw.Script) c 33 its.Escape its.Text
-    (λ b m rest. by_entry (at_state m there.ScriptDataLessThanSign) (33 ∷ rest) (taking (Emit (These (codes "<!")) ∷ []) (Switch there.ScriptDataEscapeStart) (33 ∷ [])) refl refl)
-    (λ h33 b m rest. by_entry (at_state m there.ScriptDataLessThanSign) (c ∷ rest) (taking (Emit (These (codes "<")) ∷ []) (Reconsume there.ScriptData) (c ∷ [])) (rw (h47, h33) refl) refl))
+    (λ b m rest. by_entry (at_state m there.ScriptDataLessThanSign) (33 ∷ rest) (taking (Emit (These (codes "<!")) ∷ []) (Switch there.ScriptDataEscapeStart) (33 ∷ [])) (λ x. refl) refl)
+    (λ h33 b m rest. by_entry (at_state m there.ScriptDataLessThanSign) (c ∷ rest) (taking (Emit (These (codes "<")) ∷ []) (Reconsume there.ScriptData) (c ∷ [])) (λ x. rw (h47, h33) refl) refl))
 comes raw.Escaped c =
     by_test (Comes raw.Escaped) c 47 its.EndTag (cond (is_ascii_alphabetic c) its.Double its.Text)
-    (λ b m rest. by_entry (at_state m there.ScriptDataEscapedLessThanSign) (47 ∷ rest) (taking (SetEmpty Buffer ∷ []) (Switch there.ScriptDataEscapedEndTagOpen) (47 ∷ [])) refl refl)
+    (λ b m rest. by_entry (at_state m there.ScriptDataEscapedLessThanSign) (47 ∷ rest) (taking (SetEmpty Buffer ∷ []) (Switch there.ScriptDataEscapedEndTagOpen) (47 ∷ [])) (λ x. refl) refl)
     (λ h47. escaped_comes c h47)
 
 -- ---- behind `</`: the entries of the four kinds of text
@@ -137,7 +137,7 @@ letter_not c h = record { tab = no9 c h; line_feed = no10 c h; form_feed = no12 
 abbrev pub with_letter : Raw → Machine → ℕ → Machine
 with_letter which m c = record m { state = end_tag_state_of which end_tag.Name; tag = record m.tag { name = m.tag.name ++ to_ascii_lowercase c ∷ [] }; buffer = m.buffer ++ c ∷ [] }
 
-pub letter_over : (which : Raw) (b : Bool) (m : Machine) (rest : List ℕ) (c : ℕ) → is_ascii_alphabetic c ≡ true → Goes b (naming which m) (c ∷ rest) [] (with_letter which m c) rest
+pub letter_over : (which : Raw) (b : Bool) (m : Machine) (rest : List ℕ) (c : ℕ) → is_ascii_alphabetic c ≡ true → Goes (naming which m) (c ∷ rest) [] (with_letter which m c) rest
 unfolding taken
 letter_over which b m rest c letter = go (is_upper c) refl
   where
@@ -147,36 +147,36 @@ letter_over which b m rest c letter = go (is_upper c) refl
     M : Machine
     M = naming which m
 
-    go : (x : Bool) → is_upper c ≡ x → Goes b M (c ∷ rest) [] (with_letter which m c) rest
+    go : (x : Bool) → is_upper c ≡ x → Goes M (c ∷ rest) [] (with_letter which m c) rest
     go true e =
         by_entry M (c ∷ rest) (taking (Add TheTagName Lower ∷ Add Buffer Current ∷ []) Stay (c ∷ []))
-        (ap (taken b M (c ∷ rest)) (are_name_entries which) ∙ (rw (is.tab, is.line_feed, is.form_feed, is.space, is.slash, is.greater, e) refl)) refl
+        (λ x. ap (taken x M (c ∷ rest)) (are_name_entries which) ∙ (rw (is.tab, is.line_feed, is.form_feed, is.space, is.slash, is.greater, e) refl)) refl
     go false e =
-        subst (λ d. Goes b M (c ∷ rest) [] (record m { state = end_tag_state_of which end_tag.Name; tag = record m.tag { name = m.tag.name ++ d ∷ [] }; buffer = m.buffer ++ c ∷ [] }) rest) (sym (stays_lower c e))
+        subst (λ d. Goes M (c ∷ rest) [] (record m { state = end_tag_state_of which end_tag.Name; tag = record m.tag { name = m.tag.name ++ d ∷ [] }; buffer = m.buffer ++ c ∷ [] }) rest) (sym (stays_lower c e))
         (by_entry M (c ∷ rest) (taking (Add TheTagName Current ∷ Add Buffer Current ∷ []) Stay (c ∷ []))
-        (ap (taken b M (c ∷ rest)) (are_name_entries which) ∙ (rw (is.tab, is.line_feed, is.form_feed, is.space, is.slash, is.greater, e, is_lower_of c letter e) refl)) refl)
+        (λ x. ap (taken x M (c ∷ rest)) (are_name_entries which) ∙ (rw (is.tab, is.line_feed, is.form_feed, is.space, is.slash, is.greater, e, is_lower_of c letter e) refl)) refl)
 
 -- the first letter
 abbrev pub begun : Raw → Machine → Machine
 begun which m = record m { state = end_tag_state_of which end_tag.Name; tag = record { kind = Ending; name = []; attrs = []; self_closing = false } }
 
-pub letter_begins : (which : Raw) (b : Bool) (m : Machine) (rest : List ℕ) (c : ℕ) → is_ascii_alphabetic c ≡ true → Goes b (opened which m) (c ∷ rest) [] (with_letter which (begun which m) c) rest
+pub letter_begins : (which : Raw) (b : Bool) (m : Machine) (rest : List ℕ) (c : ℕ) → is_ascii_alphabetic c ≡ true → Goes (opened which m) (c ∷ rest) [] (with_letter which (begun which m) c) rest
 unfolding taken
 letter_begins which b m rest c letter = then_on (go (is_upper c) refl) (letter_over which b (begun which m) rest c letter)
   where
     M : Machine
     M = opened which m
 
-    go : (x : Bool) → is_upper c ≡ x → Goes b M (c ∷ rest) [] (begun which m) (c ∷ rest)
-    go true e = by_entry M (c ∷ rest) (taking (NewTag Ending ∷ []) (Reconsume (end_tag_state_of which end_tag.Name)) (c ∷ [])) (ap (taken b M (c ∷ rest)) (are_open_entries which) ∙ (rw e refl)) refl
+    go : (x : Bool) → is_upper c ≡ x → Goes M (c ∷ rest) [] (begun which m) (c ∷ rest)
+    go true e = by_entry M (c ∷ rest) (taking (NewTag Ending ∷ []) (Reconsume (end_tag_state_of which end_tag.Name)) (c ∷ [])) (λ x. ap (taken x M (c ∷ rest)) (are_open_entries which) ∙ (rw e refl)) refl
     go false e =
-        by_entry M (c ∷ rest) (taking (NewTag Ending ∷ []) (Reconsume (end_tag_state_of which end_tag.Name)) (c ∷ [])) (ap (taken b M (c ∷ rest)) (are_open_entries which) ∙ (rw (e, is_lower_of c letter e) refl)) refl
+        by_entry M (c ∷ rest) (taking (NewTag Ending ∷ []) (Reconsume (end_tag_state_of which end_tag.Name)) (c ∷ [])) (λ x. ap (taken x M (c ∷ rest)) (are_open_entries which) ∙ (rw (e, is_lower_of c letter e) refl)) refl
 
 pub no_letter_begins : (which : Raw) (c : ℕ) → is_ascii_alphabetic c ≡ false → BackTo (state.EndTag which end_tag.Open) (raw_state_of which) c (codes "</")
 unfolding taken
 no_letter_begins which c none b m rest =
     let M : Machine = opened which m in
-    by_entry M (c ∷ rest) (taking (Emit (These (codes "</")) ∷ []) (Reconsume (state_of (raw_state_of which))) (c ∷ [])) (ap (taken b M (c ∷ rest)) (are_open_entries which) ∙ (rw (no_upper c none, no_lower c none) refl)) refl
+    by_entry M (c ∷ rest) (taking (Emit (These (codes "</")) ∷ []) (Reconsume (state_of (raw_state_of which))) (c ∷ [])) (λ x. ap (taken x M (c ∷ rest)) (are_open_entries which) ∙ (rw (no_upper c none, no_lower c none) refl)) refl
 
 -- ---- behind the name
 
@@ -204,33 +204,33 @@ space_taken which b m rest c is space =
     at d e = ap (taken b (naming which m) (d ∷ rest)) (are_name_entries which) ∙ e
 
 -- anything else, or another name
-to_text : (which : Raw) (c : ℕ) (b : Bool) (m : Machine) (rest : List ℕ) →
-    taken b (naming which m) (c ∷ rest) (name_entries which) ≡ taking (Emit (These (codes "</")) ∷ Emit TheBuffer ∷ []) (Reconsume (state_of (raw_state_of which))) (c ∷ []) →
-    Goes b (naming which m) (c ∷ rest) (map AChar (codes "</" ++ m.buffer)) (at_state m (state_of (raw_state_of which))) (c ∷ rest)
-to_text which c b m rest is =
-    subst (λ ts. Goes b (naming which m) (c ∷ rest) (AChar 60 ∷ AChar 47 ∷ ts) (at_state m (state_of (raw_state_of which))) (c ∷ rest)) (append-nil (map AChar m.buffer))
+to_text : (which : Raw) (c : ℕ) (m : Machine) (rest : List ℕ) →
+    ((b : Bool) → taken b (naming which m) (c ∷ rest) (name_entries which) ≡ taking (Emit (These (codes "</")) ∷ Emit TheBuffer ∷ []) (Reconsume (state_of (raw_state_of which))) (c ∷ [])) →
+    Goes (naming which m) (c ∷ rest) (map AChar (codes "</" ++ m.buffer)) (at_state m (state_of (raw_state_of which))) (c ∷ rest)
+to_text which c m rest is =
+    subst (λ ts. Goes (naming which m) (c ∷ rest) (AChar 60 ∷ AChar 47 ∷ ts) (at_state m (state_of (raw_state_of which))) (c ∷ rest)) (append-nil (map AChar m.buffer))
     (by_entry (naming which m) (c ∷ rest) (taking (Emit (These (codes "</")) ∷ Emit TheBuffer ∷ []) (Reconsume (state_of (raw_state_of which))) (c ∷ []))
-    (ap (taken b (naming which m) (c ∷ rest)) (are_name_entries which) ∙ is) refl)
+    (λ x. ap (taken x (naming which m) (c ∷ rest)) (are_name_entries which) ∙ is x) refl)
 
 -- another character behind the name
 pub other_character : (which : Raw) (c : ℕ) → is_ascii_alphabetic c ≡ false → IsLetter c → (b : Bool) (m : Machine) (rest : List ℕ) →
-    Goes b (naming which m) (c ∷ rest) (map AChar (codes "</" ++ m.buffer)) (at_state m (state_of (raw_state_of which))) (c ∷ rest)
+    Goes (naming which m) (c ∷ rest) (map AChar (codes "</" ++ m.buffer)) (at_state m (state_of (raw_state_of which))) (c ∷ rest)
 unfolding taken
 other_character which c none is b m rest =
-    to_text which c b m rest (rw (is.tab, is.line_feed, is.form_feed, is.space, is.slash, is.greater, no_upper c none, no_lower c none) refl)
+    to_text which c m rest (λ b. rw (is.tab, is.line_feed, is.form_feed, is.space, is.slash, is.greater, no_upper c none, no_lower c none) refl)
 
 -- another name: whether or not the character would end one
 pub other_name : (which : Raw) (c : ℕ) → is_ascii_alphabetic c ≡ false → (b : Bool) (m : Machine) (rest : List ℕ) → is_appropriate m ≡ false →
-    Goes b (naming which m) (c ∷ rest) (map AChar (codes "</" ++ m.buffer)) (at_state m (state_of (raw_state_of which))) (c ∷ rest)
+    Goes (naming which m) (c ∷ rest) (map AChar (codes "</" ++ m.buffer)) (at_state m (state_of (raw_state_of which))) (c ∷ rest)
 unfolding taken
 other_name which c none b m rest other = go (ends_name c) refl
   where
-    at : (d : ℕ) → taken b (naming which m) (d ∷ rest) (name_entries which) ≡ taking (Emit (These (codes "</")) ∷ Emit TheBuffer ∷ []) (Reconsume (state_of (raw_state_of which))) (d ∷ []) →
-        Goes b (naming which m) (d ∷ rest) (map AChar (codes "</" ++ m.buffer)) (at_state m (state_of (raw_state_of which))) (d ∷ rest)
-    at d e = to_text which d b m rest e
+    at : (d : ℕ) → ((x : Bool) → taken x (naming which m) (d ∷ rest) (name_entries which) ≡ taking (Emit (These (codes "</")) ∷ Emit TheBuffer ∷ []) (Reconsume (state_of (raw_state_of which))) (d ∷ [])) →
+        Goes (naming which m) (d ∷ rest) (map AChar (codes "</" ++ m.buffer)) (at_state m (state_of (raw_state_of which))) (d ∷ rest)
+    at d e = to_text which d m rest e
 
-    go : (x : Bool) → ends_name c ≡ x → Goes b (naming which m) (c ∷ rest) (map AChar (codes "</" ++ m.buffer)) (at_state m (state_of (raw_state_of which))) (c ∷ rest)
+    go : (x : Bool) → ends_name c ≡ x → Goes (naming which m) (c ∷ rest) (map AChar (codes "</" ++ m.buffer)) (at_state m (state_of (raw_state_of which))) (c ∷ rest)
     go true e =
-        ends_cases (λ d. Goes b (naming which m) (d ∷ rest) (map AChar (codes "</" ++ m.buffer)) (at_state m (state_of (raw_state_of which))) (d ∷ rest)) c e
-        (at 47 (rw other refl)) (at 62 (rw other refl)) (at 9 (rw other refl)) (at 10 (rw other refl)) (at 12 (rw other refl)) (at 32 (rw other refl))
+        ends_cases (λ d. Goes (naming which m) (d ∷ rest) (map AChar (codes "</" ++ m.buffer)) (at_state m (state_of (raw_state_of which))) (d ∷ rest)) c e
+        (at 47 (λ x. rw other refl)) (at 62 (λ x. rw other refl)) (at 9 (λ x. rw other refl)) (at 10 (λ x. rw other refl)) (at 12 (λ x. rw other refl)) (at 32 (λ x. rw other refl))
     go false e = other_character which c none (ends_none c e) b m rest

@@ -7,7 +7,7 @@ use Rattle.page_tokens.specs.declared.tokenizer.Tokenizer.{Tokenizer}
 use Rattle.page_tokens.proofs.Placed.{holds_on}
 
 pub errors_apart : ErrorsChangeNothing
-errors_apart cdata f first read told old new has only = subst (λ t. HasRead cdata f first read told t) (sym only) (λ rest page. go rest (has rest page))
+errors_apart f first read told old new has only = subst (λ t. HasRead f first read told t) (sym only) (λ rest. go rest (has rest))
   where
     made : Tokenizer
     made = record old { errors = new.errors }

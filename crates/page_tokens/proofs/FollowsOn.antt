@@ -34,11 +34,11 @@ follows_on old mid new front back told same first second = record {
       let at : Stands mid to.ahead' to.machine = stands_outside mid to.ahead' to.machine (same ∙ stands.reference) to.holds in
       let more : Behind mid new back told to.machine to.ahead' rest = second.reads to.machine to.ahead' rest at in
       let none : map AChar to.characters ++ to.tokens ≡ map AChar to.characters = ap (λ ts. map AChar to.characters ++ ts) to.ends ∙ append-nil (map AChar to.characters) in
-      let one : Goes b m (ahead ++ front ++ (back ++ rest)) (map AChar to.characters) to.machine (to.ahead' ++ (back ++ rest)) =
-      subst (λ ts. Goes b m (ahead ++ front ++ (back ++ rest)) ts to.machine (to.ahead' ++ (back ++ rest))) none to.goes in
-      let two : Goes b to.machine (to.ahead' ++ (back ++ rest)) (map AChar more.characters ++ more.tokens) more.machine (more.ahead' ++ rest) =
-      subst (λ text. Goes b to.machine text (map AChar more.characters ++ more.tokens) more.machine (more.ahead' ++ rest)) (append_assoc to.ahead' back rest)
-      (subst (λ f. Goes f to.machine (to.ahead' ++ back ++ rest) (map AChar more.characters ++ more.tokens) more.machine (more.ahead' ++ rest)) first.leaves.in_foreign more.goes) in
+      let one : Goes m (ahead ++ front ++ (back ++ rest)) (map AChar to.characters) to.machine (to.ahead' ++ (back ++ rest)) =
+      subst (λ ts. Goes m (ahead ++ front ++ (back ++ rest)) ts to.machine (to.ahead' ++ (back ++ rest))) none to.goes in
+      let two : Goes to.machine (to.ahead' ++ (back ++ rest)) (map AChar more.characters ++ more.tokens) more.machine (more.ahead' ++ rest) =
+      subst (λ text. Goes to.machine text (map AChar more.characters ++ more.tokens) more.machine (more.ahead' ++ rest)) (append_assoc to.ahead' back rest)
+      (subst (λ f. Goes to.machine (to.ahead' ++ back ++ rest) (map AChar more.characters ++ more.tokens) more.machine (more.ahead' ++ rest)) first.leaves.in_foreign more.goes) in
       let all : map AChar to.characters ++ (map AChar more.characters ++ more.tokens) ≡ map AChar (to.characters ++ more.characters) ++ more.tokens =
       sym (append_assoc (map AChar to.characters) (map AChar more.characters) more.tokens) ∙ ap (λ ts. ts ++ more.tokens) (sym (chars_append to.characters more.characters)) in
       let read : ahead ++ front ++ (back ++ rest) ≡ ahead ++ (front ++ back) ++ rest =
@@ -48,8 +48,8 @@ follows_on old mid new front back told same first second = record {
         ahead' = more.ahead';
         characters = to.characters ++ more.characters;
         tokens = more.tokens;
-        goes = subst (λ ts. Goes b m (ahead ++ (front ++ back) ++ rest) ts more.machine (more.ahead' ++ rest)) all
-            (subst (λ text. Goes b m text (map AChar to.characters ++ (map AChar more.characters ++ more.tokens)) more.machine (more.ahead' ++ rest)) read (then_on one two));
+        goes = subst (λ ts. Goes m (ahead ++ (front ++ back) ++ rest) ts more.machine (more.ahead' ++ rest)) all
+            (subst (λ text. Goes m text (map AChar to.characters ++ (map AChar more.characters ++ more.tokens)) more.machine (more.ahead' ++ rest)) read (then_on one two));
         holds = more.holds;
         text = more.text ∙ ap (λ e. e ++ encode_utf8_all more.characters) to.text ∙ append_assoc (text_of old) (encode_utf8_all to.characters) (encode_utf8_all more.characters)
             ∙ ap (λ e. text_of old ++ e) (sym (encodes-append to.characters more.characters));

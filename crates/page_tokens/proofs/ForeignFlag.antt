@@ -1,5 +1,5 @@
 -- Where `[CDATA[` doesn't come next, the flag for foreign content doesn't matter.
-use Rattle.std.specs.Prelude.{◌≡◌, ℕ, Bool, true, false, not, cond, eqb, bytes_eq, List, [], ◌∷◌, ◌++◌, codes, take, length, Option, None, Some, refl}
+use Rattle.std.specs.Prelude.{◌≡◌, ℕ, Bool, true, false, cond, eqb, bytes_eq, List, [], ◌∷◌, codes, take, length, Option, None, Some, refl}
 use Rattle.std.specs.List.{list_all, starts_with}
 use Rattle.std.proofs.lemmas.Bool.{and_parts, true≢false}
 use Rattle.std.proofs.lemmas.Slice.Eq.{bytes_eq-Decides}
@@ -9,7 +9,6 @@ use Rattle.standard_tokens.specs.Entries.{Then, Entry, entry}
 use Rattle.standard_tokens.specs.Machine.{Machine, Taken, consumed, step, step_by, taken, taken_if}
 use Rattle.standard_tokens.specs.States.{State as StandardState}
 use Rattle.standard_tokens.specs.Table.{entries}
-use Rattle.page_tokens.specs.StandardPages.{lacks_cdata}
 use Rattle.page_tokens.proofs.EveryState.{every_state}
 
 abbrev is_cdata : On → Bool
@@ -28,7 +27,7 @@ asks_in : (s : StandardState) → list_all asks_well (entries s) ≡ true
 unfolding entries
 asks_in = every_state (λ s. list_all asks_well (entries s)) refl
 
-abbrev NoCdata : List ℕ → Type 0
+abbrev pub NoCdata : List ℕ → Type 0
 NoCdata text = starts_with eqb text (codes "[CDATA[") ≡ false
 
 not_consumed : (on : On) (text : List ℕ) → is_cdata on ≡ true → NoCdata text → consumed on text ≡ None
@@ -78,18 +77,6 @@ same_taken b x m text (entry on guard acts goes ∷ es) all none =
     let parts : (asks_there guard on ≡ true) × (list_all asks_well es ≡ true) = and_parts (asks_there guard on) (list_all asks_well es) all in
     ap (λ other. taken_if b (consumed on text) guard acts goes m text other) (same_taken b x m text es parts.1 none) ∙ same_met b x guard on acts goes m text (taken x m text es) parts.0 none
 
-no_front : (text : List ℕ) → lacks_cdata text ≡ true → NoCdata text
-no_front [] h = refl
-no_front (c ∷ text) h = go (starts_with eqb (c ∷ text) (codes "[CDATA[")) (and_parts (not (starts_with eqb (c ∷ text) (codes "[CDATA["))) (lacks_cdata text) h).0
-  where
-    go : (x : Bool) → not x ≡ true → x ≡ false
-    go true e = absurd (true≢false (sym e))
-    go false e = refl
-
-pub same_step : (b x : Bool) (m : Machine) (text : List ℕ) → lacks_cdata text ≡ true → step b m text ≡ step x m text
+pub same_step : (b x : Bool) (m : Machine) (text : List ℕ) → NoCdata text → step b m text ≡ step x m text
 unfolding step
-same_step b x m text h = ap (step_by m text) (same_taken b x m text (entries m.state) (asks_in m.state) (no_front text h))
-
-pub lacks_rest : (front rest : List ℕ) → lacks_cdata (front ++ rest) ≡ true → lacks_cdata rest ≡ true
-lacks_rest [] rest h = h
-lacks_rest (c ∷ front) rest h = lacks_rest front rest (and_parts (not (starts_with eqb (c ∷ (front ++ rest)) (codes "[CDATA["))) (lacks_cdata (front ++ rest)) h).1
+same_step b x m text none = ap (step_by m text) (same_taken b x m text (entries m.state) (asks_in m.state) none)

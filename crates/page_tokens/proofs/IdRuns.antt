@@ -46,27 +46,27 @@ abbrev with_text : Machine → Id → Quote → Option (List ℕ) → Machine
 with_text m which mark text = holding m (doctype_state_of (doctype.Quoted which mark)) (with_id which text m.doctype)
 
 one_more : (b : Bool) (m : Machine) (which : Id) (mark : Quote) (text : Option (List ℕ)) (c : ℕ) (rest : List ℕ) → ends_run (run.DoctypeId which mark) c ≡ false →
-    Goes b (with_text m which mark text) (c ∷ rest) [] (with_text m which mark (with_more text (c ∷ []))) rest
+    Goes (with_text m which mark text) (c ∷ rest) [] (with_text m which mark (with_more text (c ∷ []))) rest
 one_more b m id.Public mark text c rest goes_on =
     let k : Machine = with_text m id.Public mark text in
     let inner : DoctypeState = doctype.Quoted id.Public mark in
     let steps : Comes b inner k [] rest c (its.IdLetter id.Public) = subst (Comes b inner k [] rest c) (letter_of id.Public mark c goes_on) (comes inner b k [] rest c refl) in
-    subst (λ d. Goes b k (c ∷ rest) [] (with_text m id.Public mark (with_more text (d ∷ []))) rest) (shown_same (ends_run (run.DoctypeId id.Public mark)) c goes_on (null_ends id.Public mark)) steps.0
+    subst (λ d. Goes k (c ∷ rest) [] (with_text m id.Public mark (with_more text (d ∷ []))) rest) (shown_same (ends_run (run.DoctypeId id.Public mark)) c goes_on (null_ends id.Public mark)) steps.0
 one_more b m id.System mark text c rest goes_on =
     let k : Machine = with_text m id.System mark text in
     let inner : DoctypeState = doctype.Quoted id.System mark in
     let steps : Comes b inner k [] rest c (its.IdLetter id.System) = subst (Comes b inner k [] rest c) (letter_of id.System mark c goes_on) (comes inner b k [] rest c refl) in
-    subst (λ d. Goes b k (c ∷ rest) [] (with_text m id.System mark (with_more text (d ∷ []))) rest) (shown_same (ends_run (run.DoctypeId id.System mark)) c goes_on (null_ends id.System mark)) steps.0
+    subst (λ d. Goes k (c ∷ rest) [] (with_text m id.System mark (with_more text (d ∷ []))) rest) (shown_same (ends_run (run.DoctypeId id.System mark)) c goes_on (null_ends id.System mark)) steps.0
 
 -- all of them
 all_more : (b : Bool) (m : Machine) (which : Id) (mark : Quote) (text : Option (List ℕ)) (cs rest : List ℕ) → 0 < length cs → NoneEnds (ends_run (run.DoctypeId which mark)) cs →
-    Goes b (with_text m which mark text) (cs ++ rest) [] (with_text m which mark (with_more text cs)) rest
+    Goes (with_text m which mark text) (cs ++ rest) [] (with_text m which mark (with_more text cs)) rest
 all_more b m which mark text [] rest some all = absurd (omega (arith, some))
 all_more b m which mark text (c ∷ cs) rest some all =
     let ends : ℕ → Bool = ends_run (run.DoctypeId which mark) in
     let parts : (ends c ≡ false) × NoneEnds ends cs = each ends c cs all in
     let front : List ℕ = unwrap_or text [] ++ c ∷ [] in
-    subst (λ d. Goes b (with_text m which mark text) (c ∷ (cs ++ rest)) [] (with_text m which mark (Some d)) rest) (append_assoc (unwrap_or text []) (c ∷ []) cs)
+    subst (λ d. Goes (with_text m which mark text) (c ∷ (cs ++ rest)) [] (with_text m which mark (Some d)) rest) (append_assoc (unwrap_or text []) (c ∷ []) cs)
     (then_on (one_more b m which mark text c (cs ++ rest) parts.0)
     (gathered_plain ends (λ d. with_text m which mark (Some d)) (λ d c rest goes_on. one_more b m which mark (Some d) c rest goes_on) front cs rest parts.1))
 
@@ -118,7 +118,7 @@ id_run old new which mark cs is adds some none all =
     let to : Appended old new which m.doctype cs = is_appended old new which m.doctype cs adds held.1 in
     record {
       machine = n;
-      goes = subst (λ front. Goes b m (front ++ cs ++ rest) [] n rest) (sym held.0)
-          (subst (λ k. Goes b k (cs ++ rest) [] n rest) (at_id m which mark (stands.state ∙ ap state_of is)) (all_more b m which mark text cs rest some all));
+      goes = subst (λ front. Goes m (front ++ cs ++ rest) [] n rest) (sym held.0)
+          (subst (λ k. Goes k (cs ++ rest) [] n rest) (at_id m which mark (stands.state ∙ ap state_of is)) (all_more b m which mark text cs rest some all));
       stands = record { reference = stands.reference; state = ap state_of (sym is); last_start = stands.last_start; held = subst (λ s. Held s made [] n) (sym is) (refl, to.doctype) };
     }))

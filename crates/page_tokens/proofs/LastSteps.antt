@@ -18,7 +18,6 @@ use Rattle.standard_tokens.specs.States.{State as StandardState}
 use Rattle.standard_tokens.specs.Table.{entries}
 use Rattle.standard_tokens.specs.Tokens.{Token as StandardToken, AChar, AComment, ADoctype, AStart, AnEnd}
 use Rattle.page_tokens.specs.Standard.{Goes, stays, steps}
-use Rattle.page_tokens.specs.StandardPages.{EmitsLast}
 use Rattle.page_tokens.proofs.EveryState.{every_state, is_state, same_state, third}
 use Rattle.page_tokens.proofs.StandardSteps.{in_its_state}
 use Rattle.page_tokens.proofs.TextFollows.{map_append}
@@ -315,10 +314,10 @@ pub step_split : (b : Bool) (m : Machine) (text : List ℕ) → Splits text (ste
 unfolding step
 step_split b m text = let t : Taken = taken b m text (entries m.state) in rest_split t.goes t.current text
 
-pub goes_split : {b : Bool} {m n : Machine} {text rest : List ℕ} {ts : List StandardToken} → Goes b m text ts n rest → Splits text rest
+pub goes_split : {m n : Machine} {text rest : List ℕ} {ts : List StandardToken} → Goes m text ts n rest → Splits text rest
 goes_split stays = record { front = []; is = refl }
-goes_split {b} {m} {n} {text} {rest} {ts} (steps s is runs goes) =
-    let one : Splits text s.rest = subst (λ (s : Step). Splits text s.rest) is (step_split b m text) in
+goes_split {m} {n} {text} {rest} {ts} (steps s is runs goes) =
+    let one : Splits text s.rest = subst (λ (s : Step). Splits text s.rest) (is false) (step_split false m text) in
     let more : Splits s.rest rest = goes_split goes in
     record { front = one.front ++ more.front; is = one.is ∙ ap (λ r. one.front ++ r) more.is ∙ sym (append_assoc one.front more.front rest) }
 
@@ -354,11 +353,11 @@ data_over b m text at_data =
 record Found (b : Bool) (m : Machine) (text cs : List ℕ) (token : StandardToken) (n : Machine) (rest : List ℕ) : Type 0 where
   pub before : Machine
   pub left : List ℕ
-  pub goes : Goes b m text (map AChar cs) before left
+  pub goes : Goes m text (map AChar cs) before left
   pub runs : (step b before left).stopped ≡ false
   pub marks : MarkStep (step b before left) left
   pub tokens : (step b before left).tokens ≡ token ∷ []
-  pub later : Goes b (step b before left).machine (step b before left).rest [] n rest
+  pub later : Goes (step b before left).machine (step b before left).rest [] n rest
 
 pub head_of : {A : Type 0} (x y : A) (xs ys : List A) → x ∷ xs ≡ y ∷ ys → x ≡ y
 head_of x y xs ys e = cc
@@ -404,7 +403,7 @@ alone one later (c ∷ cs) token mark e =
     let head : one ≡ AChar c = head_of one (AChar c) later (map AChar cs ++ token ∷ []) e in
     absurd (true≢false (sym mark ∙ ap is_no_char head))
 
-on_step : {b : Bool} {m n : Machine} {text rest : List ℕ} (s : Step) → step b m text ≡ s → s.stopped ≡ false → (later : List StandardToken) → Goes b s.machine s.rest later n rest → (cs : List ℕ) (token : StandardToken) →
+on_step : {b : Bool} {m n : Machine} {text rest : List ℕ} (s : Step) → ((x : Bool) → step x m text ≡ s) → s.stopped ≡ false → (later : List StandardToken) → Goes s.machine s.rest later n rest → (cs : List ℕ) (token : StandardToken) →
     is_no_char token ≡ true → s.tokens ++ later ≡ map AChar cs ++ token ∷ [] → ((es : List ℕ) → later ≡ map AChar es ++ token ∷ [] → Found b s.machine s.rest es token n rest) → AreShown s.tokens ⊎ MarkStep s text →
     Found b m text cs token n rest
 on_step {b} {m} {n} {text} {rest} s is runs later goes cs token mark e more (inl shows) =
@@ -413,7 +412,7 @@ on_step {b} {m} {n} {text} {rest} s is runs later goes cs token mark e more (inl
     record {
       before = found.before;
       left = found.left;
-      goes = subst (λ ts. Goes b m text ts found.before found.left) (ap (λ ts. ts ++ map AChar cut.more) shows.are ∙ sym (map_append AChar shows.characters cut.more) ∙ sym (ap (map AChar) cut.is)) (steps s is runs found.goes);
+      goes = subst (λ ts. Goes m text ts found.before found.left) (ap (λ ts. ts ++ map AChar cut.more) shows.are ∙ sym (map_append AChar shows.characters cut.more) ∙ sym (ap (map AChar) cut.is)) (steps s is runs found.goes);
       runs = found.runs;
       marks = found.marks;
       tokens = found.tokens;
@@ -424,24 +423,24 @@ on_step {b} {m} {n} {text} {rest} s is runs later goes cs token mark e more (inr
     record {
       before = m;
       left = text;
-      goes = subst (λ ds. Goes b m text (map AChar ds) m text) (sym first.none) stays;
-      runs = ap (λ (s : Step). s.stopped) is ∙ runs;
-      marks = subst (λ (s : Step). MarkStep s text) (sym is) marks;
-      tokens = ap (λ (s : Step). s.tokens) is ∙ marks.one.are ∙ ap (λ t. t ∷ []) first.same;
-      later = subst (λ (s : Step). Goes b s.machine s.rest [] n rest) (sym is) (subst (λ ts. Goes b s.machine s.rest ts n rest) first.last goes);
+      goes = subst (λ ds. Goes m text (map AChar ds) m text) (sym first.none) stays;
+      runs = ap (λ (s : Step). s.stopped) (is b) ∙ runs;
+      marks = subst (λ (s : Step). MarkStep s text) (sym (is b)) marks;
+      tokens = ap (λ (s : Step). s.tokens) (is b) ∙ marks.one.are ∙ ap (λ t. t ∷ []) first.same;
+      later = subst (λ (s : Step). Goes s.machine s.rest [] n rest) (sym (is b)) (subst (λ ts. Goes s.machine s.rest ts n rest) first.last goes);
     }
 
-find : {b : Bool} {m n : Machine} {text rest : List ℕ} {ts : List StandardToken} → Goes b m text ts n rest → (cs : List ℕ) (token : StandardToken) → is_no_char token ≡ true → ts ≡ map AChar cs ++ token ∷ [] → Found b m text cs token n rest
+find : {b : Bool} {m n : Machine} {text rest : List ℕ} {ts : List StandardToken} → Goes m text ts n rest → (cs : List ℕ) (token : StandardToken) → is_no_char token ≡ true → ts ≡ map AChar cs ++ token ∷ [] → Found b m text cs token n rest
 find stays cs token mark e = absurd (no_tokens cs token e)
 find {b} {m} {n} {text} {rest} {ts} (steps {tokens = later} s is runs goes) cs token mark e =
     on_step s is runs later goes cs token mark e (λ es same. find goes es token mark same)
-    (subst (λ (s : Step). s.stopped ≡ false → AreShown s.tokens ⊎ MarkStep s text) is (step_wanted b m text) runs)
+    (subst (λ (s : Step). s.stopped ≡ false → AreShown s.tokens ⊎ MarkStep s text) (is b) (step_wanted b m text) runs)
 
 -- where no character is left to read, no step follows
-stays_there : {b : Bool} {m n : Machine} {text rest : List ℕ} {ts : List StandardToken} → Goes b m text ts n rest → m.state ≡ there.Data → length text ≤ length rest → (m ≡ n) × (text ≡ rest)
+stays_there : {m n : Machine} {text rest : List ℕ} {ts : List StandardToken} → Goes m text ts n rest → m.state ≡ there.Data → length text ≤ length rest → (m ≡ n) × (text ≡ rest)
 stays_there stays at_data long = (refl, refl)
-stays_there {b} {m} {n} {text} {rest} {ts} (steps s is runs goes) at_data long =
-    let read : StepsOver text s.rest = subst (λ (s : Step). s.stopped ≡ false → StepsOver text s.rest) is (data_over b m text at_data) runs in
+stays_there {m} {n} {text} {rest} {ts} (steps s is runs goes) at_data long =
+    let read : StepsOver text s.rest = subst (λ (s : Step). s.stopped ≡ false → StepsOver text s.rest) (is false) (data_over false m text at_data) runs in
     let more : Splits s.rest rest = goes_split goes in
     let one : length text ≡ suc (length s.rest) = ap length read.is in
     let two : length s.rest ≡ length more.front + length rest = ap length more.is ∙ length-append more.front rest in
@@ -468,9 +467,20 @@ not_longer (f ∷ front) (a ∷ ahead) after tail c e lacks =
     let same : front ++ 62 ∷ after ≡ ahead ++ c ∷ tail = tail_of f a (front ++ 62 ∷ after) (ahead ++ c ∷ tail) e in
     not_longer front ahead after tail c same (and_parts (not (a == 62)) (lacks_greater ahead) lacks).1
 
+-- the token is emitted by the last step, whatever the flag is there
+pub record EmitsBy (b : Bool) (m : Machine) (text characters : List ℕ) (token : StandardToken) (n : Machine) (rest : List ℕ) : Type 0 where
+  pub before : Machine
+  pub left : List ℕ
+  pub goes : Goes m text (map AChar characters) before left
+  pub runs : (step b before left).stopped ≡ false
+  pub tokens : (step b before left).tokens ≡ token ∷ []
+  pub machine : (step b before left).machine ≡ n
+  pub rest_is : (step b before left).rest ≡ rest
+  pub leads : n.state ≡ there.Data
+
 -- A call that reads one character, of which no `>` was read ahead, emits the token by its last step.
-pub last_step : {b : Bool} {m n : Machine} {ts : List StandardToken} (ahead : List ℕ) (c : ℕ) (tail back cs : List ℕ) (token : StandardToken) → Goes b m (ahead ++ (c ∷ []) ++ tail) ts n (back ++ tail) →
-    ts ≡ map AChar cs ++ token ∷ [] → is_no_char token ≡ true → lacks_greater ahead ≡ true → EmitsLast b m (ahead ++ (c ∷ []) ++ tail) cs token n (back ++ tail)
+pub last_step : {b : Bool} {m n : Machine} {ts : List StandardToken} (ahead : List ℕ) (c : ℕ) (tail back cs : List ℕ) (token : StandardToken) → Goes m (ahead ++ (c ∷ []) ++ tail) ts n (back ++ tail) →
+    ts ≡ map AChar cs ++ token ∷ [] → is_no_char token ≡ true → lacks_greater ahead ≡ true → EmitsBy b m (ahead ++ (c ∷ []) ++ tail) cs token n (back ++ tail)
 last_step {b} {m} {n} {ts} ahead c tail back cs token goes are mark lacks =
     let found : Found b m (ahead ++ (c ∷ []) ++ tail) cs token n (back ++ tail) = find goes cs token mark are in
     let s : Step = step b found.before found.left in

@@ -18,6 +18,7 @@ mod DoctypeSteps
 mod EndTagSteps
 mod ErrorsApart
 mod EveryState
+mod FlagAsked
 mod FollowsOn
 mod ForeignFlag
 mod Fronts
@@ -54,6 +55,7 @@ mod RunLengths
 mod RunRead
 mod RunStates
 mod RunSteps
+mod RunsApart
 mod SameNames
 mod ScriptFollows
 mod ScriptSteps

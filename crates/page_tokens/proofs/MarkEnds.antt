@@ -33,7 +33,7 @@ use Rattle.page_tokens.proofs.PageEnds.{Stopping}
 use Rattle.page_tokens.proofs.StandardSteps.{by_entry, in_its_state, taking, then_on}
 use Rattle.page_tokens.proofs.WordSteps.{begun_fails}
 
-behind_steps : {b : Bool} {m n : Machine} {text : List ℕ} {tokens : List StandardToken} → Goes b m text [] n [] → Stopping b n [] [] [] tokens → Stopping b m text [] [] tokens
+behind_steps : {b : Bool} {m n : Machine} {text : List ℕ} {tokens : List StandardToken} → Goes m text [] n [] → Stopping b n [] [] [] tokens → Stopping b m text [] [] tokens
 behind_steps goes ends = record { machine = ends.machine; goes = then_on goes ends.goes; stops = ends.stops; emits = ends.emits }
 
 -- ---- behind `<!`
@@ -47,10 +47,10 @@ is_bogus : (b : Bool) (m : Machine) (ahead : List ℕ) → dashes ahead ≡ fals
     Stopping b (at_state m there.MarkupDeclarationOpen) ahead [] [] (AComment ahead ∷ [])
 is_bogus b m ahead one two three all =
     let M : Machine = at_state m there.MarkupDeclarationOpen in
-    let first : Goes b M ahead [] (commenting m there.BogusComment []) ahead =
-    by_entry M ahead (taking (NewComment ∷ []) (Reconsume there.BogusComment) (take 1 ahead)) (bogus_taken b M ahead one two three) refl in
-    let run : Goes b (commenting m there.BogusComment []) ahead [] (commenting m there.BogusComment ahead) [] =
-    subst (λ t. Goes b (commenting m there.BogusComment []) t [] (commenting m there.BogusComment ahead) []) (append-nil ahead) (bogus_run b m [] ahead [] all) in
+    let first : Goes M ahead [] (commenting m there.BogusComment []) ahead =
+    by_entry M ahead (taking (NewComment ∷ []) (Reconsume there.BogusComment) (take 1 ahead)) (λ x. bogus_taken x M ahead one two three) refl in
+    let run : Goes (commenting m there.BogusComment []) ahead [] (commenting m there.BogusComment ahead) [] =
+    subst (λ t. Goes (commenting m there.BogusComment []) t [] (commenting m there.BogusComment ahead) []) (append-nil ahead) (bogus_run b m [] ahead [] all) in
     behind_steps (then_on first run) (bogus_stops b m ahead)
 
 in_doctype_word : (b : Bool) (m : Machine) (ahead : List ℕ) (n : ℕ) → 0 < n → n < 7 → map to_ascii_lowercase ahead ≡ take n (codes "doctype") → Stopping b (at_state m there.MarkupDeclarationOpen) ahead [] [] (AComment ahead ∷ [])
@@ -90,7 +90,7 @@ declaration_ends old new s is only m ahead stands =
       characters = [];
       last = [];
       tokens = AComment ahead ∷ [];
-      goes = subst (λ k. Goes b k ahead [] ends.machine []) (in_its_state m there.MarkupDeclarationOpen (stands.state ∙ ap state_of is)) ends.goes;
+      goes = subst (λ k. Goes k ahead [] ends.machine []) (in_its_state m there.MarkupDeclarationOpen (stands.state ∙ ap state_of is)) ends.goes;
       stops = ends.stops;
       emits = ends.emits;
       text = ap text_of only ∙ sym (append-nil (text_of old));
@@ -114,9 +114,9 @@ unfolding step taken entries
 malformed_stops b m one = record { machine = holding m there.BogusDOCTYPE one; goes = stays; stops = refl; emits = refl }
 
 -- the letters of a keyword are no keyword
-run_out : (b : Bool) (m : Machine) (front : List ℕ) (one : StandardDoctype) → AllThemselves front → Goes b (holding m there.BogusDOCTYPE one) front [] (holding m there.BogusDOCTYPE one) []
+run_out : (b : Bool) (m : Machine) (front : List ℕ) (one : StandardDoctype) → AllThemselves front → Goes (holding m there.BogusDOCTYPE one) front [] (holding m there.BogusDOCTYPE one) []
 run_out b m front one all =
-    subst (λ t. Goes b (holding m there.BogusDOCTYPE one) t [] (holding m there.BogusDOCTYPE one) []) (append-nil front) (doctype_run b m front [] one all)
+    subst (λ t. Goes (holding m there.BogusDOCTYPE one) t [] (holding m there.BogusDOCTYPE one) []) (append-nil front) (doctype_run b m front [] one all)
 
 in_public : (b : Bool) (m : Machine) (ahead : List ℕ) (n : ℕ) → IsKeyword id.Public n ahead → Stopping b (behind_name m) ahead [] [] (ADoctype (quirky m.doctype) ∷ [])
 in_public b m ahead zero is = absurd (omega (arith, is.0))
@@ -127,7 +127,7 @@ in_public b m [] (suc n) is = absurd (none is.2)
 in_public b m (a ∷ ahead) (suc n) is =
     let low : to_ascii_lowercase a ≡ 112 = cc in
     behind_steps (then_on (by_entry (behind_name m) (a ∷ ahead) (taking (ForceQuirks ∷ []) (Reconsume there.BogusDOCTYPE) (a ∷ []))
-    (no_keyword_taken b (behind_name m) a ahead (first_is id.Public a low) (begun_fails to_ascii_lowercase (codes "PUBLIC") (a ∷ ahead) (suc n) is.2 is.1) (no_system a ahead low)) refl)
+    (λ x. no_keyword_taken x (behind_name m) a ahead (first_is id.Public a low) (begun_fails to_ascii_lowercase (codes "PUBLIC") (a ∷ ahead) (suc n) is.2 is.1) (no_system a ahead low)) refl)
     (run_out b m (a ∷ ahead) (quirky m.doctype) (lower_themselves (a ∷ ahead) (take (suc n) (codes "public")) is.2 (high_taken (suc n) (codes "public") (keyword_high id.Public)))))
     (malformed_stops b m (quirky m.doctype))
 
@@ -140,7 +140,7 @@ in_system b m [] (suc n) is = absurd (none is.2)
 in_system b m (a ∷ ahead) (suc n) is =
     let low : to_ascii_lowercase a ≡ 115 = cc in
     behind_steps (then_on (by_entry (behind_name m) (a ∷ ahead) (taking (ForceQuirks ∷ []) (Reconsume there.BogusDOCTYPE) (a ∷ []))
-    (no_keyword_taken b (behind_name m) a ahead (first_is id.System a low) (no_public a ahead low) (begun_fails to_ascii_lowercase (codes "SYSTEM") (a ∷ ahead) (suc n) is.2 is.1)) refl)
+    (λ x. no_keyword_taken x (behind_name m) a ahead (first_is id.System a low) (no_public a ahead low) (begun_fails to_ascii_lowercase (codes "SYSTEM") (a ∷ ahead) (suc n) is.2 is.1)) refl)
     (run_out b m (a ∷ ahead) (quirky m.doctype) (lower_themselves (a ∷ ahead) (take (suc n) (codes "system")) is.2 (high_taken (suc n) (codes "system") (keyword_high id.System)))))
     (malformed_stops b m (quirky m.doctype))
 
@@ -197,7 +197,7 @@ doctype_ends old new inner is only m ahead stands =
       characters = [];
       last = [];
       tokens = ADoctype (ended_there inner m.doctype) ∷ [];
-      goes = subst (λ k. Goes b k ahead [] ends.machine []) (in_its_state m (doctype_state_of inner) (stands.state ∙ ap state_of is)) ends.goes;
+      goes = subst (λ k. Goes k ahead [] ends.machine []) (in_its_state m (doctype_state_of inner) (stands.state ∙ ap state_of is)) ends.goes;
       stops = ends.stops;
       emits = ends.emits;
       text = ap text_of only ∙ sym (append-nil (text_of old));

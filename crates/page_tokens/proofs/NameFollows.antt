@@ -78,7 +78,7 @@ goes_on_arm old new found more c is_part extended part goes none =
           };
     })
   where
-    stays_here : (b : Bool) (m : Machine) (text : List ℕ) → Goes b m text [] m text
+    stays_here : (b : Bool) (m : Machine) (text : List ℕ) → Goes m text [] m text
     stays_here b m text = stays
 
 -- ---- after steps in front of the character
@@ -88,13 +88,13 @@ more_text before mid after front back one two =
     two ∙ ap (λ e. e ++ encode_utf8_all back) one ∙ append_assoc before (encode_utf8_all front) (encode_utf8_all back) ∙ ap (λ e. before ++ e) (sym (encodes-append front back))
 
 -- the character is read after steps that emit characters
-then_reads : (old mid new : Tokenizer) (c : ℕ) (is_part : Bool) (m n : Machine) (ahead rest characters : List ℕ) → Goes old.in_foreign m (ahead ++ c ∷ rest) (map AChar characters) n (c ∷ rest) → mid.in_foreign ≡ old.in_foreign →
+then_reads : (old mid new : Tokenizer) (c : ℕ) (is_part : Bool) (m n : Machine) (ahead rest characters : List ℕ) → Goes m (ahead ++ c ∷ rest) (map AChar characters) n (c ∷ rest) → mid.in_foreign ≡ old.in_foreign →
     text_of mid ≡ text_of old ++ encode_utf8_all characters → ReadsOrEnds is_part mid new c n [] rest → ReadsOrEnds is_part old new c m ahead rest
 then_reads old mid new c true m n ahead rest characters goes same text reads =
     let b : Bool = old.in_foreign in
-    let first : Goes b m (ahead ++ (c ∷ []) ++ rest) (map AChar characters) n (c ∷ rest) = subst (λ t. Goes b m t (map AChar characters) n (c ∷ rest)) (sym (append_assoc ahead (c ∷ []) rest)) goes in
-    let later : Goes b n (c ∷ rest) (map AChar reads.characters ++ reads.tokens) reads.machine (reads.ahead' ++ rest) =
-    subst (λ b. Goes b n (c ∷ rest) (map AChar reads.characters ++ reads.tokens) reads.machine (reads.ahead' ++ rest)) same reads.goes in
+    let first : Goes m (ahead ++ (c ∷ []) ++ rest) (map AChar characters) n (c ∷ rest) = subst (λ t. Goes m t (map AChar characters) n (c ∷ rest)) (sym (append_assoc ahead (c ∷ []) rest)) goes in
+    let later : Goes n (c ∷ rest) (map AChar reads.characters ++ reads.tokens) reads.machine (reads.ahead' ++ rest) =
+    subst (λ b. Goes n (c ∷ rest) (map AChar reads.characters ++ reads.tokens) reads.machine (reads.ahead' ++ rest)) same reads.goes in
     let all : map AChar characters ++ (map AChar reads.characters ++ reads.tokens) ≡ map AChar (characters ++ reads.characters) ++ reads.tokens =
     sym (append_assoc (map AChar characters) (map AChar reads.characters) reads.tokens) ∙ ap (λ ts. ts ++ reads.tokens) (sym (map-append AChar characters reads.characters)) in
     record {
@@ -102,18 +102,18 @@ then_reads old mid new c true m n ahead rest characters goes same text reads =
       ahead' = reads.ahead';
       characters = characters ++ reads.characters;
       tokens = reads.tokens;
-      goes = subst (λ ts. Goes b m (ahead ++ (c ∷ []) ++ rest) ts reads.machine (reads.ahead' ++ rest)) all (then_on first later);
+      goes = subst (λ ts. Goes m (ahead ++ (c ∷ []) ++ rest) ts reads.machine (reads.ahead' ++ rest)) all (then_on first later);
       holds = reads.holds;
       text = more_text (text_of old) (text_of mid) (text_of new) characters reads.characters text reads.text;
       ends = reads.ends;
     }
 then_reads old mid new c false m n ahead rest characters goes same text reads =
     let b : Bool = old.in_foreign in
-    let later : Goes b n (c ∷ rest) (map AChar reads.characters) reads.machine (c ∷ rest) = subst (λ b. Goes b n (c ∷ rest) (map AChar reads.characters) reads.machine (c ∷ rest)) same reads.goes in
+    let later : Goes n (c ∷ rest) (map AChar reads.characters) reads.machine (c ∷ rest) = subst (λ b. Goes n (c ∷ rest) (map AChar reads.characters) reads.machine (c ∷ rest)) same reads.goes in
     record {
       machine = reads.machine;
       characters = characters ++ reads.characters;
-      goes = subst (λ ts. Goes b m (ahead ++ c ∷ rest) ts reads.machine (c ∷ rest)) (sym (map-append AChar characters reads.characters)) (then_on goes later);
+      goes = subst (λ ts. Goes m (ahead ++ c ∷ rest) ts reads.machine (c ∷ rest)) (sym (map-append AChar characters reads.characters)) (then_on goes later);
       stands = reads.stands;
       text = more_text (text_of old) (text_of mid) (text_of new) characters reads.characters text reads.text;
     }
@@ -132,8 +132,8 @@ begins_arm old mid new found c is_part letter read only empty follows is none =
       reads = λ m ahead rest stands.
           let here : At old reference.Begun ahead m = at old reference.Begun ahead m is stands in
           let n : Machine = named (codes "&") m in
-          let goes : Goes old.in_foreign m (ahead ++ c ∷ rest) [] n (c ∷ rest) =
-          subst (λ t. Goes old.in_foreign m t [] n (c ∷ rest)) (append_assoc ahead (c ∷ []) rest) (placed m there.CharacterReference c ahead rest here.state here.inside.0 (name_begins old.in_foreign m c rest (letter_of c letter))) in
+          let goes : Goes m (ahead ++ c ∷ rest) [] n (c ∷ rest) =
+          subst (λ t. Goes m t [] n (c ∷ rest)) (append_assoc ahead (c ∷ []) rest) (placed m there.CharacterReference c ahead rest here.state here.inside.0 (name_begins old.in_foreign m c rest (letter_of c letter))) in
           let outside : Outside made n = record { back = here.outside.back; last_start = here.outside.last_start; place = here.outside.place } in
           let on : StandsInReference made [] n = stands_in made [] n outside refl (sym read, refl, here.inside.1, empty ∙ ap encode_utf8_all (sym after_nothing)) in
           then_reads old (with_name mid found) new c is_part m n ahead rest [] goes (ap (λ t. t.in_foreign) only) (ap text_of only ∙ sym (append-nil (text_of old)))
@@ -161,7 +161,7 @@ same_back false put m = refl
 
 -- the buffer is flushed, and the letters and digits after the name are read
 in_front : (old new : Tokenizer) (m k : Machine) (ahead after tail : List ℕ) → Outside old k → list_all is_ascii_alphanumeric after ≡ true → EndsReference old new (encode_utf8_all (k.buffer ++ after)) →
-    Goes old.in_foreign m (ahead ++ tail) (emitted [] Flush k ++ []) (flushing k) (after ++ tail) → InFront old new m ahead tail
+    Goes m (ahead ++ tail) (emitted [] Flush k ++ []) (flushing k) (after ++ tail) → InFront old new m ahead tail
 in_front old new m k ahead after tail outside letters ends goes =
     let b : Bool = old.in_foreign in
     let v : Bool = is_value k.return_state in
@@ -169,13 +169,13 @@ in_front old new m k ahead after tail outside letters ends goes =
     let n : Machine = at_state (put_if v put k) k.return_state in
     let there : PutsThere old new k put = puts_there old new k put outside ends in
     let r : PlaceReads k = place_reads old k outside in
-    let first : Goes b m (ahead ++ tail) (emitted [] Flush k ++ []) (at_state (put_if v k.buffer k) k.return_state) (after ++ tail) =
-    subst (λ s. Goes b m (ahead ++ tail) (emitted [] Flush k ++ []) (at_state (put_if v k.buffer k) s) (after ++ tail)) (same_back v k.buffer k) goes in
-    let all : Goes b m (ahead ++ tail) (shown_if v put) n tail = letters_behind r.in_value k.return_state r.reads b m k (ahead ++ tail) after tail r.is letters first in
+    let first : Goes m (ahead ++ tail) (emitted [] Flush k ++ []) (at_state (put_if v k.buffer k) k.return_state) (after ++ tail) =
+    subst (λ s. Goes m (ahead ++ tail) (emitted [] Flush k ++ []) (at_state (put_if v k.buffer k) s) (after ++ tail)) (same_back v k.buffer k) goes in
+    let all : Goes m (ahead ++ tail) (shown_if v put) n tail = letters_behind r.in_value k.return_state r.reads b m k (ahead ++ tail) after tail r.is letters first in
     record {
       machine = n;
       characters = there.characters;
-      goes = subst (λ ts. Goes b m (ahead ++ tail) ts n tail) there.shows all;
+      goes = subst (λ ts. Goes m (ahead ++ tail) ts n tail) there.shows all;
       stands = stands_out new n (ends_none old new (encode_utf8_all put) ends) (sym (same_back v put k) ∙ there.outside.back) (outside_at new (put_if v put k) k.return_state there.outside);
       text = there.text;
     }
@@ -189,16 +189,16 @@ name_in_front old new m ahead tail value true f outside state written behind let
     let rest : drop (length f.name) (ahead ++ tail) ≡ after_name ahead ++ tail = rest_after ahead f.name tail f.longest in
     in_front old new m k ahead (after_name ahead) tail (outside_on old m there.NamedCharacterReference k.buffer m.code outside) letters
     (subst (EndsReference old new) (written_parts (string_bytes old.written) ahead f.name m.buffer f.longest written) ends)
-    (subst (λ from. Goes old.in_foreign from (ahead ++ tail) (emitted [] Flush k ++ []) (flushing k) (after_name ahead ++ tail)) (in_its_state m there.NamedCharacterReference state)
-    (subst (λ t. Goes old.in_foreign (named m.buffer m) (ahead ++ tail) (emitted [] Flush k ++ []) (flushing k) t) rest
+    (subst (λ from. Goes from (ahead ++ tail) (emitted [] Flush k ++ []) (flushing k) (after_name ahead ++ tail)) (in_its_state m there.NamedCharacterReference state)
+    (subst (λ t. Goes (named m.buffer m) (ahead ++ tail) (emitted [] Flush k ++ []) (flushing k) t) rest
     (part_of_word old.in_foreign m (ahead ++ tail) f.name (settled ∙ f.longest) (ap (is_historical m f.name) rest ∙ test))))
 name_in_front old new m ahead tail value false f outside state written behind letters settled test ends =
     let k : Machine = named (value_of f.name) m in
     let rest : drop (length f.name) (ahead ++ tail) ≡ after_name ahead ++ tail = rest_after ahead f.name tail f.longest in
     in_front old new m k ahead (after_name ahead) tail (outside_on old m there.NamedCharacterReference k.buffer m.code outside) letters
     (subst (EndsReference old new) (meant_parts old value ahead f.name f.means behind) ends)
-    (subst (λ from. Goes old.in_foreign from (ahead ++ tail) (emitted [] Flush k ++ []) (flushing k) (after_name ahead ++ tail)) (in_its_state m there.NamedCharacterReference state)
-    (subst (λ t. Goes old.in_foreign (named m.buffer m) (ahead ++ tail) (emitted [] Flush k ++ []) (flushing k) t) rest
+    (subst (λ from. Goes from (ahead ++ tail) (emitted [] Flush k ++ []) (flushing k) (after_name ahead ++ tail)) (in_its_state m there.NamedCharacterReference state)
+    (subst (λ t. Goes (named m.buffer m) (ahead ++ tail) (emitted [] Flush k ++ []) (flushing k) t) rest
     (name_means old.in_foreign m (ahead ++ tail) f.name (settled ∙ f.longest) (ap (is_historical m f.name) rest ∙ test))))
 
 -- what the match says of the characters that were read
@@ -277,11 +277,11 @@ ambiguous_arm old mid new found c is_part empty settled ends follows none =
           let put : List ℕ = k.buffer ++ ahead in
           let n : Machine = at_state (put_if v put k) there.AmbiguousAmpersand in
           let puts : PutsThere base mid k put = puts_there base mid k put (outside_on base m there.NamedCharacterReference m.buffer m.code here.outside) (subst (EndsReference base mid) here.inside.2 e) in
-          let first : Goes b m (ahead ++ c ∷ rest) (emitted [] Flush k ++ []) (at_state (put_if v k.buffer k) there.AmbiguousAmpersand) (ahead ++ c ∷ rest) =
-          subst (λ from. Goes b from (ahead ++ c ∷ rest) (emitted [] Flush k ++ []) (at_state (put_if v k.buffer k) there.AmbiguousAmpersand) (ahead ++ c ∷ rest)) (in_its_state m there.NamedCharacterReference here.state)
+          let first : Goes m (ahead ++ c ∷ rest) (emitted [] Flush k ++ []) (at_state (put_if v k.buffer k) there.AmbiguousAmpersand) (ahead ++ c ∷ rest) =
+          subst (λ from. Goes from (ahead ++ c ∷ rest) (emitted [] Flush k ++ []) (at_state (put_if v k.buffer k) there.AmbiguousAmpersand) (ahead ++ c ∷ rest)) (in_its_state m there.NamedCharacterReference here.state)
           (no_name b m (ahead ++ c ∷ rest) (known.settled rest ∙ nothing)) in
-          let all : Goes b m (ahead ++ c ∷ rest) (shown_if v put) n (c ∷ rest) = letters_behind v there.AmbiguousAmpersand (ambiguous_letters v) b m k (ahead ++ c ∷ rest) ahead (c ∷ rest) refl letters first in
+          let all : Goes m (ahead ++ c ∷ rest) (shown_if v put) n (c ∷ rest) = letters_behind v there.AmbiguousAmpersand (ambiguous_letters v) b m k (ahead ++ c ∷ rest) ahead (c ∷ rest) refl letters first in
           let outside : Outside made n = record { back = puts.outside.back; last_start = puts.outside.last_start; place = puts.outside.place } in
-          then_reads base made new c is_part m n ahead rest puts.characters (subst (λ ts. Goes b m (ahead ++ c ∷ rest) ts n (c ∷ rest)) puts.shows all) left.in_foreign puts.text
+          then_reads base made new c is_part m n ahead rest puts.characters (subst (λ ts. Goes m (ahead ++ c ∷ rest) ts n (c ∷ rest)) puts.shows all) left.in_foreign puts.text
           (f.reads n [] rest (stands_in made [] n outside refl refl));
     }

@@ -33,19 +33,19 @@ abbrev pub is_historical : Machine → List ℕ → List ℕ → Bool
 is_historical m name rest = is_value m.return_state && ends_open name && goes_on rest
 
 pub part_of_word : (b : Bool) (m : Machine) (text name : List ℕ) → longest_name text ≡ Some name → is_historical m name (drop (length name) text) ≡ true →
-    Goes b (named m.buffer m) text (emitted [] Flush (named (m.buffer ++ name) m) ++ []) (flushing (named (m.buffer ++ name) m)) (drop (length name) text)
+    Goes (named m.buffer m) text (emitted [] Flush (named (m.buffer ++ name) m) ++ []) (flushing (named (m.buffer ++ name) m)) (drop (length name) text)
 unfolding taken entries
-part_of_word b m text name longest test = by_entry (named m.buffer m) text (taking (Add Buffer Current ∷ Flush ∷ []) SwitchBack name) (rw (longest, test) refl) refl
+part_of_word b m text name longest test = by_entry (named m.buffer m) text (taking (Add Buffer Current ∷ Flush ∷ []) SwitchBack name) (λ x. rw (longest, test) refl) refl
 
 pub name_means : (b : Bool) (m : Machine) (text name : List ℕ) → longest_name text ≡ Some name → is_historical m name (drop (length name) text) ≡ false →
-    Goes b (named m.buffer m) text (emitted [] Flush (named (value_of name) m) ++ []) (flushing (named (value_of name) m)) (drop (length name) text)
+    Goes (named m.buffer m) text (emitted [] Flush (named (value_of name) m) ++ []) (flushing (named (value_of name) m)) (drop (length name) text)
 unfolding taken entries
-name_means b m text name longest test = by_entry (named m.buffer m) text (taking (BufferName ∷ Flush ∷ []) SwitchBack name) (rw (longest, test) refl) refl
+name_means b m text name longest test = by_entry (named m.buffer m) text (taking (BufferName ∷ Flush ∷ []) SwitchBack name) (λ x. rw (longest, test) refl) refl
 
 pub no_name : (b : Bool) (m : Machine) (text : List ℕ) → longest_name text ≡ None →
-    Goes b (named m.buffer m) text (emitted [] Flush (named m.buffer m) ++ []) (at_state (flushing (named m.buffer m)) there.AmbiguousAmpersand) text
+    Goes (named m.buffer m) text (emitted [] Flush (named m.buffer m) ++ []) (at_state (flushing (named m.buffer m)) there.AmbiguousAmpersand) text
 unfolding taken entries
-no_name b m text longest = by_entry (named m.buffer m) text (taking (Flush ∷ []) (Reconsume there.AmbiguousAmpersand) (take 1 text)) (rw longest refl) refl
+no_name b m text longest = by_entry (named m.buffer m) text (taking (Flush ∷ []) (Reconsume there.AmbiguousAmpersand) (take 1 text)) (λ x. rw longest refl) refl
 
 -- letters and digits in the ambiguous ampersand state
 pub ambiguous_letters : (in_value : Bool) → ReadsLetters in_value there.AmbiguousAmpersand

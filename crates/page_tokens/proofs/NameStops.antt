@@ -97,16 +97,16 @@ none_stops old new found is no_value ends =
           let n : Machine = at_state (put_if v put k) k.return_state in
           let written : EndsReference old new (encode_utf8_all put) = subst (EndsReference old new) here.inside.2 e in
           let puts : PutsThere old new k put = puts_there old new k put (outside_on old m there.NamedCharacterReference m.buffer m.code here.outside) written in
-          let first : Goes b m (ahead ++ []) (emitted [] Flush k ++ []) (at_state (put_if v k.buffer k) there.AmbiguousAmpersand) (ahead ++ []) =
-          subst (λ from. Goes b from (ahead ++ []) (emitted [] Flush k ++ []) (at_state (put_if v k.buffer k) there.AmbiguousAmpersand) (ahead ++ [])) (in_its_state m there.NamedCharacterReference here.state)
+          let first : Goes m (ahead ++ []) (emitted [] Flush k ++ []) (at_state (put_if v k.buffer k) there.AmbiguousAmpersand) (ahead ++ []) =
+          subst (λ from. Goes from (ahead ++ []) (emitted [] Flush k ++ []) (at_state (put_if v k.buffer k) there.AmbiguousAmpersand) (ahead ++ [])) (in_its_state m there.NamedCharacterReference here.state)
           (no_name b m (ahead ++ []) (ap longest_name (append-nil ahead) ∙ nothing)) in
-          let all : Goes b m (ahead ++ []) (shown_if v put) (at_state (put_if v put k) there.AmbiguousAmpersand) [] = letters_behind v there.AmbiguousAmpersand (ambiguous_letters v) b m k (ahead ++ []) ahead [] refl letters first in
-          let back : Goes b (at_state (put_if v put k) there.AmbiguousAmpersand) [] [] n [] =
-          subst (λ s. Goes b (at_state (put_if v put k) there.AmbiguousAmpersand) [] [] (at_state (put_if v put k) s) []) (same_back v put k) (letters_end b (put_if v put k)) in
+          let all : Goes m (ahead ++ []) (shown_if v put) (at_state (put_if v put k) there.AmbiguousAmpersand) [] = letters_behind v there.AmbiguousAmpersand (ambiguous_letters v) b m k (ahead ++ []) ahead [] refl letters first in
+          let back : Goes (at_state (put_if v put k) there.AmbiguousAmpersand) [] [] n [] =
+          subst (λ s. Goes (at_state (put_if v put k) there.AmbiguousAmpersand) [] [] (at_state (put_if v put k) s) []) (same_back v put k) (letters_end b (put_if v put k)) in
           record {
             machine = n;
             characters = puts.characters;
-            goes = subst (λ ts. Goes b m (ahead ++ []) ts n []) (append-nil (shown_if v put) ∙ puts.shows) (then_on all back);
+            goes = subst (λ ts. Goes m (ahead ++ []) ts n []) (append-nil (shown_if v put) ∙ puts.shows) (then_on all back);
             stands = stands_out new n (ends_none old new (encode_utf8_all put) written) (sym (same_back v put k) ∙ puts.outside.back) (outside_at new (put_if v put k) k.return_state puts.outside);
             text = puts.text;
           };

@@ -28,7 +28,7 @@ use Rattle.page_tokens.proofs.StandardSteps.{in_its_state}
 pub record Continues (old made : Tokenizer) (m : Machine) (text rest : List ℕ) : Type 0 where
   pub machine : Machine
   pub ahead : List ℕ
-  pub goes : Goes old.in_foreign m text [] machine (ahead ++ rest)
+  pub goes : Goes m text [] machine (ahead ++ rest)
   pub outside : Outside old machine
   pub state : machine.state ≡ state_in made.reference old.state
   pub inside : ReferenceHeld made.reference made ahead machine
@@ -56,16 +56,16 @@ writes_on old new next more c writes continues = record {
 }
 
 -- a step from the state in which the machine stands, with nothing read ahead
-pub placed : {b : Bool} {ts : List StandardToken} {n : Machine} {behind : List ℕ} (m : Machine) (s : StandardState) (c : ℕ) (ahead rest : List ℕ) → m.state ≡ s → ahead ≡ [] →
-    Goes b (at_state m s) (c ∷ rest) ts n behind → Goes b m (ahead ++ (c ∷ []) ++ rest) ts n behind
-placed {b} {ts} {n} {behind} m s c ahead rest at nothing goes =
-    subst (λ front. Goes b m (front ++ (c ∷ []) ++ rest) ts n behind) (sym nothing) (subst (λ k. Goes b k (c ∷ rest) ts n behind) (in_its_state m s at) goes)
+pub placed : {ts : List StandardToken} {n : Machine} {behind : List ℕ} (m : Machine) (s : StandardState) (c : ℕ) (ahead rest : List ℕ) → m.state ≡ s → ahead ≡ [] →
+    Goes (at_state m s) (c ∷ rest) ts n behind → Goes m (ahead ++ (c ∷ []) ++ rest) ts n behind
+placed {ts} {n} {behind} m s c ahead rest at nothing goes =
+    subst (λ front. Goes m (front ++ (c ∷ []) ++ rest) ts n behind) (sym nothing) (subst (λ k. Goes k (c ∷ rest) ts n behind) (in_its_state m s at) goes)
 
 -- ---- the reference ends
 
 -- the text behind what ends a reference: a character that is part of it, or else not
 pub ended : (old new : Tokenizer) (c : ℕ) (is_part : Bool) (put : List ℕ) → EndsReference old new put →
-    ((m : Machine) (ahead rest : List ℕ) → StandsInReference old ahead m → Flushed old new (λ ts n. Goes old.in_foreign m (ahead ++ (c ∷ []) ++ rest) ts n (behind_number is_part c rest))) →
+    ((m : Machine) (ahead rest : List ℕ) → StandsInReference old ahead m → Flushed old new (λ ts n. Goes m (ahead ++ (c ∷ []) ++ rest) ts n (behind_number is_part c rest))) →
     ReadsReference old new c is_part
 ended old new c is_part put ends flushes = record {
   memory = ends.memory;
@@ -73,13 +73,13 @@ ended old new c is_part put ends flushes = record {
   reads = λ m ahead rest stands. go is_part m ahead rest (flushes m ahead rest stands);
 }
   where
-    go : (is_part : Bool) (m : Machine) (ahead rest : List ℕ) → Flushed old new (λ ts n. Goes old.in_foreign m (ahead ++ (c ∷ []) ++ rest) ts n (behind_number is_part c rest)) → ReadsOrEnds is_part old new c m ahead rest
+    go : (is_part : Bool) (m : Machine) (ahead rest : List ℕ) → Flushed old new (λ ts n. Goes m (ahead ++ (c ∷ []) ++ rest) ts n (behind_number is_part c rest)) → ReadsOrEnds is_part old new c m ahead rest
     go true m ahead rest f = record {
       machine = f.machine;
       ahead' = [];
       characters = f.characters;
       tokens = [];
-      goes = subst (λ ts. Goes old.in_foreign m (ahead ++ (c ∷ []) ++ rest) ts f.machine rest) (sym (append-nil (map AChar f.characters))) f.goes;
+      goes = subst (λ ts. Goes m (ahead ++ (c ∷ []) ++ rest) ts f.machine rest) (sym (append-nil (map AChar f.characters))) f.goes;
       holds = inl f.stands;
       text = f.text;
       ends = refl;
@@ -87,7 +87,7 @@ ended old new c is_part put ends flushes = record {
     go false m ahead rest f = record {
       machine = f.machine;
       characters = f.characters;
-      goes = subst (λ text. Goes old.in_foreign m text (map AChar f.characters) f.machine (c ∷ rest)) (append_assoc ahead (c ∷ []) rest) f.goes;
+      goes = subst (λ text. Goes m text (map AChar f.characters) f.machine (c ∷ rest)) (append_assoc ahead (c ∷ []) rest) f.goes;
       stands = f.stands;
       text = f.text;
     }
@@ -190,19 +190,19 @@ hex_arm old new c is_part is x part writes none =
 
 -- the number ends
 number_flushed : (old new : Tokenizer) (c number : ℕ) (r : Reference) → DigitsFollow r c → (digit_value c < base_of r → ⊥) → number_of r ≡ Some number → EndsReference old new (encode_utf8 (character_of number)) →
-    (m : Machine) (ahead rest : List ℕ) → At old r ahead m → Flushed old new (λ ts n. Goes old.in_foreign m (ahead ++ (c ∷ []) ++ rest) ts n (behind_number (c == 59) c rest))
+    (m : Machine) (ahead rest : List ℕ) → At old r ahead m → Flushed old new (λ ts n. Goes m (ahead ++ (c ∷ []) ++ rest) ts n (behind_number (c == 59) c rest))
 number_flushed old new c number (reference.Hex value) follow other is ends m ahead rest here =
     let same : number ≡ value = cc in
     let bytes : encode_utf8 (character_of number) ≡ encode_utf8_all (numbered m).buffer =
     ap (λ n. encode_utf8 (character_of n)) (same ∙ here.inside.1) ∙ ap encode_utf8 (same_character m.code) ∙ sym (append-nil (encode_utf8 (character_of m.code))) in
-    flushed old new (numbered m) (λ ts n. Goes old.in_foreign m (ahead ++ (c ∷ []) ++ rest) ts n (behind_number (c == 59) c rest))
+    flushed old new (numbered m) (λ ts n. Goes m (ahead ++ (c ∷ []) ++ rest) ts n (behind_number (c == 59) c rest))
     (outside_on old m there.NumericCharacterReferenceEnd (numbered m).buffer m.code here.outside) (subst (EndsReference old new) bytes ends)
     (placed m there.HexadecimalCharacterReference c ahead rest here.state here.inside.0 (hex_ends old.in_foreign m c rest (no_hex c other)))
 number_flushed old new c number (reference.Decimal value) follow other is ends m ahead rest here =
     let same : number ≡ value = cc in
     let bytes : encode_utf8 (character_of number) ≡ encode_utf8_all (numbered m).buffer =
     ap (λ n. encode_utf8 (character_of n)) (same ∙ here.inside.1) ∙ ap encode_utf8 (same_character m.code) ∙ sym (append-nil (encode_utf8 (character_of m.code))) in
-    flushed old new (numbered m) (λ ts n. Goes old.in_foreign m (ahead ++ (c ∷ []) ++ rest) ts n (behind_number (c == 59) c rest))
+    flushed old new (numbered m) (λ ts n. Goes m (ahead ++ (c ∷ []) ++ rest) ts n (behind_number (c == 59) c rest))
     (outside_on old m there.NumericCharacterReferenceEnd (numbered m).buffer m.code here.outside) (subst (EndsReference old new) bytes ends)
     (placed m there.DecimalCharacterReference c ahead rest here.state here.inside.0 (decimal_ends old.in_foreign m c rest (no_digit c other)))
 number_flushed old new c number reference.Number follow other is ends m ahead rest here = absurd (cc)
@@ -222,13 +222,13 @@ number_arm old new c number base is_part base_is no_base is_number part ends fol
 
 -- no number follows
 none_flushed : (old new : Tokenizer) (c : ℕ) (r : Reference) → DigitsFollow r c → (digit_value c < base_of r → ⊥) → number_of r ≡ None → EndsReference old new (string_bytes old.written) →
-    (m : Machine) (ahead rest : List ℕ) → At old r ahead m → Flushed old new (λ ts n. Goes old.in_foreign m (ahead ++ (c ∷ []) ++ rest) ts n (c ∷ rest))
+    (m : Machine) (ahead rest : List ℕ) → At old r ahead m → Flushed old new (λ ts n. Goes m (ahead ++ (c ∷ []) ++ rest) ts n (c ∷ rest))
 none_flushed old new c reference.Number follow other is ends m ahead rest here =
-    flushed old new (coded m there.DecimalCharacterReferenceStart 0) (λ ts n. Goes old.in_foreign m (ahead ++ (c ∷ []) ++ rest) ts n (c ∷ rest))
+    flushed old new (coded m there.DecimalCharacterReferenceStart 0) (λ ts n. Goes m (ahead ++ (c ∷ []) ++ rest) ts n (c ∷ rest))
     (outside_on old m there.DecimalCharacterReferenceStart m.buffer 0 here.outside) (subst (EndsReference old new) here.inside.1 ends)
     (placed m there.NumericCharacterReference c ahead rest here.state here.inside.0 (no_decimal old.in_foreign m c rest follow.0 follow.1 (no_digit c other)))
 none_flushed old new c reference.HexStart follow other is ends m ahead rest here =
-    flushed old new (at_state m there.HexadecimalCharacterReferenceStart) (λ ts n. Goes old.in_foreign m (ahead ++ (c ∷ []) ++ rest) ts n (c ∷ rest))
+    flushed old new (at_state m there.HexadecimalCharacterReferenceStart) (λ ts n. Goes m (ahead ++ (c ∷ []) ++ rest) ts n (c ∷ rest))
     (outside_on old m there.HexadecimalCharacterReferenceStart m.buffer m.code here.outside) (subst (EndsReference old new) here.inside.1 ends)
     (placed m there.HexadecimalCharacterReferenceStart c ahead rest here.state here.inside.0 (no_hexadecimal old.in_foreign m c rest (no_hex c other)))
 none_flushed old new c (reference.Hex value) follow other is ends m ahead rest here = absurd (cc)

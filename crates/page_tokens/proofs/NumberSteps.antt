@@ -65,80 +65,80 @@ abbrev pub coded : Machine → StandardState → ℕ → Machine
 coded m state n = record m { state = state; code = n }
 
 pub hex_step : (b : Bool) (m : Machine) (n c d : ℕ) (rest : List ℕ) → HexDigit c d →
-    Goes b (coded m there.HexadecimalCharacterReference n) (c ∷ rest) [] (coded m there.HexadecimalCharacterReference (n * 16 + d)) rest
+    Goes (coded m there.HexadecimalCharacterReference n) (c ∷ rest) [] (coded m there.HexadecimalCharacterReference (n * 16 + d)) rest
 unfolding taken entries
 hex_step b m n c d rest (decimal is value) =
-    subst (λ e. Goes b (coded m there.HexadecimalCharacterReference n) (c ∷ rest) [] (coded m there.HexadecimalCharacterReference (n * 16 + e)) rest) value
-    (by_entry (coded m there.HexadecimalCharacterReference n) (c ∷ rest) (taking (CodeDigit 16 0x30 ∷ []) Stay (c ∷ [])) (rw is refl) refl)
+    subst (λ e. Goes (coded m there.HexadecimalCharacterReference n) (c ∷ rest) [] (coded m there.HexadecimalCharacterReference (n * 16 + e)) rest) value
+    (by_entry (coded m there.HexadecimalCharacterReference n) (c ∷ rest) (taking (CodeDigit 16 0x30 ∷ []) Stay (c ∷ [])) (λ x. rw is refl) refl)
 hex_step b m n c d rest (upper other is value) =
-    subst (λ e. Goes b (coded m there.HexadecimalCharacterReference n) (c ∷ rest) [] (coded m there.HexadecimalCharacterReference (n * 16 + e)) rest) value
-    (by_entry (coded m there.HexadecimalCharacterReference n) (c ∷ rest) (taking (CodeDigit 16 0x37 ∷ []) Stay (c ∷ [])) (rw (other, is) refl) refl)
+    subst (λ e. Goes (coded m there.HexadecimalCharacterReference n) (c ∷ rest) [] (coded m there.HexadecimalCharacterReference (n * 16 + e)) rest) value
+    (by_entry (coded m there.HexadecimalCharacterReference n) (c ∷ rest) (taking (CodeDigit 16 0x37 ∷ []) Stay (c ∷ [])) (λ x. rw (other, is) refl) refl)
 hex_step b m n c d rest (lower other none is value) =
-    subst (λ e. Goes b (coded m there.HexadecimalCharacterReference n) (c ∷ rest) [] (coded m there.HexadecimalCharacterReference (n * 16 + e)) rest) value
-    (by_entry (coded m there.HexadecimalCharacterReference n) (c ∷ rest) (taking (CodeDigit 16 0x57 ∷ []) Stay (c ∷ [])) (rw (other, none, is) refl) refl)
+    subst (λ e. Goes (coded m there.HexadecimalCharacterReference n) (c ∷ rest) [] (coded m there.HexadecimalCharacterReference (n * 16 + e)) rest) value
+    (by_entry (coded m there.HexadecimalCharacterReference n) (c ∷ rest) (taking (CodeDigit 16 0x57 ∷ []) Stay (c ∷ [])) (λ x. rw (other, none, is) refl) refl)
 
 -- the first digit
 hex_first : (b : Bool) (m : Machine) (c d : ℕ) (rest : List ℕ) → HexDigit c d →
-    Goes b (at_state m there.HexadecimalCharacterReferenceStart) (c ∷ rest) [] (at_state m there.HexadecimalCharacterReference) (c ∷ rest)
+    Goes (at_state m there.HexadecimalCharacterReferenceStart) (c ∷ rest) [] (at_state m there.HexadecimalCharacterReference) (c ∷ rest)
 unfolding taken entries
 hex_first b m c d rest (decimal is value) =
-    by_entry (at_state m there.HexadecimalCharacterReferenceStart) (c ∷ rest) (taking [] (Reconsume there.HexadecimalCharacterReference) (c ∷ [])) (rw is refl) refl
+    by_entry (at_state m there.HexadecimalCharacterReferenceStart) (c ∷ rest) (taking [] (Reconsume there.HexadecimalCharacterReference) (c ∷ [])) (λ x. rw is refl) refl
 hex_first b m c d rest (upper other is value) =
-    by_entry (at_state m there.HexadecimalCharacterReferenceStart) (c ∷ rest) (taking [] (Reconsume there.HexadecimalCharacterReference) (c ∷ [])) (rw (other, is) refl) refl
+    by_entry (at_state m there.HexadecimalCharacterReferenceStart) (c ∷ rest) (taking [] (Reconsume there.HexadecimalCharacterReference) (c ∷ [])) (λ x. rw (other, is) refl) refl
 hex_first b m c d rest (lower other none is value) =
-    by_entry (at_state m there.HexadecimalCharacterReferenceStart) (c ∷ rest) (taking [] (Reconsume there.HexadecimalCharacterReference) (c ∷ [])) (rw (other, none, is) refl) refl
+    by_entry (at_state m there.HexadecimalCharacterReferenceStart) (c ∷ rest) (taking [] (Reconsume there.HexadecimalCharacterReference) (c ∷ [])) (λ x. rw (other, none, is) refl) refl
 
 pub hex_begins : (b : Bool) (m : Machine) (c d : ℕ) (rest : List ℕ) → HexDigit c d →
-    Goes b (at_state m there.HexadecimalCharacterReferenceStart) (c ∷ rest) [] (coded m there.HexadecimalCharacterReference (m.code * 16 + d)) rest
+    Goes (at_state m there.HexadecimalCharacterReferenceStart) (c ∷ rest) [] (coded m there.HexadecimalCharacterReference (m.code * 16 + d)) rest
 hex_begins b m c d rest is = then_on (hex_first b m c d rest is) (hex_step b m m.code c d rest is)
 
 pub decimal_step : (b : Bool) (m : Machine) (n c d : ℕ) (rest : List ℕ) → is_digit c ≡ true → c - 0x30 ≡ d →
-    Goes b (coded m there.DecimalCharacterReference n) (c ∷ rest) [] (coded m there.DecimalCharacterReference (n * 10 + d)) rest
+    Goes (coded m there.DecimalCharacterReference n) (c ∷ rest) [] (coded m there.DecimalCharacterReference (n * 10 + d)) rest
 unfolding taken entries
 decimal_step b m n c d rest is value =
-    subst (λ e. Goes b (coded m there.DecimalCharacterReference n) (c ∷ rest) [] (coded m there.DecimalCharacterReference (n * 10 + e)) rest) value
-    (by_entry (coded m there.DecimalCharacterReference n) (c ∷ rest) (taking (CodeDigit 10 0x30 ∷ []) Stay (c ∷ [])) (rw is refl) refl)
+    subst (λ e. Goes (coded m there.DecimalCharacterReference n) (c ∷ rest) [] (coded m there.DecimalCharacterReference (n * 10 + e)) rest) value
+    (by_entry (coded m there.DecimalCharacterReference n) (c ∷ rest) (taking (CodeDigit 10 0x30 ∷ []) Stay (c ∷ [])) (λ x. rw is refl) refl)
 
 -- behind `&#`
 pub hex_starts : (b : Bool) (m : Machine) (c : ℕ) (rest : List ℕ) → (c ≡ 120) ⊎ (c ≡ 88) →
-    Goes b (at_state m there.NumericCharacterReference) (c ∷ rest) [] (record m { state = there.HexadecimalCharacterReferenceStart; code = 0; buffer = m.buffer ++ c ∷ [] }) rest
+    Goes (at_state m there.NumericCharacterReference) (c ∷ rest) [] (record m { state = there.HexadecimalCharacterReferenceStart; code = 0; buffer = m.buffer ++ c ∷ [] }) rest
 unfolding taken entries
 hex_starts b m c rest (inl e) =
-    subst (λ d. Goes b (at_state m there.NumericCharacterReference) (d ∷ rest) [] (record m { state = there.HexadecimalCharacterReferenceStart; code = 0; buffer = m.buffer ++ d ∷ [] }) rest) (sym e)
-    (by_entry (at_state m there.NumericCharacterReference) (120 ∷ rest) (taking (CodeZero ∷ Add Buffer Current ∷ []) (Switch there.HexadecimalCharacterReferenceStart) (120 ∷ [])) refl refl)
+    subst (λ d. Goes (at_state m there.NumericCharacterReference) (d ∷ rest) [] (record m { state = there.HexadecimalCharacterReferenceStart; code = 0; buffer = m.buffer ++ d ∷ [] }) rest) (sym e)
+    (by_entry (at_state m there.NumericCharacterReference) (120 ∷ rest) (taking (CodeZero ∷ Add Buffer Current ∷ []) (Switch there.HexadecimalCharacterReferenceStart) (120 ∷ [])) (λ x. refl) refl)
 hex_starts b m c rest (inr e) =
-    subst (λ d. Goes b (at_state m there.NumericCharacterReference) (d ∷ rest) [] (record m { state = there.HexadecimalCharacterReferenceStart; code = 0; buffer = m.buffer ++ d ∷ [] }) rest) (sym e)
-    (by_entry (at_state m there.NumericCharacterReference) (88 ∷ rest) (taking (CodeZero ∷ Add Buffer Current ∷ []) (Switch there.HexadecimalCharacterReferenceStart) (88 ∷ [])) refl refl)
+    subst (λ d. Goes (at_state m there.NumericCharacterReference) (d ∷ rest) [] (record m { state = there.HexadecimalCharacterReferenceStart; code = 0; buffer = m.buffer ++ d ∷ [] }) rest) (sym e)
+    (by_entry (at_state m there.NumericCharacterReference) (88 ∷ rest) (taking (CodeZero ∷ Add Buffer Current ∷ []) (Switch there.HexadecimalCharacterReferenceStart) (88 ∷ [])) (λ x. refl) refl)
 
 decimal_starts : (b : Bool) (m : Machine) (c : ℕ) (rest : List ℕ) → (120 == c) ≡ false → (88 == c) ≡ false →
-    Goes b (at_state m there.NumericCharacterReference) (c ∷ rest) [] (coded m there.DecimalCharacterReferenceStart 0) (c ∷ rest)
+    Goes (at_state m there.NumericCharacterReference) (c ∷ rest) [] (coded m there.DecimalCharacterReferenceStart 0) (c ∷ rest)
 unfolding taken entries
 decimal_starts b m c rest h120 h88 =
-    by_entry (at_state m there.NumericCharacterReference) (c ∷ rest) (taking (CodeZero ∷ []) (Reconsume there.DecimalCharacterReferenceStart) (c ∷ [])) (rw (h120, h88) refl) refl
+    by_entry (at_state m there.NumericCharacterReference) (c ∷ rest) (taking (CodeZero ∷ []) (Reconsume there.DecimalCharacterReferenceStart) (c ∷ [])) (λ x. rw (h120, h88) refl) refl
 
 decimal_first : (b : Bool) (m : Machine) (c : ℕ) (rest : List ℕ) → is_digit c ≡ true →
-    Goes b (coded m there.DecimalCharacterReferenceStart 0) (c ∷ rest) [] (coded m there.DecimalCharacterReference 0) (c ∷ rest)
+    Goes (coded m there.DecimalCharacterReferenceStart 0) (c ∷ rest) [] (coded m there.DecimalCharacterReference 0) (c ∷ rest)
 unfolding taken entries
-decimal_first b m c rest is = by_entry (coded m there.DecimalCharacterReferenceStart 0) (c ∷ rest) (taking [] (Reconsume there.DecimalCharacterReference) (c ∷ [])) (rw is refl) refl
+decimal_first b m c rest is = by_entry (coded m there.DecimalCharacterReferenceStart 0) (c ∷ rest) (taking [] (Reconsume there.DecimalCharacterReference) (c ∷ [])) (λ x. rw is refl) refl
 
 pub decimal_begins : (b : Bool) (m : Machine) (c d : ℕ) (rest : List ℕ) → (c ≡ 120 → ⊥) → (c ≡ 88 → ⊥) → is_digit c ≡ true → c - 0x30 ≡ d →
-    Goes b (at_state m there.NumericCharacterReference) (c ∷ rest) [] (coded m there.DecimalCharacterReference (0 * 10 + d)) rest
+    Goes (at_state m there.NumericCharacterReference) (c ∷ rest) [] (coded m there.DecimalCharacterReference (0 * 10 + d)) rest
 decimal_begins b m c d rest no_x no_X is value =
     then_on (decimal_starts b m c rest (ne_eqb 120 c (λ e. no_x (sym e))) (ne_eqb 88 c (λ e. no_X (sym e)))) (then_on (decimal_first b m c rest is) (decimal_step b m 0 c d rest is value))
 
 -- no digit follows
 pub no_decimal : (b : Bool) (m : Machine) (c : ℕ) (rest : List ℕ) → (c ≡ 120 → ⊥) → (c ≡ 88 → ⊥) → is_digit c ≡ false →
-    Goes b (at_state m there.NumericCharacterReference) (c ∷ rest) (emitted [] Flush (coded m there.DecimalCharacterReferenceStart 0) ++ []) (flushing (coded m there.DecimalCharacterReferenceStart 0)) (c ∷ rest)
+    Goes (at_state m there.NumericCharacterReference) (c ∷ rest) (emitted [] Flush (coded m there.DecimalCharacterReferenceStart 0) ++ []) (flushing (coded m there.DecimalCharacterReferenceStart 0)) (c ∷ rest)
 unfolding taken entries
 no_decimal b m c rest no_x no_X is =
     then_on (decimal_starts b m c rest (ne_eqb 120 c (λ e. no_x (sym e))) (ne_eqb 88 c (λ e. no_X (sym e))))
-    (by_entry (coded m there.DecimalCharacterReferenceStart 0) (c ∷ rest) (taking (Flush ∷ []) ReconsumeBack (c ∷ [])) (rw is refl) refl)
+    (by_entry (coded m there.DecimalCharacterReferenceStart 0) (c ∷ rest) (taking (Flush ∷ []) ReconsumeBack (c ∷ [])) (λ x. rw is refl) refl)
 
 pub no_hexadecimal : (b : Bool) (m : Machine) (c : ℕ) (rest : List ℕ) → IsNoHex c →
-    Goes b (at_state m there.HexadecimalCharacterReferenceStart) (c ∷ rest) (emitted [] Flush (at_state m there.HexadecimalCharacterReferenceStart) ++ []) (flushing (at_state m there.HexadecimalCharacterReferenceStart)) (c ∷ rest)
+    Goes (at_state m there.HexadecimalCharacterReferenceStart) (c ∷ rest) (emitted [] Flush (at_state m there.HexadecimalCharacterReferenceStart) ++ []) (flushing (at_state m there.HexadecimalCharacterReferenceStart)) (c ∷ rest)
 unfolding taken entries
 no_hexadecimal b m c rest other =
-    by_entry (at_state m there.HexadecimalCharacterReferenceStart) (c ∷ rest) (taking (Flush ∷ []) ReconsumeBack (c ∷ [])) (rw (other.digit, other.upper, other.lower) refl) refl
+    by_entry (at_state m there.HexadecimalCharacterReferenceStart) (c ∷ rest) (taking (Flush ∷ []) ReconsumeBack (c ∷ [])) (λ x. rw (other.digit, other.upper, other.lower) refl) refl
 
 -- ---- the number ends
 
@@ -146,11 +146,11 @@ abbrev pub numbered : Machine → Machine
 numbered m = record m { state = there.NumericCharacterReferenceEnd; buffer = character_of m.code ∷ [] }
 
 abbrev pub EndsNumber : Bool → Machine → List ℕ → List ℕ → Type 0
-EndsNumber b m text rest = Goes b m text (emitted [] Flush (numbered m) ++ []) (flushing (numbered m)) rest
+EndsNumber b m text rest = Goes m text (emitted [] Flush (numbered m) ++ []) (flushing (numbered m)) rest
 
-at_end : (b : Bool) (m : Machine) (text : List ℕ) → Goes b (at_state m there.NumericCharacterReferenceEnd) text (emitted [] Flush (numbered m) ++ []) (flushing (numbered m)) text
+at_end : (b : Bool) (m : Machine) (text : List ℕ) → Goes (at_state m there.NumericCharacterReferenceEnd) text (emitted [] Flush (numbered m) ++ []) (flushing (numbered m)) text
 unfolding taken entries
-at_end b m text = by_entry (at_state m there.NumericCharacterReferenceEnd) text (taking (BufferNumber ∷ Flush ∷ []) ReconsumeBack (take 1 text)) refl refl
+at_end b m text = by_entry (at_state m there.NumericCharacterReferenceEnd) text (taking (BufferNumber ∷ Flush ∷ []) ReconsumeBack (take 1 text)) (λ x. refl) refl
 
 -- the text behind a number: a semicolon is part of it
 abbrev pub behind_number : Bool → ℕ → List ℕ → List ℕ
@@ -161,13 +161,13 @@ unfolding taken entries
 hex_ends b m c rest =
     let M : Machine = at_state m there.HexadecimalCharacterReference in
     by_bool (λ e x. IsNoHex e → EndsNumber b M (e ∷ rest) (behind_number x e rest)) c 59
-    (λ other. then_on (by_entry M (59 ∷ rest) (taking [] (Switch there.NumericCharacterReferenceEnd) (59 ∷ [])) refl refl) (at_end b m rest))
-    (λ h59 other. then_on (by_entry M (c ∷ rest) (taking [] (Reconsume there.NumericCharacterReferenceEnd) (c ∷ [])) (rw (other.digit, other.upper, other.lower, h59) refl) refl) (at_end b m (c ∷ rest)))
+    (λ other. then_on (by_entry M (59 ∷ rest) (taking [] (Switch there.NumericCharacterReferenceEnd) (59 ∷ [])) (λ x. refl) refl) (at_end b m rest))
+    (λ h59 other. then_on (by_entry M (c ∷ rest) (taking [] (Reconsume there.NumericCharacterReferenceEnd) (c ∷ [])) (λ x. rw (other.digit, other.upper, other.lower, h59) refl) refl) (at_end b m (c ∷ rest)))
 
 pub decimal_ends : (b : Bool) (m : Machine) (c : ℕ) (rest : List ℕ) → is_digit c ≡ false → EndsNumber b (at_state m there.DecimalCharacterReference) (c ∷ rest) (behind_number (c == 59) c rest)
 unfolding taken entries
 decimal_ends b m c rest =
     let M : Machine = at_state m there.DecimalCharacterReference in
     by_bool (λ e x. is_digit e ≡ false → EndsNumber b M (e ∷ rest) (behind_number x e rest)) c 59
-    (λ other. then_on (by_entry M (59 ∷ rest) (taking [] (Switch there.NumericCharacterReferenceEnd) (59 ∷ [])) refl refl) (at_end b m rest))
-    (λ h59 other. then_on (by_entry M (c ∷ rest) (taking [] (Reconsume there.NumericCharacterReferenceEnd) (c ∷ [])) (rw (other, h59) refl) refl) (at_end b m (c ∷ rest)))
+    (λ other. then_on (by_entry M (59 ∷ rest) (taking [] (Switch there.NumericCharacterReferenceEnd) (59 ∷ [])) (λ x. refl) refl) (at_end b m rest))
+    (λ h59 other. then_on (by_entry M (c ∷ rest) (taking [] (Reconsume there.NumericCharacterReferenceEnd) (c ∷ [])) (λ x. rw (other, h59) refl) refl) (at_end b m (c ∷ rest)))

@@ -11,15 +11,17 @@ use Rattle.std.proofs.lemmas.List.Folds.{list_all-append}
 use Rattle.std.proofs.lemmas.Option.{none-some}
 use Rattle.std.proofs.lemmas.Str.{encodes-append}
 use mathlib.Core.Path.{◌∙◌, sym, ap, subst}
-use Rattle.page_tokens.specs.FastPaths.{ReadsAny, ToldLast}
+use Rattle.page_tokens.specs.FastPaths.{IsApart, ReadsAny, ToldLast}
 use Rattle.page_tokens.specs.Standard.{FollowsStandard}
-use Rattle.page_tokens.specs.StandardPages.{ReadsAsStandard, ReadsText, ReadsUpTo, told_or}
+use Rattle.page_tokens.specs.StandardPages.{ReadsAsStandard, ReadsOn, ReadsOnAsStandard, ReadsUpTo, UpTo, told_or}
+use Rattle.page_tokens.specs.TextStates.{wants_characters_of}
 use Rattle.page_tokens.specs.declared.token.TokenKind.{TokenKind}
 use Rattle.page_tokens.specs.declared.tokenizer.Tokenizer.{Tokenizer}
 use Rattle.page_tokens.specs.declared.tokenizer.references.Reference.TheVariants as reference
 use Rattle.page_tokens.proofs.AnyState.{outside}
 use Rattle.page_tokens.proofs.AttrFollows.{longer, some_bytes}
-use Rattle.page_tokens.proofs.PageTexts.{MovesOn, alone_read, moved_on, no_text, then_text, without_returns}
+use Rattle.page_tokens.proofs.PageTexts.{MovesOn, alone_read, moved_on, no_text, of_any, then_any, then_on_text, then_text_if, without_returns}
+use Rattle.page_tokens.proofs.RunsApart.{wants_none}
 
 -- ---- the kind of the token
 
@@ -32,16 +34,16 @@ none_ends None e = refl
 none_ends (Some kind) e = absurd (none-some kind e)
 
 -- a call that found no kind stored leaves one that is stored
-pub same_kind : (old new : Tokenizer) (text rest : List ℕ) (before : Option TokenKind) → ReadsUpTo old new text rest None None → ReadsUpTo old new text rest before before
-same_kind old new text rest before up = record { read = up.read; told = up.told; cut = up.cut; reads = up.reads; kind = sym (ap (λ k. told_or k before) (none_ends up.told up.kind)) }
+pub same_kind : {R : List ℕ → Option TokenKind → Type 0} (text rest : List ℕ) (before : Option TokenKind) → UpTo R text rest None None → UpTo R text rest before before
+same_kind text rest before up = record { read = up.read; told = up.told; cut = up.cut; reads = up.reads; kind = sym (ap (λ k. told_or k before) (none_ends up.told up.kind)) }
 
-pub kept_kind : (old new : Tokenizer) (text rest : List ℕ) (before after : Option TokenKind) → after ≡ before → ReadsUpTo old new text rest None None → ReadsUpTo old new text rest before after
-kept_kind old new text rest before after kept up = subst (λ k. ReadsUpTo old new text rest before k) (sym kept) (same_kind old new text rest before up)
+pub kept_kind : {R : List ℕ → Option TokenKind → Type 0} (text rest : List ℕ) (before after : Option TokenKind) → after ≡ before → UpTo R text rest None None → UpTo R text rest before after
+kept_kind {R} text rest before after kept up = subst (λ k. UpTo R text rest before k) (sym kept) (same_kind text rest before up)
 
 -- and replaces it when a token ended
-pub new_kind : (old new : Tokenizer) (text rest : List ℕ) (made before : Option TokenKind) (some : Bool) → some ≡ is_some made → some ≡ true → ReadsUpTo old new text rest None made → ReadsUpTo old new text rest before made
-new_kind old new text rest None before some is ended up = absurd (true≢false (sym ended ∙ is))
-new_kind old new text rest (Some kind) before some is ended up = record { read = up.read; told = up.told; cut = up.cut; reads = up.reads; kind = up.kind ∙ of up.told up.kind }
+pub new_kind : {R : List ℕ → Option TokenKind → Type 0} (text rest : List ℕ) (made before : Option TokenKind) (some : Bool) → some ≡ is_some made → some ≡ true → UpTo R text rest None made → UpTo R text rest before made
+new_kind text rest None before some is ended up = absurd (true≢false (sym ended ∙ is))
+new_kind text rest (Some kind) before some is ended up = record { read = up.read; told = up.told; cut = up.cut; reads = up.reads; kind = up.kind ∙ of up.told up.kind }
   where
     of : (told : Option TokenKind) → Some kind ≡ told_or told None → told_or told None ≡ told_or told before
     of None e = absurd (none-some kind (sym e))
@@ -53,39 +55,81 @@ no_kind (Some kind) some is no_some = absurd (true≢false (sym is ∙ no_some))
 
 -- ---- one call after another
 
-pub up_to_on : (a b c : Tokenizer) (text mid rest : List ℕ) (before after : Option TokenKind) → ReadsUpTo a b text mid None None → ReadsUpTo b c mid rest before after → ReadsUpTo a c text rest before after
-up_to_on a b c text mid rest before after first second = record {
-  read = first.read ++ second.read;
-  told = second.told;
-  cut = first.cut ∙ ap (λ e. encode_utf8_all first.read ++ e) second.cut ∙ sym (append_assoc (encode_utf8_all first.read) (encode_utf8_all second.read) rest)
-      ∙ ap (λ e. e ++ rest) (sym (encodes-append first.read second.read));
-  reads = then_text a b c first.read second.read second.told (subst (λ k. ReadsText a b first.read k) (none_ends first.told first.kind) first.reads) second.reads;
-  kind = second.kind;
-}
+joined_cut : (text mid rest first second : List ℕ) → text ≡ encode_utf8_all first ++ mid → mid ≡ encode_utf8_all second ++ rest → text ≡ encode_utf8_all (first ++ second) ++ rest
+joined_cut text mid rest first second one other =
+    one ∙ ap (λ e. encode_utf8_all first ++ e) other ∙ sym (append_assoc (encode_utf8_all first) (encode_utf8_all second) rest) ∙ ap (λ e. e ++ rest) (sym (encodes-append first second))
 
--- the same where memory may run out
-pub then_up_to : (a b c : Tokenizer) (text mid rest : List ℕ) (before after : Option TokenKind) → (b.refused ≡ false → ReadsUpTo a b text mid None None) → (c.refused ≡ false → ReadsUpTo b c mid rest before after) → c.refused ≡ false → ReadsUpTo a c text rest before after
-then_up_to a b c text mid rest before after first second free =
-    let more : ReadsUpTo b c mid rest before after = second free in
-    up_to_on a b c text mid rest before after (first more.reads.memory) more
+-- what was read by a call that told nothing
+untold : {R : List ℕ → Option TokenKind → Type 0} (text rest : List ℕ) (up : UpTo R text rest None None) → R up.read None
+untold {R} text rest up = subst (R up.read) (none_ends up.told up.kind) up.reads
 
-pub nothing_up_to : (old : Tokenizer) (text : List ℕ) → old.refused ≡ false → ReadsUpTo old old text text None None
+-- where memory may run out
+pub on_up_to : (a b c : Tokenizer) (text mid rest : List ℕ) (before after : Option TokenKind) → (b.refused ≡ false → UpTo (ReadsOn a b) text mid None None) → (c.refused ≡ false → UpTo (ReadsOn b c) mid rest before after) →
+    c.refused ≡ false → UpTo (ReadsOn a c) text rest before after
+on_up_to a b c text mid rest before after first second free =
+    let other : UpTo (ReadsOn b c) mid rest before after = second free in
+    let one : UpTo (ReadsOn a b) text mid None None = first other.reads.memory in
+    record {
+      read = one.read ++ other.read;
+      told = other.told;
+      cut = joined_cut text mid rest one.read other.read one.cut other.cut;
+      reads = then_on_text a b c one.read other.read other.told (untold text mid one) other.reads;
+      kind = other.kind;
+    }
+
+-- the second call stops itself where characters have to be told
+any_up_to_on : (a b c : Tokenizer) (text mid rest : List ℕ) (before after : Option TokenKind) → (b.refused ≡ false → ReadsUpTo a b text mid None None) → (c.refused ≡ false → UpTo (ReadsOn b c) mid rest before after) →
+    c.refused ≡ false → ReadsUpTo a c text rest before after
+any_up_to_on a b c text mid rest before after first second free =
+    let other : UpTo (ReadsOn b c) mid rest before after = second free in
+    let one : ReadsUpTo a b text mid None None = first other.reads.memory in
+    record {
+      read = one.read ++ other.read;
+      told = other.told;
+      cut = joined_cut text mid rest one.read other.read one.cut other.cut;
+      reads = then_any a b c one.read other.read other.told (untold text mid one) other.reads;
+      kind = other.kind;
+    }
+
+-- the first one is a run
+run_up_to_on : (a b c : Tokenizer) (text mid rest : List ℕ) (before after : Option TokenKind) → IsApart a b → (b.refused ≡ false → UpTo (ReadsOn a b) text mid None None) → (c.refused ≡ false → ReadsUpTo b c mid rest before after) →
+    c.refused ≡ false → ReadsUpTo a c text rest before after
+run_up_to_on a b c text mid rest before after apart first second free =
+    let other : ReadsUpTo b c mid rest before after = second free in
+    let one : UpTo (ReadsOn a b) text mid None None = first other.reads.memory in
+    record {
+      read = one.read ++ other.read;
+      told = other.told;
+      cut = joined_cut text mid rest one.read other.read one.cut other.cut;
+      reads = then_text_if a b c one.read other.read other.told (of_any a b one.read None (untold text mid one)) (wants_none a b apart) other.reads;
+      kind = other.kind;
+    }
+
+pub nothing_up_to : (old : Tokenizer) (text : List ℕ) → old.refused ≡ false → UpTo (ReadsOn old old) text text None None
 nothing_up_to old text free = record { read = []; told = None; cut = refl; reads = no_text old free; kind = refl }
+
+pub of_any_up_to : (old new : Tokenizer) (text rest : List ℕ) (before after : Option TokenKind) → UpTo (ReadsOn old new) text rest before after → ReadsUpTo old new text rest before after
+of_any_up_to old new text rest before after up = record { read = up.read; told = up.told; cut = up.cut; reads = of_any old new up.read up.told up.reads; kind = up.kind }
+
+-- characters don't have to be told
+any_of_up_to : (old new : Tokenizer) (text rest : List ℕ) (before after : Option TokenKind) → wants_characters_of old ≡ false → ReadsUpTo old new text rest before after → UpTo (ReadsOn old new) text rest before after
+any_of_up_to old new text rest before after wants up =
+    record { read = up.read; told = up.told; cut = up.cut; reads = record { memory = up.reads.memory; in_foreign = up.reads.in_foreign; reads = up.reads.reads wants }; kind = up.kind }
 
 -- ---- what is read at once
 
 front_text : (old new : Tokenizer) (read : List ℕ) (told : Option TokenKind) → old.reference ≡ reference.None → old.after_return ≡ false → list_all (λ c. not (c == 13)) read ≡ true → FollowsStandard old new read told → ToldLast told old new read →
-    ReadsText old new read told
+    ReadsOn old new read told
 front_text old new read None none plain all follows last = without_returns old new read plain all (outside old new read None none follows)
 front_text old new read (Some kind) none plain all follows last =
     let each : (list_all (λ c. not (c == 13)) last.front && list_all (λ c. not (c == 13)) (last.last ∷ [])) ≡ true =
     sym (list_all-append (λ c. not (c == 13)) last.front (last.last ∷ [])) ∙ ap (list_all (λ c. not (c == 13))) (sym last.is) ∙ all in
     let parts : (list_all (λ c. not (c == 13)) last.front ≡ true) × (list_all (λ c. not (c == 13)) (last.last ∷ []) ≡ true) =
     and_parts (list_all (λ c. not (c == 13)) last.front) (list_all (λ c. not (c == 13)) (last.last ∷ [])) each in
-    let begins : ReadsText old last.mid last.front None = without_returns old last.mid last.front plain parts.0 (outside old last.mid last.front None none last.begins) in
-    let ends : ReadsText last.mid new (last.last ∷ []) (Some kind) =
+    let begins : ReadsOn old last.mid last.front None = without_returns old last.mid last.front plain parts.0 (outside old last.mid last.front None none last.begins) in
+    let ends : ReadsOn last.mid new (last.last ∷ []) (Some kind) =
     alone_read last.mid new last.last (Some kind) (last.begins.leaves.after_return ∙ plain) (no_return last.last parts.1) (outside last.mid new (last.last ∷ []) (Some kind) last.outside last.ends) in
-    subst (λ r. ReadsText old new r (Some kind)) (sym last.is) (then_text old last.mid new last.front (last.last ∷ []) (Some kind) begins ends)
+    subst (λ r. ReadsOn old new r (Some kind)) (sym last.is) (then_on_text old last.mid new last.front (last.last ∷ []) (Some kind) begins ends)
   where
     no_true : (x : Bool) → (not x && true) ≡ true → x ≡ false
     no_true true e = absurd (true≢false (sym e))
@@ -94,14 +138,14 @@ front_text old new read (Some kind) none plain all follows last =
     no_return : (c : ℕ) → list_all (λ c. not (c == 13)) (c ∷ []) ≡ true → (c == 13) ≡ false
     no_return c h = no_true (c == 13) h
 
-pub any_up_to : (old mid new : Tokenizer) (text rest : List ℕ) (told before after : Option TokenKind) → MovesOn mid new → before ≡ None → after ≡ told → ReadsAny old mid text rest told → new.refused ≡ false → ReadsUpTo old new text rest before after
+pub any_up_to : (old mid new : Tokenizer) (text rest : List ℕ) (told before after : Option TokenKind) → MovesOn mid new → before ≡ None → after ≡ told → ReadsAny old mid text rest told → new.refused ≡ false → UpTo (ReadsOn old new) text rest before after
 any_up_to old mid new text rest told before after moves none after_is (inl same) free =
     let memory : old.refused ≡ false = sym (ap (λ t. t.refused) moves ∙ ap (λ t. t.refused) same.1) ∙ free in
     record {
       read = [];
       told = None;
       cut = sym same.0;
-      reads = moved_on old mid new [] None moves (subst (λ t. ReadsText old t [] None) (sym same.1) (no_text old memory));
+      reads = moved_on old mid new [] None moves (subst (λ t. ReadsOn old t [] None) (sym same.1) (no_text old memory));
       kind = after_is ∙ same.2 ∙ sym none;
     }
 any_up_to old mid new text rest told before after moves none after_is (inr front) free = record {
@@ -112,7 +156,7 @@ any_up_to old mid new text rest told before after moves none after_is (inr front
   kind = after_is ∙ told_alone told ∙ ap (told_or told) (sym none);
 }
 
-pub run_up_to : (old new : Tokenizer) (text rest : List ℕ) → ReadsAny old new text rest None → new.refused ≡ false → ReadsUpTo old new text rest None None
+pub run_up_to : (old new : Tokenizer) (text rest : List ℕ) → ReadsAny old new text rest None → new.refused ≡ false → UpTo (ReadsOn old new) text rest None None
 run_up_to old new text rest any free = any_up_to old new new text rest None None None refl refl refl any free
 
 -- where nothing was read, nothing changed
@@ -146,14 +190,22 @@ unread_arm old mid new text left told before between after (Ok rest) long any no
 unread_arm old mid new text left told before between after (Err e) long any none between_is reads = tt
 
 -- a call that reads on, where no token was told before
-pub then_arm : {E : Type 0} (a b c : Tokenizer) (text mid : List ℕ) (made before after : Option TokenKind) (r : Result (Bor (List ℕ)) E) → made ≡ None → (b.refused ≡ false → ReadsUpTo a b text mid None made) → ReadsAsStandard b c mid before after r →
+pub then_arm : {E : Type 0} (a b c : Tokenizer) (text mid : List ℕ) (made before after : Option TokenKind) (r : Result (Bor (List ℕ)) E) → made ≡ None → (b.refused ≡ false → ReadsUpTo a b text mid None made) → ReadsOnAsStandard b c mid before after r →
     ReadsAsStandard a c text before after r
-then_arm a b c text mid made before after (Ok rest) none first second = then_up_to a b c text mid rest.now before after (λ free. subst (λ k. ReadsUpTo a b text mid None k) none (first free)) second
+then_arm a b c text mid made before after (Ok rest) none first second = any_up_to_on a b c text mid rest.now before after (λ free. subst (λ k. ReadsUpTo a b text mid None k) none (first free)) second
 then_arm a b c text mid made before after (Err e) none first second = tt
 
--- the same of a call that is told that no token was before
-pub front_up_to : (a b c : Tokenizer) (text mid rest : List ℕ) (was made : Option TokenKind) → was ≡ None → (b.refused ≡ false → ReadsUpTo a b text mid None None) → (c.refused ≡ false → ReadsUpTo b c mid rest was made) → c.refused ≡ false → ReadsUpTo a c text rest None made
-front_up_to a b c text mid rest was made none first second = then_up_to a b c text mid rest None made first (subst (λ k. c.refused ≡ false → ReadsUpTo b c mid rest k made) none second)
+-- a run, and then a call that reads on
+pub run_arm : {E : Type 0} (a b c : Tokenizer) (text mid : List ℕ) (before after : Option TokenKind) (r : Result (Bor (List ℕ)) E) → IsApart a b → (b.refused ≡ false → UpTo (ReadsOn a b) text mid None None) → ReadsAsStandard b c mid before after r →
+    ReadsAsStandard a c text before after r
+run_arm a b c text mid before after (Ok rest) apart first second = run_up_to_on a b c text mid rest.now before after apart first second
+run_arm a b c text mid before after (Err e) apart first second = tt
 
-pub none_made : (a b : Tokenizer) (text rest : List ℕ) (made : Option TokenKind) → made ≡ None → ReadsUpTo a b text rest None made → ReadsUpTo a b text rest None None
-none_made a b text rest made none up = subst (λ k. ReadsUpTo a b text rest None k) none up
+-- what is told where a run was read, and no characters have to be told
+pub front_up_to : (a b c : Tokenizer) (text mid rest : List ℕ) (was made : Option TokenKind) → was ≡ None → wants_characters_of b ≡ false → (b.refused ≡ false → UpTo (ReadsOn a b) text mid None None) →
+    (c.refused ≡ false → ReadsUpTo b c mid rest was made) → c.refused ≡ false → UpTo (ReadsOn a c) text rest None made
+front_up_to a b c text mid rest was made none wants first second =
+    on_up_to a b c text mid rest None made first (λ free. any_of_up_to b c mid rest None made wants (subst (λ k. ReadsUpTo b c mid rest k made) none (second free)))
+
+pub none_made : {R : List ℕ → Option TokenKind → Type 0} (text rest : List ℕ) (made : Option TokenKind) → made ≡ None → UpTo R text rest None made → UpTo R text rest None None
+none_made {R} text rest made none up = subst (λ k. UpTo R text rest None k) none up

@@ -33,7 +33,7 @@ use Rattle.page_tokens.proofs.StandardSteps.{by_entry, in_its_state, taking}
 -- where the machine stops behind this text: it has emitted characters, and emits more with the token that ends
 pub record Stopping (b : Bool) (m : Machine) (text shown last : List ℕ) (tokens : List StandardToken) : Type 0 where
   pub machine : Machine
-  pub goes : Goes b m text (map AChar shown) machine []
+  pub goes : Goes m text (map AChar shown) machine []
   pub stops : (step b machine []).stopped ≡ true
   pub emits : (step b machine []).tokens ≡ map AChar last ++ tokens ++ AnEof ∷ []
 
@@ -70,9 +70,9 @@ ends_in state.Plaintext b m no_mark =
 ends_in (state.Cdata cdata.Section) b m no_mark =
     record { machine = at_state m there.CDATASection; goes = stays; stops = refl; emits = refl }
 ends_in (state.Cdata cdata.Bracket) b m no_mark =
-    record { machine = at_state m there.CDATASection; goes = by_entry (at_state m there.CDATASectionBracket) [] (taking (Emit (These (codes "]")) ∷ []) (Reconsume there.CDATASection) []) refl refl; stops = refl; emits = refl }
+    record { machine = at_state m there.CDATASection; goes = by_entry (at_state m there.CDATASectionBracket) [] (taking (Emit (These (codes "]")) ∷ []) (Reconsume there.CDATASection) []) (λ x. refl) refl; stops = refl; emits = refl }
 ends_in (state.Cdata cdata.End) b m no_mark =
-    record { machine = at_state m there.CDATASection; goes = by_entry (at_state m there.CDATASectionEnd) [] (taking (Emit (These (codes "]]")) ∷ []) (Reconsume there.CDATASection) []) refl refl; stops = refl; emits = refl }
+    record { machine = at_state m there.CDATASection; goes = by_entry (at_state m there.CDATASectionEnd) [] (taking (Emit (These (codes "]]")) ∷ []) (Reconsume there.CDATASection) []) (λ x. refl) refl; stops = refl; emits = refl }
 ends_in (state.Tag tag.Open) b m no_mark =
     record { machine = at_state m there.TagOpen; goes = stays; stops = refl; emits = refl }
 ends_in (state.Tag tag.EndOpen) b m no_mark =
@@ -82,57 +82,57 @@ ends_in (state.Tag tag.Name) b m no_mark =
 ends_in (state.Tag tag.SelfClosing) b m no_mark =
     record { machine = at_state m there.SelfClosingStartTag; goes = stays; stops = refl; emits = refl }
 ends_in (state.EndTag raw.Rcdata end_tag.LessThan) b m no_mark =
-    record { machine = at_state m there.RCDATA; goes = by_entry (at_state m there.RCDATALessThanSign) [] (taking (Emit (These (codes "<")) ∷ []) (Reconsume there.RCDATA) []) refl refl; stops = refl; emits = refl }
+    record { machine = at_state m there.RCDATA; goes = by_entry (at_state m there.RCDATALessThanSign) [] (taking (Emit (These (codes "<")) ∷ []) (Reconsume there.RCDATA) []) (λ x. refl) refl; stops = refl; emits = refl }
 ends_in (state.EndTag raw.Rcdata end_tag.Open) b m no_mark =
-    record { machine = at_state m there.RCDATA; goes = by_entry (at_state m there.RCDATAEndTagOpen) [] (taking (Emit (These (codes "</")) ∷ []) (Reconsume there.RCDATA) []) refl refl; stops = refl; emits = refl }
+    record { machine = at_state m there.RCDATA; goes = by_entry (at_state m there.RCDATAEndTagOpen) [] (taking (Emit (These (codes "</")) ∷ []) (Reconsume there.RCDATA) []) (λ x. refl) refl; stops = refl; emits = refl }
 ends_in (state.EndTag raw.Rcdata end_tag.Name) b m no_mark =
     record {
       machine = at_state m there.RCDATA;
-      goes = subst (λ ts. Goes b (at_state m there.RCDATAEndTagName) [] (AChar 60 ∷ AChar 47 ∷ ts) (at_state m there.RCDATA) []) (append-nil (map AChar m.buffer))
-          (by_entry (at_state m there.RCDATAEndTagName) [] (taking (Emit (These (codes "</")) ∷ Emit TheBuffer ∷ []) (Reconsume there.RCDATA) []) refl refl);
+      goes = subst (λ ts. Goes (at_state m there.RCDATAEndTagName) [] (AChar 60 ∷ AChar 47 ∷ ts) (at_state m there.RCDATA) []) (append-nil (map AChar m.buffer))
+          (by_entry (at_state m there.RCDATAEndTagName) [] (taking (Emit (These (codes "</")) ∷ Emit TheBuffer ∷ []) (Reconsume there.RCDATA) []) (λ x. refl) refl);
       stops = refl;
       emits = refl;
     }
 ends_in (state.EndTag raw.Rawtext end_tag.LessThan) b m no_mark =
-    record { machine = at_state m there.RAWTEXT; goes = by_entry (at_state m there.RAWTEXTLessThanSign) [] (taking (Emit (These (codes "<")) ∷ []) (Reconsume there.RAWTEXT) []) refl refl; stops = refl; emits = refl }
+    record { machine = at_state m there.RAWTEXT; goes = by_entry (at_state m there.RAWTEXTLessThanSign) [] (taking (Emit (These (codes "<")) ∷ []) (Reconsume there.RAWTEXT) []) (λ x. refl) refl; stops = refl; emits = refl }
 ends_in (state.EndTag raw.Rawtext end_tag.Open) b m no_mark =
-    record { machine = at_state m there.RAWTEXT; goes = by_entry (at_state m there.RAWTEXTEndTagOpen) [] (taking (Emit (These (codes "</")) ∷ []) (Reconsume there.RAWTEXT) []) refl refl; stops = refl; emits = refl }
+    record { machine = at_state m there.RAWTEXT; goes = by_entry (at_state m there.RAWTEXTEndTagOpen) [] (taking (Emit (These (codes "</")) ∷ []) (Reconsume there.RAWTEXT) []) (λ x. refl) refl; stops = refl; emits = refl }
 ends_in (state.EndTag raw.Rawtext end_tag.Name) b m no_mark =
     record {
       machine = at_state m there.RAWTEXT;
-      goes = subst (λ ts. Goes b (at_state m there.RAWTEXTEndTagName) [] (AChar 60 ∷ AChar 47 ∷ ts) (at_state m there.RAWTEXT) []) (append-nil (map AChar m.buffer))
-          (by_entry (at_state m there.RAWTEXTEndTagName) [] (taking (Emit (These (codes "</")) ∷ Emit TheBuffer ∷ []) (Reconsume there.RAWTEXT) []) refl refl);
+      goes = subst (λ ts. Goes (at_state m there.RAWTEXTEndTagName) [] (AChar 60 ∷ AChar 47 ∷ ts) (at_state m there.RAWTEXT) []) (append-nil (map AChar m.buffer))
+          (by_entry (at_state m there.RAWTEXTEndTagName) [] (taking (Emit (These (codes "</")) ∷ Emit TheBuffer ∷ []) (Reconsume there.RAWTEXT) []) (λ x. refl) refl);
       stops = refl;
       emits = refl;
     }
 ends_in (state.EndTag raw.Script end_tag.LessThan) b m no_mark =
-    record { machine = at_state m there.ScriptData; goes = by_entry (at_state m there.ScriptDataLessThanSign) [] (taking (Emit (These (codes "<")) ∷ []) (Reconsume there.ScriptData) []) refl refl; stops = refl; emits = refl }
+    record { machine = at_state m there.ScriptData; goes = by_entry (at_state m there.ScriptDataLessThanSign) [] (taking (Emit (These (codes "<")) ∷ []) (Reconsume there.ScriptData) []) (λ x. refl) refl; stops = refl; emits = refl }
 ends_in (state.EndTag raw.Script end_tag.Open) b m no_mark =
-    record { machine = at_state m there.ScriptData; goes = by_entry (at_state m there.ScriptDataEndTagOpen) [] (taking (Emit (These (codes "</")) ∷ []) (Reconsume there.ScriptData) []) refl refl; stops = refl; emits = refl }
+    record { machine = at_state m there.ScriptData; goes = by_entry (at_state m there.ScriptDataEndTagOpen) [] (taking (Emit (These (codes "</")) ∷ []) (Reconsume there.ScriptData) []) (λ x. refl) refl; stops = refl; emits = refl }
 ends_in (state.EndTag raw.Script end_tag.Name) b m no_mark =
     record {
       machine = at_state m there.ScriptData;
-      goes = subst (λ ts. Goes b (at_state m there.ScriptDataEndTagName) [] (AChar 60 ∷ AChar 47 ∷ ts) (at_state m there.ScriptData) []) (append-nil (map AChar m.buffer))
-          (by_entry (at_state m there.ScriptDataEndTagName) [] (taking (Emit (These (codes "</")) ∷ Emit TheBuffer ∷ []) (Reconsume there.ScriptData) []) refl refl);
+      goes = subst (λ ts. Goes (at_state m there.ScriptDataEndTagName) [] (AChar 60 ∷ AChar 47 ∷ ts) (at_state m there.ScriptData) []) (append-nil (map AChar m.buffer))
+          (by_entry (at_state m there.ScriptDataEndTagName) [] (taking (Emit (These (codes "</")) ∷ Emit TheBuffer ∷ []) (Reconsume there.ScriptData) []) (λ x. refl) refl);
       stops = refl;
       emits = refl;
     }
 ends_in (state.EndTag raw.Escaped end_tag.LessThan) b m no_mark =
-    record { machine = at_state m there.ScriptDataEscaped; goes = by_entry (at_state m there.ScriptDataEscapedLessThanSign) [] (taking (Emit (These (codes "<")) ∷ []) (Reconsume there.ScriptDataEscaped) []) refl refl; stops = refl; emits = refl }
+    record { machine = at_state m there.ScriptDataEscaped; goes = by_entry (at_state m there.ScriptDataEscapedLessThanSign) [] (taking (Emit (These (codes "<")) ∷ []) (Reconsume there.ScriptDataEscaped) []) (λ x. refl) refl; stops = refl; emits = refl }
 ends_in (state.EndTag raw.Escaped end_tag.Open) b m no_mark =
-    record { machine = at_state m there.ScriptDataEscaped; goes = by_entry (at_state m there.ScriptDataEscapedEndTagOpen) [] (taking (Emit (These (codes "</")) ∷ []) (Reconsume there.ScriptDataEscaped) []) refl refl; stops = refl; emits = refl }
+    record { machine = at_state m there.ScriptDataEscaped; goes = by_entry (at_state m there.ScriptDataEscapedEndTagOpen) [] (taking (Emit (These (codes "</")) ∷ []) (Reconsume there.ScriptDataEscaped) []) (λ x. refl) refl; stops = refl; emits = refl }
 ends_in (state.EndTag raw.Escaped end_tag.Name) b m no_mark =
     record {
       machine = at_state m there.ScriptDataEscaped;
-      goes = subst (λ ts. Goes b (at_state m there.ScriptDataEscapedEndTagName) [] (AChar 60 ∷ AChar 47 ∷ ts) (at_state m there.ScriptDataEscaped) []) (append-nil (map AChar m.buffer))
-          (by_entry (at_state m there.ScriptDataEscapedEndTagName) [] (taking (Emit (These (codes "</")) ∷ Emit TheBuffer ∷ []) (Reconsume there.ScriptDataEscaped) []) refl refl);
+      goes = subst (λ ts. Goes (at_state m there.ScriptDataEscapedEndTagName) [] (AChar 60 ∷ AChar 47 ∷ ts) (at_state m there.ScriptDataEscaped) []) (append-nil (map AChar m.buffer))
+          (by_entry (at_state m there.ScriptDataEscapedEndTagName) [] (taking (Emit (These (codes "</")) ∷ Emit TheBuffer ∷ []) (Reconsume there.ScriptDataEscaped) []) (λ x. refl) refl);
       stops = refl;
       emits = refl;
     }
 ends_in (state.ScriptData script.EscapeStart) b m no_mark =
-    record { machine = at_state m there.ScriptData; goes = by_entry (at_state m there.ScriptDataEscapeStart) [] (taking [] (Reconsume there.ScriptData) []) refl refl; stops = refl; emits = refl }
+    record { machine = at_state m there.ScriptData; goes = by_entry (at_state m there.ScriptDataEscapeStart) [] (taking [] (Reconsume there.ScriptData) []) (λ x. refl) refl; stops = refl; emits = refl }
 ends_in (state.ScriptData script.EscapeStartDash) b m no_mark =
-    record { machine = at_state m there.ScriptData; goes = by_entry (at_state m there.ScriptDataEscapeStartDash) [] (taking [] (Reconsume there.ScriptData) []) refl refl; stops = refl; emits = refl }
+    record { machine = at_state m there.ScriptData; goes = by_entry (at_state m there.ScriptDataEscapeStartDash) [] (taking [] (Reconsume there.ScriptData) []) (λ x. refl) refl; stops = refl; emits = refl }
 ends_in (state.ScriptData script.Escaped) b m no_mark =
     record { machine = at_state m there.ScriptDataEscaped; goes = stays; stops = refl; emits = refl }
 ends_in (state.ScriptData script.EscapedDash) b m no_mark =
@@ -140,7 +140,7 @@ ends_in (state.ScriptData script.EscapedDash) b m no_mark =
 ends_in (state.ScriptData script.EscapedDashDash) b m no_mark =
     record { machine = at_state m there.ScriptDataEscapedDashDash; goes = stays; stops = refl; emits = refl }
 ends_in (state.ScriptData script.DoubleStart) b m no_mark =
-    record { machine = at_state m there.ScriptDataEscaped; goes = by_entry (at_state m there.ScriptDataDoubleEscapeStart) [] (taking [] (Reconsume there.ScriptDataEscaped) []) refl refl; stops = refl; emits = refl }
+    record { machine = at_state m there.ScriptDataEscaped; goes = by_entry (at_state m there.ScriptDataDoubleEscapeStart) [] (taking [] (Reconsume there.ScriptDataEscaped) []) (λ x. refl) refl; stops = refl; emits = refl }
 ends_in (state.ScriptData (script.Double double.Escaped)) b m no_mark =
     record { machine = at_state m there.ScriptDataDoubleEscaped; goes = stays; stops = refl; emits = refl }
 ends_in (state.ScriptData (script.Double double.Dash)) b m no_mark =
@@ -148,17 +148,17 @@ ends_in (state.ScriptData (script.Double double.Dash)) b m no_mark =
 ends_in (state.ScriptData (script.Double double.DashDash)) b m no_mark =
     record { machine = at_state m there.ScriptDataDoubleEscapedDashDash; goes = stays; stops = refl; emits = refl }
 ends_in (state.ScriptData (script.Double double.LessThan)) b m no_mark =
-    record { machine = at_state m there.ScriptDataDoubleEscaped; goes = by_entry (at_state m there.ScriptDataDoubleEscapedLessThanSign) [] (taking [] (Reconsume there.ScriptDataDoubleEscaped) []) refl refl; stops = refl; emits = refl }
+    record { machine = at_state m there.ScriptDataDoubleEscaped; goes = by_entry (at_state m there.ScriptDataDoubleEscapedLessThanSign) [] (taking [] (Reconsume there.ScriptDataDoubleEscaped) []) (λ x. refl) refl; stops = refl; emits = refl }
 ends_in (state.ScriptData (script.Double double.End)) b m no_mark =
-    record { machine = at_state m there.ScriptDataDoubleEscaped; goes = by_entry (at_state m there.ScriptDataDoubleEscapeEnd) [] (taking [] (Reconsume there.ScriptDataDoubleEscaped) []) refl refl; stops = refl; emits = refl }
+    record { machine = at_state m there.ScriptDataDoubleEscaped; goes = by_entry (at_state m there.ScriptDataDoubleEscapeEnd) [] (taking [] (Reconsume there.ScriptDataDoubleEscaped) []) (λ x. refl) refl; stops = refl; emits = refl }
 ends_in (state.Attribute attr.BeforeName) b m no_mark =
-    record { machine = at_state m there.AfterAttributeName; goes = by_entry (at_state m there.BeforeAttributeName) [] (taking [] (Reconsume there.AfterAttributeName) []) refl refl; stops = refl; emits = refl }
+    record { machine = at_state m there.AfterAttributeName; goes = by_entry (at_state m there.BeforeAttributeName) [] (taking [] (Reconsume there.AfterAttributeName) []) (λ x. refl) refl; stops = refl; emits = refl }
 ends_in (state.Attribute attr.Name) b m no_mark =
-    record { machine = at_state m there.AfterAttributeName; goes = by_entry (at_state m there.AttributeName) [] (taking [] (Reconsume there.AfterAttributeName) []) refl refl; stops = refl; emits = refl }
+    record { machine = at_state m there.AfterAttributeName; goes = by_entry (at_state m there.AttributeName) [] (taking [] (Reconsume there.AfterAttributeName) []) (λ x. refl) refl; stops = refl; emits = refl }
 ends_in (state.Attribute attr.AfterName) b m no_mark =
     record { machine = at_state m there.AfterAttributeName; goes = stays; stops = refl; emits = refl }
 ends_in (state.Attribute attr.BeforeValue) b m no_mark =
-    record { machine = at_state m there.AttributeValueUnquoted; goes = by_entry (at_state m there.BeforeAttributeValue) [] (taking [] (Reconsume there.AttributeValueUnquoted) []) refl refl; stops = refl; emits = refl }
+    record { machine = at_state m there.AttributeValueUnquoted; goes = by_entry (at_state m there.BeforeAttributeValue) [] (taking [] (Reconsume there.AttributeValueUnquoted) []) (λ x. refl) refl; stops = refl; emits = refl }
 ends_in (state.Attribute (attr.Quoted quote.Double)) b m no_mark =
     record { machine = at_state m there.AttributeValueDoubleQuoted; goes = stays; stops = refl; emits = refl }
 ends_in (state.Attribute (attr.Quoted quote.Single)) b m no_mark =
@@ -282,8 +282,8 @@ text_stops old new no_mark goes memory m ahead stands =
       characters = shown_in s m;
       last = last_in s;
       tokens = [];
-      goes = subst (λ text. Goes b m text (map AChar (shown_in s m)) ends.machine []) (sym (nothing_ahead s old ahead m no_mark stands.held))
-          (subst (λ k. Goes b k [] (map AChar (shown_in s m)) ends.machine []) (in_its_state m (state_of s) stands.state) ends.goes);
+      goes = subst (λ text. Goes m text (map AChar (shown_in s m)) ends.machine []) (sym (nothing_ahead s old ahead m no_mark stands.held))
+          (subst (λ k. Goes k [] (map AChar (shown_in s m)) ends.machine []) (in_its_state m (state_of s) stands.state) ends.goes);
       stops = ends.stops;
       emits = ends.emits;
       text = put.text ∙ ap (λ e. text_of old ++ e) (appended s old ahead m no_mark stands.held);

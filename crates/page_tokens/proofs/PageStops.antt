@@ -21,16 +21,16 @@ use Rattle.page_tokens.proofs.TextFollows.{OnlyErrors, map_append}
 
 -- characters are emitted first
 behind_characters : (old mid new : Tokenizer) (told : Option TokenKind) (m n : Machine) (ahead more cs : List ℕ) → mid.in_foreign ≡ old.in_foreign → text_of mid ≡ text_of old ++ encode_utf8_all cs →
-    Goes old.in_foreign m ahead (map AChar cs) n more → Stops mid new told n more → Stops old new told m ahead
+    Goes m ahead (map AChar cs) n more → Stops mid new told n more → Stops old new told m ahead
 behind_characters old mid new told m n ahead more cs same text goes s =
     let b : Bool = old.in_foreign in
-    let later : Goes b n more (map AChar s.characters) s.machine [] = subst (λ x. Goes x n more (map AChar s.characters) s.machine []) same s.goes in
+    let later : Goes n more (map AChar s.characters) s.machine [] = subst (λ x. Goes n more (map AChar s.characters) s.machine []) same s.goes in
     record {
       machine = s.machine;
       characters = cs ++ s.characters;
       last = s.last;
       tokens = s.tokens;
-      goes = subst (λ ts. Goes b m ahead ts s.machine []) (sym (map_append AChar cs s.characters)) (then_on goes later);
+      goes = subst (λ ts. Goes m ahead ts s.machine []) (sym (map_append AChar cs s.characters)) (then_on goes later);
       stops = subst (λ x. (step x s.machine []).stopped ≡ true) same s.stops;
       emits = subst (λ x. (step x s.machine []).tokens ≡ map AChar s.last ++ s.tokens ++ AnEof ∷ []) same s.emits;
       text = joined_text (text_of old) (text_of mid) (text_of new) cs (s.characters ++ s.last) text s.text ∙ ap (λ e. text_of old ++ encode_utf8_all e) (sym (append_assoc cs s.characters s.last));
@@ -64,7 +64,7 @@ ends_page old mid erred new told outside inside only remembers mark = record { m
         let front : InFront old mid m ahead [] = ends.ends m ahead stands in
         let here : Stands erred [] front.machine = behind_errors mid erred [] front.machine only front.stands in
         behind_characters old erred new told m front.machine ahead [] front.characters (same ends.leaves.in_foreign) (ap text_of only ∙ front.text)
-        (subst (λ text. Goes old.in_foreign m text (map AChar front.characters) front.machine []) (append-nil ahead) front.goes) (mark.stops front.machine [] here)
+        (subst (λ text. Goes m text (map AChar front.characters) front.machine []) (append-nil ahead) front.goes) (mark.stops front.machine [] here)
 
 pub end_arm : {E : Type 0} (old mid erred new : Tokenizer) (told : Option TokenKind) (result : Result (Option TokenKind) E) → (old.reference ≡ reference.None → mid ≡ old) → (mid.refused ≡ false → EndsInReference old mid) →
     OnlyErrors mid erred → Remembers mid erred → (new.refused ≡ false → EndsMark erred new told) → IfOk result (λ kind. kind ≡ told) → IfOk result (λ kind. new.refused ≡ false) → EndsAsStandard old new result

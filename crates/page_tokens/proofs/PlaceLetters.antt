@@ -27,7 +27,7 @@ shown_if in_value put = cond in_value [] (map AChar put)
 -- in the state, letters and digits are added to the value of the attribute, or emitted
 abbrev pub ReadsLetters : Bool → StandardState → Type 0
 ReadsLetters in_value s = (b : Bool) (m : Machine) (c : ℕ) (rest : List ℕ) → is_value m.return_state ≡ in_value → is_ascii_alphanumeric c ≡ true →
-    Goes b (at_state m s) (c ∷ rest) (shown_if in_value (c ∷ [])) (at_state (put_if in_value (c ∷ []) m) s) rest
+    Goes (at_state m s) (c ∷ rest) (shown_if in_value (c ∷ [])) (at_state (put_if in_value (c ∷ []) m) s) rest
 
 with_nothing : (attrs : List Attr) → with_value attrs [] ≡ attrs
 with_nothing [] = refl
@@ -45,11 +45,11 @@ added_twice m xs ys = ap (λ (attrs : List Attr). record m { tag = record m.tag 
 
 -- letters and digits, one after the other
 pub letters_run : (in_value : Bool) (s : StandardState) → ReadsLetters in_value s → (b : Bool) (m : Machine) (text rest : List ℕ) → is_value m.return_state ≡ in_value → list_all is_ascii_alphanumeric text ≡ true →
-    Goes b (at_state m s) (text ++ rest) (shown_if in_value text) (at_state (put_if in_value text m) s) rest
-letters_run true s one b m [] rest e all = subst (λ k. Goes b (at_state m s) rest [] (at_state k s) rest) (sym (added_nothing m)) stays
+    Goes (at_state m s) (text ++ rest) (shown_if in_value text) (at_state (put_if in_value text m) s) rest
+letters_run true s one b m [] rest e all = subst (λ k. Goes (at_state m s) rest [] (at_state k s) rest) (sym (added_nothing m)) stays
 letters_run true s one b m (c ∷ text) rest e all =
     let parts : (is_ascii_alphanumeric c ≡ true) × (list_all is_ascii_alphanumeric text ≡ true) = and_parts (is_ascii_alphanumeric c) (list_all is_ascii_alphanumeric text) all in
-    subst (λ k. Goes b (at_state m s) (c ∷ (text ++ rest)) [] (at_state k s) rest) (added_twice m (c ∷ []) text)
+    subst (λ k. Goes (at_state m s) (c ∷ (text ++ rest)) [] (at_state k s) rest) (added_twice m (c ∷ []) text)
     (then_on (one b m c (text ++ rest) e parts.0) (letters_run true s one b (added AttrValue (c ∷ []) m) text rest e parts.1))
 letters_run false s one b m [] rest e all = stays
 letters_run false s one b m (c ∷ text) rest e all =
@@ -58,18 +58,18 @@ letters_run false s one b m (c ∷ text) rest e all =
 
 -- after the end of a reference: its buffer is put, and then letters and digits are read
 pub letters_behind : (in_value : Bool) (s : StandardState) → ReadsLetters in_value s → (b : Bool) (m k : Machine) (text after rest : List ℕ) → is_value k.return_state ≡ in_value → list_all is_ascii_alphanumeric after ≡ true →
-    Goes b m text (emitted [] Flush k ++ []) (at_state (put_if (is_value k.return_state) k.buffer k) s) (after ++ rest) →
-    Goes b m text (shown_if (is_value k.return_state) (k.buffer ++ after)) (at_state (put_if (is_value k.return_state) (k.buffer ++ after) k) s) rest
+    Goes m text (emitted [] Flush k ++ []) (at_state (put_if (is_value k.return_state) k.buffer k) s) (after ++ rest) →
+    Goes m text (shown_if (is_value k.return_state) (k.buffer ++ after)) (at_state (put_if (is_value k.return_state) (k.buffer ++ after) k) s) rest
 letters_behind in_value s one b m k text after rest e all goes =
-    subst (λ x. Goes b m text (shown_if x (k.buffer ++ after)) (at_state (put_if x (k.buffer ++ after) k) s) rest) (sym e)
-    (go in_value e one (subst (λ x. Goes b m text (shown_if x k.buffer ++ []) (at_state (put_if x k.buffer k) s) (after ++ rest)) e goes))
+    subst (λ x. Goes m text (shown_if x (k.buffer ++ after)) (at_state (put_if x (k.buffer ++ after) k) s) rest) (sym e)
+    (go in_value e one (subst (λ x. Goes m text (shown_if x k.buffer ++ []) (at_state (put_if x k.buffer k) s) (after ++ rest)) e goes))
   where
-    go : (x : Bool) → is_value k.return_state ≡ x → ReadsLetters x s → Goes b m text (shown_if x k.buffer ++ []) (at_state (put_if x k.buffer k) s) (after ++ rest) →
-        Goes b m text (shown_if x (k.buffer ++ after)) (at_state (put_if x (k.buffer ++ after) k) s) rest
+    go : (x : Bool) → is_value k.return_state ≡ x → ReadsLetters x s → Goes m text (shown_if x k.buffer ++ []) (at_state (put_if x k.buffer k) s) (after ++ rest) →
+        Goes m text (shown_if x (k.buffer ++ after)) (at_state (put_if x (k.buffer ++ after) k) s) rest
     go true e one goes =
-        subst (λ n. Goes b m text [] (at_state n s) rest) (added_twice k k.buffer after) (then_on goes (letters_run true s one b (added AttrValue k.buffer k) after rest e all))
+        subst (λ n. Goes m text [] (at_state n s) rest) (added_twice k k.buffer after) (then_on goes (letters_run true s one b (added AttrValue k.buffer k) after rest e all))
     go false e one goes =
-        subst (λ ts. Goes b m text ts (at_state k s) rest) (ap (λ ts. ts ++ map AChar after) (append-nil (map AChar k.buffer)) ∙ sym (map-append AChar k.buffer after))
+        subst (λ ts. Goes m text ts (at_state k s) rest) (ap (λ ts. ts ++ map AChar after) (append-nil (map AChar k.buffer)) ∙ sym (map-append AChar k.buffer after))
         (then_on goes (letters_run false s one b k after rest e all))
 
 -- ---- in the states
@@ -80,25 +80,25 @@ other_than k c none letter = ne_eqb k c (λ e. true≢false (sym letter ∙ ap i
 pub data_letters : ReadsLetters false there.Data
 unfolding taken entries
 data_letters b m c rest e letter =
-    by_entry (at_state m there.Data) (c ∷ rest) (taking (Emit Current ∷ []) Stay (c ∷ [])) (rw (other_than 38 c refl letter, other_than 60 c refl letter, other_than 0 c refl letter) refl) refl
+    by_entry (at_state m there.Data) (c ∷ rest) (taking (Emit Current ∷ []) Stay (c ∷ [])) (λ x. rw (other_than 38 c refl letter, other_than 60 c refl letter, other_than 0 c refl letter) refl) refl
 
 pub rcdata_letters : ReadsLetters false there.RCDATA
 unfolding taken entries
 rcdata_letters b m c rest e letter =
-    by_entry (at_state m there.RCDATA) (c ∷ rest) (taking (Emit Current ∷ []) Stay (c ∷ [])) (rw (other_than 38 c refl letter, other_than 60 c refl letter, other_than 0 c refl letter) refl) refl
+    by_entry (at_state m there.RCDATA) (c ∷ rest) (taking (Emit Current ∷ []) Stay (c ∷ [])) (λ x. rw (other_than 38 c refl letter, other_than 60 c refl letter, other_than 0 c refl letter) refl) refl
 
 pub double_letters : ReadsLetters true there.AttributeValueDoubleQuoted
 unfolding taken entries
 double_letters b m c rest e letter =
-    by_entry (at_state m there.AttributeValueDoubleQuoted) (c ∷ rest) (taking (Add AttrValue Current ∷ []) Stay (c ∷ [])) (rw (other_than 34 c refl letter, other_than 38 c refl letter, other_than 0 c refl letter) refl) refl
+    by_entry (at_state m there.AttributeValueDoubleQuoted) (c ∷ rest) (taking (Add AttrValue Current ∷ []) Stay (c ∷ [])) (λ x. rw (other_than 34 c refl letter, other_than 38 c refl letter, other_than 0 c refl letter) refl) refl
 
 pub single_letters : ReadsLetters true there.AttributeValueSingleQuoted
 unfolding taken entries
 single_letters b m c rest e letter =
-    by_entry (at_state m there.AttributeValueSingleQuoted) (c ∷ rest) (taking (Add AttrValue Current ∷ []) Stay (c ∷ [])) (rw (other_than 39 c refl letter, other_than 38 c refl letter, other_than 0 c refl letter) refl) refl
+    by_entry (at_state m there.AttributeValueSingleQuoted) (c ∷ rest) (taking (Add AttrValue Current ∷ []) Stay (c ∷ [])) (λ x. rw (other_than 39 c refl letter, other_than 38 c refl letter, other_than 0 c refl letter) refl) refl
 
 pub unquoted_letters : ReadsLetters true there.AttributeValueUnquoted
 unfolding taken entries
 unquoted_letters b m c rest e letter =
     by_entry (at_state m there.AttributeValueUnquoted) (c ∷ rest) (taking (Add AttrValue Current ∷ []) Stay (c ∷ []))
-    (rw (other_than 9 c refl letter, other_than 10 c refl letter, other_than 12 c refl letter, other_than 32 c refl letter, other_than 38 c refl letter, other_than 62 c refl letter, other_than 0 c refl letter) refl) refl
+    (λ x. rw (other_than 9 c refl letter, other_than 10 c refl letter, other_than 12 c refl letter, other_than 32 c refl letter, other_than 38 c refl letter, other_than 62 c refl letter, other_than 0 c refl letter) refl) refl

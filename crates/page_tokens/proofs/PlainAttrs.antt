@@ -86,7 +86,7 @@ run_front old new kind text front rest cs outside is some follows = record {
 begins_after_value : (c : ℕ) → IsNameLetter c → Begins there.AfterAttributeValueQuoted c
 unfolding taken entries
 begins_after_value c is b m rest =
-    then_on (by_entry (at_state m there.AfterAttributeValueQuoted) (c ∷ rest) (taking [] (Reconsume there.BeforeAttributeName) (c ∷ [])) (rw (is.tab, is.line_feed, is.form_feed, is.space, is.slash, is.greater) refl) refl)
+    then_on (by_entry (at_state m there.AfterAttributeValueQuoted) (c ∷ rest) (taking [] (Reconsume there.BeforeAttributeName) (c ∷ [])) (λ x. rw (is.tab, is.line_feed, is.form_feed, is.space, is.slash, is.greater) refl) refl)
     (begins_before c is b m rest)
 
 begun : (draft more : TagDraft) (one : StandardTag) (cs : List ℕ) → IsDraft draft one → string_bytes draft.attr_name ≡ [] → string_bytes more.attr_name ≡ encode_utf8_all cs → 0 < length (encode_utf8_all cs) →
@@ -114,16 +114,16 @@ names_follow old new from c cs is begins long all goes nothing drafted =
     let finished : IsDraft done m.tag × (string_bytes done.attr_name ≡ []) = draft_of_finish old.tag done m.tag begins.none begins.some (drafted old ahead m held) in
     let parts : (ends_attr_name c ≡ false) × NoneEnds ends_attr_name cs = each ends_attr_name c cs all in
     let n : Machine = with_attrs m there.AttributeName (an_attr (map to_ascii_lowercase (c ∷ cs)) [] ∷ m.tag.attrs) in
-    let first : Goes b (at_state m (state_of from)) (c ∷ (cs ++ rest)) [] (with_attrs m there.AttributeName (an_attr (to_ascii_lowercase c ∷ []) [] ∷ m.tag.attrs)) (cs ++ rest) =
-    subst (λ e. Goes b (at_state m (state_of from)) (c ∷ (cs ++ rest)) [] (with_attrs m there.AttributeName (an_attr (to_ascii_lowercase e ∷ []) [] ∷ m.tag.attrs)) (cs ++ rest)) (shown_same ends_attr_name c parts.0 refl) (goes b m (cs ++ rest)) in
-    let more : Goes b (with_attrs m there.AttributeName (an_attr (to_ascii_lowercase c ∷ []) [] ∷ m.tag.attrs)) (cs ++ rest) [] n rest =
+    let first : Goes (at_state m (state_of from)) (c ∷ (cs ++ rest)) [] (with_attrs m there.AttributeName (an_attr (to_ascii_lowercase c ∷ []) [] ∷ m.tag.attrs)) (cs ++ rest) =
+    subst (λ e. Goes (at_state m (state_of from)) (c ∷ (cs ++ rest)) [] (with_attrs m there.AttributeName (an_attr (to_ascii_lowercase e ∷ []) [] ∷ m.tag.attrs)) (cs ++ rest)) (shown_same ends_attr_name c parts.0 refl) (goes b m (cs ++ rest)) in
+    let more : Goes (with_attrs m there.AttributeName (an_attr (to_ascii_lowercase c ∷ []) [] ∷ m.tag.attrs)) (cs ++ rest) [] n rest =
     gathered_by to_ascii_lowercase ends_attr_name (λ d. with_attrs m there.AttributeName (an_attr d [] ∷ m.tag.attrs)) (λ d c rest goes_on. attr_name_step b m d [] m.tag.attrs c rest goes_on) (to_ascii_lowercase c ∷ []) cs rest parts.1 in
     let some : 0 < length (string_bytes new.tag.attr_name) = subst (λ (bytes : List ℕ). 0 < length bytes) (sym begins.name_is) long in
     let draft : IsDraft made.tag n.tag = begun done new.tag m.tag (c ∷ cs) finished.0 finished.1 begins.name_is long in
     let at : at_state m (state_of from) ≡ m = in_its_state m (state_of from) (stands.state ∙ ap state_of is) in
     record {
       machine = n;
-      goes = subst (λ front. Goes b m (front ++ (c ∷ cs) ++ rest) [] n rest) (sym (nothing old ahead m held)) (subst (λ k. Goes b k (c ∷ (cs ++ rest)) [] n rest) at (then_on first more));
+      goes = subst (λ front. Goes m (front ++ (c ∷ cs) ++ rest) [] n rest) (sym (nothing old ahead m held)) (subst (λ k. Goes k (c ∷ (cs ++ rest)) [] n rest) at (then_on first more));
       stands = subst (λ t. Stands t [] n) (sym only) (record { reference = stands.reference; state = refl; last_start = stands.last_start; held = (refl, draft, some) });
     })
 

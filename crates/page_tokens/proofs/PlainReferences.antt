@@ -91,23 +91,23 @@ abbrev in_name : StandardState → Machine → List ℕ → Machine
 in_name back m buffer = record m { state = there.NamedCharacterReference; return_state = back; buffer = buffer }
 
 to_name : (b : Bool) (m : Machine) (s : StandardState) (name : List ℕ) (c : ℕ) (rest : List ℕ) → Entry s 38 (ReturnTo s ∷ []) (Switch there.CharacterReference) → IsNamed name c →
-    Goes b (at_state m s) (38 ∷ (name ++ rest)) [] (in_name s m (codes "&")) (name ++ rest)
+    Goes (at_state m s) (38 ∷ (name ++ rest)) [] (in_name s m (codes "&")) (name ++ rest)
 to_name b m s name c rest entry is =
     let n : Machine = record m { state = there.CharacterReference; return_state = s } in
-    then_on (by_entry (at_state m s) (38 ∷ (name ++ rest)) (taking (ReturnTo s ∷ []) (Switch there.CharacterReference) (38 ∷ [])) (entry b m (name ++ rest)) refl)
-    (by_entry n (name ++ rest) (taking (SetEmpty Buffer ∷ Add Buffer (These (codes "&")) ∷ []) (Reconsume there.NamedCharacterReference) (take 1 name)) (is.begins b n rest) refl)
+    then_on (by_entry (at_state m s) (38 ∷ (name ++ rest)) (taking (ReturnTo s ∷ []) (Switch there.CharacterReference) (38 ∷ [])) (λ x. entry x m (name ++ rest)) refl)
+    (by_entry n (name ++ rest) (taking (SetEmpty Buffer ∷ Add Buffer (These (codes "&")) ∷ []) (Reconsume there.NamedCharacterReference) (take 1 name)) (λ x. is.begins x n rest) refl)
 
 over_name : (b : Bool) (m : Machine) (s : StandardState) (name : List ℕ) (c : ℕ) (rest : List ℕ) → IsNamed name c →
-    Goes b (in_name s m (codes "&")) (name ++ rest) (emitted [] Flush (in_name s m (c ∷ [])) ++ []) (flushing (in_name s m (c ∷ []))) rest
+    Goes (in_name s m (codes "&")) (name ++ rest) (emitted [] Flush (in_name s m (c ∷ [])) ++ []) (flushing (in_name s m (c ∷ []))) rest
 unfolding taken entries
 over_name b m s name c rest is =
     let n : Machine = in_name s m (codes "&") in
     let test : (is_value s && ends_open name && goes_on (drop (length name) (name ++ rest))) ≡ false =
     ap (λ x. is_value s && x && goes_on (drop (length name) (name ++ rest))) is.closed ∙ no_part (is_value s) (goes_on (drop (length name) (name ++ rest))) in
-    let step : Goes b n (name ++ rest) (emitted [] Flush (in_name s m (value_of name)) ++ []) (flushing (in_name s m (value_of name))) (drop (length name) (name ++ rest)) =
-    by_entry n (name ++ rest) (taking (BufferName ∷ Flush ∷ []) SwitchBack name) (rw (is.longest rest, test) refl) refl in
-    subst (λ t. Goes b n (name ++ rest) (emitted [] Flush (in_name s m (c ∷ [])) ++ []) (flushing (in_name s m (c ∷ []))) t) (drop_at name rest (length name) refl)
-    (subst (λ v. Goes b n (name ++ rest) (emitted [] Flush (in_name s m v) ++ []) (flushing (in_name s m v)) (drop (length name) (name ++ rest))) is.means step)
+    let step : Goes n (name ++ rest) (emitted [] Flush (in_name s m (value_of name)) ++ []) (flushing (in_name s m (value_of name))) (drop (length name) (name ++ rest)) =
+    by_entry n (name ++ rest) (taking (BufferName ∷ Flush ∷ []) SwitchBack name) (λ x. rw (is.longest rest, test) refl) refl in
+    subst (λ t. Goes n (name ++ rest) (emitted [] Flush (in_name s m (c ∷ [])) ++ []) (flushing (in_name s m (c ∷ []))) t) (drop_at name rest (length name) refl)
+    (subst (λ v. Goes n (name ++ rest) (emitted [] Flush (in_name s m v) ++ []) (flushing (in_name s m v)) (drop (length name) (name ++ rest))) is.means step)
 
 -- ---- what the tokenizer puts in its place
 
@@ -161,17 +161,17 @@ reference_follows old new name c frequent allows outside none puts =
           let n : Machine = in_name s m (codes "&") in
           let k : Machine = in_name s m (c ∷ []) in
           let place : Outside old k = record { back = refl; last_start = stands.last_start; place = place_of_reference old.state old m allows (subst (λ a. Held old.state old a m) empty stands.held) } in
-          let to : Flushed old new (λ tokens machine. Goes b n (name ++ rest) tokens machine rest) =
-          flushed old new k (λ tokens machine. Goes b n (name ++ rest) tokens machine rest) place put.ends (over_name b m s name c rest is) in
-          let all : Goes b (at_state m s) (38 ∷ (name ++ rest)) (map AChar to.characters) to.machine rest = then_on (to_name b m s name c rest at.entry is) to.goes in
+          let to : Flushed old new (λ tokens machine. Goes n (name ++ rest) tokens machine rest) =
+          flushed old new k (λ tokens machine. Goes n (name ++ rest) tokens machine rest) place put.ends (over_name b m s name c rest is) in
+          let all : Goes (at_state m s) (38 ∷ (name ++ rest)) (map AChar to.characters) to.machine rest = then_on (to_name b m s name c rest at.entry is) to.goes in
           record {
             machine = to.machine;
             ahead' = [];
             characters = to.characters;
             tokens = [];
-            goes = subst (λ ts. Goes b m (ahead ++ (38 ∷ name) ++ rest) ts to.machine rest) (sym (append-nil (map AChar to.characters)))
-                (subst (λ front. Goes b m (front ++ (38 ∷ name) ++ rest) (map AChar to.characters) to.machine rest) (sym empty)
-                (subst (λ j. Goes b j (38 ∷ (name ++ rest)) (map AChar to.characters) to.machine rest) (in_its_state m s stands.state) all));
+            goes = subst (λ ts. Goes m (ahead ++ (38 ∷ name) ++ rest) ts to.machine rest) (sym (append-nil (map AChar to.characters)))
+                (subst (λ front. Goes m (front ++ (38 ∷ name) ++ rest) (map AChar to.characters) to.machine rest) (sym empty)
+                (subst (λ j. Goes j (38 ∷ (name ++ rest)) (map AChar to.characters) to.machine rest) (in_its_state m s stands.state) all));
             holds = inl to.stands;
             text = to.text;
             ends = refl;

@@ -38,15 +38,15 @@ use Rattle.page_tokens.proofs.TagSteps.{naming}
 -- ---- the machine's steps
 
 -- `<` or `</` before a letter
-opens : (which : TagKind) (b : Bool) (m : Machine) (c : ℕ) (rest : List ℕ) → is_ascii_alphabetic c ≡ true → Goes b (at_state m there.Data) (opening which ++ (c ∷ rest)) [] (naming (fresh m (kind_of which)) []) (c ∷ rest)
+opens : (which : TagKind) (b : Bool) (m : Machine) (c : ℕ) (rest : List ℕ) → is_ascii_alphabetic c ≡ true → Goes (at_state m there.Data) (opening which ++ (c ∷ rest)) [] (naming (fresh m (kind_of which)) []) (c ∷ rest)
 unfolding taken entries
 opens kind.Start b m c rest letter =
-    then_on (by_entry (at_state m there.Data) (60 ∷ c ∷ rest) (taking [] (Switch there.TagOpen) (60 ∷ [])) refl refl)
-    (by_entry (at_state m there.TagOpen) (c ∷ rest) (taking (NewTag (kind_of kind.Start) ∷ []) (Reconsume there.TagName) (c ∷ [])) (start_entry c letter b m rest) refl)
+    then_on (by_entry (at_state m there.Data) (60 ∷ c ∷ rest) (taking [] (Switch there.TagOpen) (60 ∷ [])) (λ x. refl) refl)
+    (by_entry (at_state m there.TagOpen) (c ∷ rest) (taking (NewTag (kind_of kind.Start) ∷ []) (Reconsume there.TagName) (c ∷ [])) (λ x. start_entry c letter x m rest) refl)
 opens kind.End b m c rest letter =
-    then_on (by_entry (at_state m there.Data) (60 ∷ 47 ∷ c ∷ rest) (taking [] (Switch there.TagOpen) (60 ∷ [])) refl refl)
-    (then_on (by_entry (at_state m there.TagOpen) (47 ∷ c ∷ rest) (taking [] (Switch there.EndTagOpen) (47 ∷ [])) refl refl)
-    (by_entry (at_state m there.EndTagOpen) (c ∷ rest) (taking (NewTag (kind_of kind.End) ∷ []) (Reconsume there.TagName) (c ∷ [])) (end_entry c letter b m rest) refl))
+    then_on (by_entry (at_state m there.Data) (60 ∷ 47 ∷ c ∷ rest) (taking [] (Switch there.TagOpen) (60 ∷ [])) (λ x. refl) refl)
+    (then_on (by_entry (at_state m there.TagOpen) (47 ∷ c ∷ rest) (taking [] (Switch there.EndTagOpen) (47 ∷ [])) (λ x. refl) refl)
+    (by_entry (at_state m there.EndTagOpen) (c ∷ rest) (taking (NewTag (kind_of kind.End) ∷ []) (Reconsume there.TagName) (c ∷ [])) (λ x. end_entry c letter x m rest) refl))
 
 -- the name begins with a letter, and nothing in it ends it
 record IsName (cs : List ℕ) : Type 0 where
@@ -57,11 +57,11 @@ record IsName (cs : List ℕ) : Type 0 where
   pub all : NoneEnds ends_tag_name cs
 
 named : (which : TagKind) (b : Bool) (m : Machine) (cs rest : List ℕ) → IsName cs →
-    Goes b (at_state m there.Data) (opening which ++ (cs ++ rest)) [] (naming (fresh m (kind_of which)) (map to_ascii_lowercase cs)) rest
+    Goes (at_state m there.Data) (opening which ++ (cs ++ rest)) [] (naming (fresh m (kind_of which)) (map to_ascii_lowercase cs)) rest
 named which b m cs rest is =
     let n : Machine = fresh m (kind_of which) in
-    let begun : Goes b (at_state m there.Data) (opening which ++ (cs ++ rest)) [] (naming n []) (cs ++ rest) =
-    subst (λ t. Goes b (at_state m there.Data) (opening which ++ (t ++ rest)) [] (naming n []) (t ++ rest)) (sym is.are) (opens which b m is.first (is.others ++ rest) is.letter) in
+    let begun : Goes (at_state m there.Data) (opening which ++ (cs ++ rest)) [] (naming n []) (cs ++ rest) =
+    subst (λ t. Goes (at_state m there.Data) (opening which ++ (t ++ rest)) [] (naming n []) (t ++ rest)) (sym is.are) (opens which b m is.first (is.others ++ rest) is.letter) in
     then_on begun (gathered_by to_ascii_lowercase ends_tag_name (naming n) (λ d c rest goes_on. name_step b n d c rest goes_on) [] cs rest is.all)
 
 -- ---- the tag
@@ -94,7 +94,7 @@ tag_begins old mid which cs is none only new_tag name =
     let empty : ahead ≡ [] = subst (λ s. Held s old ahead m) is stands.held in
     let n : Machine = naming (fresh m (kind_of which)) (map to_ascii_lowercase cs) in
     let at : m.state ≡ there.Data = stands.state ∙ ap state_of is in
-    let goes : Goes b m (opening which ++ (cs ++ rest)) [] n rest = subst (λ k. Goes b k (opening which ++ (cs ++ rest)) [] n rest) (in_its_state m there.Data at) (named which b m cs rest name) in
+    let goes : Goes m (opening which ++ (cs ++ rest)) [] n rest = subst (λ k. Goes k (opening which ++ (cs ++ rest)) [] n rest) (in_its_state m there.Data at) (named which b m cs rest name) in
     let draft : IsDraft mid.tag n.tag = record {
       kind = ap kind_of new_tag.kind;
       named = subst (λ (e : List ℕ). 0 < length e) (sym new_tag.name) (some_bytes cs name);
@@ -104,7 +104,7 @@ tag_begins old mid which cs is none only new_tag name =
     } in
     record {
       machine = n;
-      goes = subst (λ front. Goes b m (front ++ (opening which ++ cs) ++ rest) [] n rest) (sym empty) (subst (λ t. Goes b m t [] n rest) (sym (append_assoc (opening which) cs rest)) goes);
+      goes = subst (λ front. Goes m (front ++ (opening which ++ cs) ++ rest) [] n rest) (sym empty) (subst (λ t. Goes m t [] n rest) (sym (append_assoc (opening which) cs rest)) goes);
       stands = record { reference = stands.reference; state = refl; last_start = stands.last_start; held = (refl, draft) };
     }))
 

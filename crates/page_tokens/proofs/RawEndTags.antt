@@ -91,7 +91,7 @@ end_tag_arm old new which c (Ok told) is came only told_is = λ none.
     let at : m.state ≡ end_tag_state_of which end_tag.LessThan = stands.state ∙ ap state_of is in
     record {
       machine = n;
-      goes = subst (λ front. Goes b m (front ++ (c ∷ []) ++ rest) [] n rest) (sym held) (subst (λ k. Goes b k (c ∷ rest) [] n rest) (in_its_state m (end_tag_state_of which end_tag.LessThan) at) (steps b m rest));
+      goes = subst (λ front. Goes m (front ++ (c ∷ []) ++ rest) [] n rest) (sym held) (subst (λ k. Goes k (c ∷ rest) [] n rest) (in_its_state m (end_tag_state_of which end_tag.LessThan) at) (steps b m rest));
       stands = record { reference = stands.reference; state = refl; last_start = stands.last_start; held = (refl, refl) };
     })))
 end_tag_arm old new which c (Err e) is came only told_is = tt
@@ -120,8 +120,8 @@ double_arm old cleared put mid new which c (Ok told) is came cleared_is empty go
     let at : m.state ≡ end_tag_state_of which end_tag.LessThan = stands.state ∙ ap state_of is in
     record {
       machine = n;
-      goes = subst (λ front. Goes b m (front ++ (c ∷ []) ++ rest) (AChar 60 ∷ []) n (c ∷ rest)) (sym held)
-          (subst (λ k. Goes b k (c ∷ rest) (AChar 60 ∷ []) n (c ∷ rest)) (in_its_state m (end_tag_state_of which end_tag.LessThan) at) (steps b m rest));
+      goes = subst (λ front. Goes m (front ++ (c ∷ []) ++ rest) (AChar 60 ∷ []) n (c ∷ rest)) (sym held)
+          (subst (λ k. Goes k (c ∷ rest) (AChar 60 ∷ []) n (c ∷ rest)) (in_its_state m (end_tag_state_of which end_tag.LessThan) at) (steps b m rest));
       stands = subst (λ t. Stands t [] n) (sym mid_is) (record { reference = stands.reference; state = refl; last_start = stands.last_start; held = (refl, empty) });
     }) after
 double_arm old cleared put mid new which c (Err e) is came cleared_is empty goes only follows = tt
@@ -161,8 +161,8 @@ begins old new which c is letter starts none =
     let spells : Spells new.tag.name (m.buffer ++ c ∷ []) = starts.name ∙ sym (append-nil (encode_utf8 c)) ∙ ap (λ d. encode_utf8_all (d ++ c ∷ [])) (sym held.1) in
     record {
       machine = n;
-      goes = subst (λ front. Goes b m (front ++ (c ∷ []) ++ rest) [] n rest) (sym held.0)
-          (subst (λ k. Goes b k (c ∷ rest) [] n rest) (in_its_state m (end_tag_state_of which end_tag.Open) at) (letter_begins which b m rest c letter));
+      goes = subst (λ front. Goes m (front ++ (c ∷ []) ++ rest) [] n rest) (sym held.0)
+          (subst (λ k. Goes k (c ∷ rest) [] n rest) (in_its_state m (end_tag_state_of which end_tag.Open) at) (letter_begins which b m rest c letter));
       stands = record { reference = stands.reference; state = refl; last_start = stands.last_start; held = (refl, (draft, spells)) };
     }))
 
@@ -200,8 +200,8 @@ letter old new which c is alphabetic adds none =
     let spells : Spells made.tag.name n.buffer = one_more (string_bytes new.tag.name) (string_bytes old.tag.name) m.buffer c adds.name held.1.1 in
     record {
       machine = n;
-      goes = subst (λ front. Goes b m (front ++ (c ∷ []) ++ rest) [] n rest) (sym held.0)
-          (subst (λ k. Goes b k (c ∷ rest) [] n rest) (in_its_state m (end_tag_state_of which end_tag.Name) at) (letter_over which b m rest c alphabetic));
+      goes = subst (λ front. Goes m (front ++ (c ∷ []) ++ rest) [] n rest) (sym held.0)
+          (subst (λ k. Goes k (c ∷ rest) [] n rest) (in_its_state m (end_tag_state_of which end_tag.Name) at) (letter_over which b m rest c alphabetic));
       stands = record { reference = stands.reference; state = ap state_of (sym is); last_start = stands.last_start; held = subst (λ s. Held s made [] n) (sym is) (refl, (new_draft, spells)) };
     }))
 
@@ -269,11 +269,11 @@ goes_on old new which to c is decides only none entry holds =
     let b : Bool = old.in_foreign in
     let n : Machine = at_state m (state_of to) in
     let at : m.state ≡ end_tag_state_of which end_tag.Name = stands.state ∙ ap state_of is in
-    let step : Goes b (naming which m) (c ∷ rest) [] n rest =
-    by_entry (naming which m) (c ∷ rest) (taking [] (Switch (state_of to)) (c ∷ [])) (entry b m rest (appropriate_is old m true held.1.0 stands.last_start decides)) refl in
+    let step : Goes (naming which m) (c ∷ rest) [] n rest =
+    by_entry (naming which m) (c ∷ rest) (taking [] (Switch (state_of to)) (c ∷ [])) (λ x. entry x m rest (appropriate_is old m true held.1.0 stands.last_start decides)) refl in
     record {
       machine = n;
-      goes = subst (λ front. Goes b m (front ++ (c ∷ []) ++ rest) [] n rest) (sym held.0) (subst (λ k. Goes b k (c ∷ rest) [] n rest) (in_its_state m (end_tag_state_of which end_tag.Name) at) step);
+      goes = subst (λ front. Goes m (front ++ (c ∷ []) ++ rest) [] n rest) (sym held.0) (subst (λ k. Goes k (c ∷ rest) [] n rest) (in_its_state m (end_tag_state_of which end_tag.Name) at) step);
       stands = record { reference = stands.reference; state = refl; last_start = stands.last_start; held = holds made n held.1.0 };
     }))
 
@@ -329,14 +329,14 @@ no_tag_arm old put named mid new which x c (Ok told) is letter decides came firs
     let n : Machine = at_state m (state_of (raw_state_of which)) in
     let at : m.state ≡ end_tag_state_of which end_tag.Name = stands.state ∙ ap state_of is in
     let same : is_appropriate m ≡ x = appropriate_is old m x held.1.0 stands.last_start decides in
-    let steps : Goes b (naming which m) (c ∷ rest) (map AChar (codes "</" ++ m.buffer)) n (c ∷ rest) = elim step [
+    let steps : Goes (naming which m) (c ∷ rest) (map AChar (codes "</" ++ m.buffer)) n (c ∷ rest) = elim step [
       | inl other ↦ other_name which c letter b m rest (same ∙ other)
       | inr no_end ↦ other_character which c letter no_end b m rest
     ] in
     record {
       machine = n;
-      goes = subst (λ front. Goes b m (front ++ (c ∷ []) ++ rest) (map AChar (codes "</" ++ m.buffer)) n (c ∷ rest)) (sym held.0)
-          (subst (λ k. Goes b k (c ∷ rest) (map AChar (codes "</" ++ m.buffer)) n (c ∷ rest)) (in_its_state m (end_tag_state_of which end_tag.Name) at) steps);
+      goes = subst (λ front. Goes m (front ++ (c ∷ []) ++ rest) (map AChar (codes "</" ++ m.buffer)) n (c ∷ rest)) (sym held.0)
+          (subst (λ k. Goes k (c ∷ rest) (map AChar (codes "</" ++ m.buffer)) n (c ∷ rest)) (in_its_state m (end_tag_state_of which end_tag.Name) at) steps);
       stands = subst (λ t. Stands t [] n) (sym goes.only) (record { reference = stands.reference; state = refl; last_start = stands.last_start; held = raw_holds which made n });
     }) after
 no_tag_arm old put named mid new which x c (Err e) is letter decides came first second only follows = tt

@@ -28,9 +28,9 @@ use Rattle.page_tokens.proofs.TextFollows.{Over, OnlyErrors, begins_reference, c
 pub data_over : (c : ℕ) → (38 == c) ≡ false → (60 == c) ≡ false → Over state.Data state.Data c (c ∷ [])
 unfolding taken entries
 data_over c h38 h60 b m rest =
-    by_bool (λ e x. Goes b (at_state m there.Data) (e ∷ rest) (AChar e ∷ []) (at_state m there.Data) rest) c 0
-    (by_entry (at_state m there.Data) (0 ∷ rest) (taking (Emit Current ∷ []) Stay (0 ∷ [])) refl refl)
-    (λ h0. by_entry (at_state m there.Data) (c ∷ rest) (taking (Emit Current ∷ []) Stay (c ∷ [])) (rw (h38, h60, h0) refl) refl)
+    by_bool (λ e x. Goes (at_state m there.Data) (e ∷ rest) (AChar e ∷ []) (at_state m there.Data) rest) c 0
+    (by_entry (at_state m there.Data) (0 ∷ rest) (taking (Emit Current ∷ []) Stay (0 ∷ [])) (λ x. refl) refl)
+    (λ h0. by_entry (at_state m there.Data) (c ∷ rest) (taking (Emit Current ∷ []) Stay (c ∷ [])) (λ x. rw (h38, h60, h0) refl) refl)
 
 pub data_reference_arm : {E : Type 0} (old new : Tokenizer) (c : ℕ) (r : Result (Option TokenKind) E) → old.state ≡ state.Data → c ≡ 38 → OnOk r (BeginsReference old new) → IfOk r (λ told. told ≡ None) →
     Follows old new (c ∷ []) r
@@ -82,30 +82,30 @@ end_tag_begins_arm old new which c (Err e) is reads at only told_is = tt
 pub rcdata_over : (c : ℕ) → (38 == c) ≡ false → (60 == c) ≡ false → Over state.Rcdata state.Rcdata c (shown_of c ∷ [])
 unfolding taken entries
 rcdata_over c h38 h60 b m rest =
-    by_bool (λ e x. Goes b (at_state m there.RCDATA) (e ∷ rest) (AChar (cond x 0xfffd e) ∷ []) (at_state m there.RCDATA) rest) c 0
-    (by_entry (at_state m there.RCDATA) (0 ∷ rest) (taking (Emit replacement ∷ []) Stay (0 ∷ [])) refl refl)
-    (λ h0. by_entry (at_state m there.RCDATA) (c ∷ rest) (taking (Emit Current ∷ []) Stay (c ∷ [])) (rw (h38, h60, h0) refl) refl)
+    by_bool (λ e x. Goes (at_state m there.RCDATA) (e ∷ rest) (AChar (cond x 0xfffd e) ∷ []) (at_state m there.RCDATA) rest) c 0
+    (by_entry (at_state m there.RCDATA) (0 ∷ rest) (taking (Emit replacement ∷ []) Stay (0 ∷ [])) (λ x. refl) refl)
+    (λ h0. by_entry (at_state m there.RCDATA) (c ∷ rest) (taking (Emit Current ∷ []) Stay (c ∷ [])) (λ x. rw (h38, h60, h0) refl) refl)
 
 pub rawtext_over : (c : ℕ) → (60 == c) ≡ false → Over state.Rawtext state.Rawtext c (shown_of c ∷ [])
 unfolding taken entries
 rawtext_over c h60 b m rest =
-    by_bool (λ e x. Goes b (at_state m there.RAWTEXT) (e ∷ rest) (AChar (cond x 0xfffd e) ∷ []) (at_state m there.RAWTEXT) rest) c 0
-    (by_entry (at_state m there.RAWTEXT) (0 ∷ rest) (taking (Emit replacement ∷ []) Stay (0 ∷ [])) refl refl)
-    (λ h0. by_entry (at_state m there.RAWTEXT) (c ∷ rest) (taking (Emit Current ∷ []) Stay (c ∷ [])) (rw (h60, h0) refl) refl)
+    by_bool (λ e x. Goes (at_state m there.RAWTEXT) (e ∷ rest) (AChar (cond x 0xfffd e) ∷ []) (at_state m there.RAWTEXT) rest) c 0
+    (by_entry (at_state m there.RAWTEXT) (0 ∷ rest) (taking (Emit replacement ∷ []) Stay (0 ∷ [])) (λ x. refl) refl)
+    (λ h0. by_entry (at_state m there.RAWTEXT) (c ∷ rest) (taking (Emit Current ∷ []) Stay (c ∷ [])) (λ x. rw (h60, h0) refl) refl)
 
 pub script_over : (c : ℕ) → (60 == c) ≡ false → Over state.Script state.Script c (shown_of c ∷ [])
 unfolding taken entries
 script_over c h60 b m rest =
-    by_bool (λ e x. Goes b (at_state m there.ScriptData) (e ∷ rest) (AChar (cond x 0xfffd e) ∷ []) (at_state m there.ScriptData) rest) c 0
-    (by_entry (at_state m there.ScriptData) (0 ∷ rest) (taking (Emit replacement ∷ []) Stay (0 ∷ [])) refl refl)
-    (λ h0. by_entry (at_state m there.ScriptData) (c ∷ rest) (taking (Emit Current ∷ []) Stay (c ∷ [])) (rw (h60, h0) refl) refl)
+    by_bool (λ e x. Goes (at_state m there.ScriptData) (e ∷ rest) (AChar (cond x 0xfffd e) ∷ []) (at_state m there.ScriptData) rest) c 0
+    (by_entry (at_state m there.ScriptData) (0 ∷ rest) (taking (Emit replacement ∷ []) Stay (0 ∷ [])) (λ x. refl) refl)
+    (λ h0. by_entry (at_state m there.ScriptData) (c ∷ rest) (taking (Emit Current ∷ []) Stay (c ∷ [])) (λ x. rw (h60, h0) refl) refl)
 
 pub plaintext_over : (c : ℕ) → Over state.Plaintext state.Plaintext c (shown_of c ∷ [])
 unfolding taken entries
 plaintext_over c b m rest =
-    by_bool (λ e x. Goes b (at_state m there.PLAINTEXT) (e ∷ rest) (AChar (cond x 0xfffd e) ∷ []) (at_state m there.PLAINTEXT) rest) c 0
-    (by_entry (at_state m there.PLAINTEXT) (0 ∷ rest) (taking (Emit replacement ∷ []) Stay (0 ∷ [])) refl refl)
-    (λ h0. by_entry (at_state m there.PLAINTEXT) (c ∷ rest) (taking (Emit Current ∷ []) Stay (c ∷ [])) (rw h0 refl) refl)
+    by_bool (λ e x. Goes (at_state m there.PLAINTEXT) (e ∷ rest) (AChar (cond x 0xfffd e) ∷ []) (at_state m there.PLAINTEXT) rest) c 0
+    (by_entry (at_state m there.PLAINTEXT) (0 ∷ rest) (taking (Emit replacement ∷ []) Stay (0 ∷ [])) (λ x. refl) refl)
+    (λ h0. by_entry (at_state m there.PLAINTEXT) (c ∷ rest) (taking (Emit Current ∷ []) Stay (c ∷ [])) (λ x. rw h0 refl) refl)
 
 raw_letter : (old new : Tokenizer) (which : Raw) (c : ℕ) (told : Option TokenKind) → old.state ≡ raw_state_of which → IsReadRaw which c → (60 == c) ≡ false →
     Gains place.Text old new (encode_utf8 (shown_of c)) → Remembers old new → told ≡ None → new.refused ≡ false → FollowsStandard old new (c ∷ []) told

@@ -26,53 +26,53 @@ use Rattle.page_tokens.proofs.ReferenceEnds.{Flushed, Place_of, ends_leaves, flu
 use Rattle.page_tokens.proofs.StandardSteps.{by_entry, in_its_state, taking, then_on}
 
 -- from the state in which the machine stands, with nothing read ahead
-stopped : {b : Bool} {ts : List StandardToken} {n : Machine} (m : Machine) (s : StandardState) (ahead : List ℕ) → m.state ≡ s → ahead ≡ [] → Goes b (at_state m s) [] ts n [] → Goes b m ahead ts n []
-stopped {b} {ts} {n} m s ahead at nothing goes =
-    subst (λ front. Goes b m front ts n []) (sym nothing) (subst (λ k. Goes b k [] ts n []) (in_its_state m s at) goes)
+stopped : {ts : List StandardToken} {n : Machine} (m : Machine) (s : StandardState) (ahead : List ℕ) → m.state ≡ s → ahead ≡ [] → Goes (at_state m s) [] ts n [] → Goes m ahead ts n []
+stopped {ts} {n} m s ahead at nothing goes =
+    subst (λ front. Goes m front ts n []) (sym nothing) (subst (λ k. Goes k [] ts n []) (in_its_state m s at) goes)
 
 -- ---- what the standard does
 
-ampersand_ends : (b : Bool) (m : Machine) → Goes b (at_state m there.CharacterReference) [] (emitted [] Flush (with_ampersand m) ++ []) (flushing (with_ampersand m)) []
+ampersand_ends : (b : Bool) (m : Machine) → Goes (at_state m there.CharacterReference) [] (emitted [] Flush (with_ampersand m) ++ []) (flushing (with_ampersand m)) []
 unfolding taken entries
-ampersand_ends b m = by_entry (at_state m there.CharacterReference) [] (taking (SetEmpty Buffer ∷ Add Buffer (These (codes "&")) ∷ Flush ∷ []) ReconsumeBack []) refl refl
+ampersand_ends b m = by_entry (at_state m there.CharacterReference) [] (taking (SetEmpty Buffer ∷ Add Buffer (These (codes "&")) ∷ Flush ∷ []) ReconsumeBack []) (λ x. refl) refl
 
-pub letters_end : (b : Bool) (m : Machine) → Goes b (at_state m there.AmbiguousAmpersand) [] [] (at_state m m.return_state) []
+pub letters_end : (b : Bool) (m : Machine) → Goes (at_state m there.AmbiguousAmpersand) [] [] (at_state m m.return_state) []
 unfolding taken entries
-letters_end b m = by_entry (at_state m there.AmbiguousAmpersand) [] (taking [] ReconsumeBack []) refl refl
+letters_end b m = by_entry (at_state m there.AmbiguousAmpersand) [] (taking [] ReconsumeBack []) (λ x. refl) refl
 
 no_decimal_ends : (b : Bool) (m : Machine) →
-    Goes b (at_state m there.NumericCharacterReference) [] (emitted [] Flush (coded m there.DecimalCharacterReferenceStart 0) ++ []) (flushing (coded m there.DecimalCharacterReferenceStart 0)) []
+    Goes (at_state m there.NumericCharacterReference) [] (emitted [] Flush (coded m there.DecimalCharacterReferenceStart 0) ++ []) (flushing (coded m there.DecimalCharacterReferenceStart 0)) []
 unfolding taken entries
 no_decimal_ends b m =
-    then_on (by_entry (at_state m there.NumericCharacterReference) [] (taking (CodeZero ∷ []) (Reconsume there.DecimalCharacterReferenceStart) []) refl refl)
-    (by_entry (coded m there.DecimalCharacterReferenceStart 0) [] (taking (Flush ∷ []) ReconsumeBack []) refl refl)
+    then_on (by_entry (at_state m there.NumericCharacterReference) [] (taking (CodeZero ∷ []) (Reconsume there.DecimalCharacterReferenceStart) []) (λ x. refl) refl)
+    (by_entry (coded m there.DecimalCharacterReferenceStart 0) [] (taking (Flush ∷ []) ReconsumeBack []) (λ x. refl) refl)
 
 no_hex_ends : (b : Bool) (m : Machine) →
-    Goes b (at_state m there.HexadecimalCharacterReferenceStart) [] (emitted [] Flush (at_state m there.HexadecimalCharacterReferenceStart) ++ []) (flushing (at_state m there.HexadecimalCharacterReferenceStart)) []
+    Goes (at_state m there.HexadecimalCharacterReferenceStart) [] (emitted [] Flush (at_state m there.HexadecimalCharacterReferenceStart) ++ []) (flushing (at_state m there.HexadecimalCharacterReferenceStart)) []
 unfolding taken entries
-no_hex_ends b m = by_entry (at_state m there.HexadecimalCharacterReferenceStart) [] (taking (Flush ∷ []) ReconsumeBack []) refl refl
+no_hex_ends b m = by_entry (at_state m there.HexadecimalCharacterReferenceStart) [] (taking (Flush ∷ []) ReconsumeBack []) (λ x. refl) refl
 
-hex_ends : (b : Bool) (m : Machine) → Goes b (at_state m there.HexadecimalCharacterReference) [] (emitted [] Flush (numbered m) ++ []) (flushing (numbered m)) []
+hex_ends : (b : Bool) (m : Machine) → Goes (at_state m there.HexadecimalCharacterReference) [] (emitted [] Flush (numbered m) ++ []) (flushing (numbered m)) []
 unfolding taken entries
 hex_ends b m =
-    then_on (by_entry (at_state m there.HexadecimalCharacterReference) [] (taking [] (Reconsume there.NumericCharacterReferenceEnd) []) refl refl)
-    (by_entry (at_state m there.NumericCharacterReferenceEnd) [] (taking (BufferNumber ∷ Flush ∷ []) ReconsumeBack []) refl refl)
+    then_on (by_entry (at_state m there.HexadecimalCharacterReference) [] (taking [] (Reconsume there.NumericCharacterReferenceEnd) []) (λ x. refl) refl)
+    (by_entry (at_state m there.NumericCharacterReferenceEnd) [] (taking (BufferNumber ∷ Flush ∷ []) ReconsumeBack []) (λ x. refl) refl)
 
-decimal_ends : (b : Bool) (m : Machine) → Goes b (at_state m there.DecimalCharacterReference) [] (emitted [] Flush (numbered m) ++ []) (flushing (numbered m)) []
+decimal_ends : (b : Bool) (m : Machine) → Goes (at_state m there.DecimalCharacterReference) [] (emitted [] Flush (numbered m) ++ []) (flushing (numbered m)) []
 unfolding taken entries
 decimal_ends b m =
-    then_on (by_entry (at_state m there.DecimalCharacterReference) [] (taking [] (Reconsume there.NumericCharacterReferenceEnd) []) refl refl)
-    (by_entry (at_state m there.NumericCharacterReferenceEnd) [] (taking (BufferNumber ∷ Flush ∷ []) ReconsumeBack []) refl refl)
+    then_on (by_entry (at_state m there.DecimalCharacterReference) [] (taking [] (Reconsume there.NumericCharacterReferenceEnd) []) (λ x. refl) refl)
+    (by_entry (at_state m there.NumericCharacterReferenceEnd) [] (taking (BufferNumber ∷ Flush ∷ []) ReconsumeBack []) (λ x. refl) refl)
 
 -- ---- the reference ends
 
-ends_flushed : (old new : Tokenizer) (put : List ℕ) → EndsReference old new put → ((m : Machine) (ahead : List ℕ) → StandsInReference old ahead m → Flushed old new (λ ts n. Goes old.in_foreign m ahead ts n [])) → EndsInReference old new
+ends_flushed : (old new : Tokenizer) (put : List ℕ) → EndsReference old new put → ((m : Machine) (ahead : List ℕ) → StandsInReference old ahead m → Flushed old new (λ ts n. Goes m ahead ts n [])) → EndsInReference old new
 ends_flushed old new put ends flushes = record {
   memory = ends.memory;
   leaves = ends_leaves old new put ends;
   ends = λ m ahead stands.
-      let f : Flushed old new (λ ts n. Goes old.in_foreign m ahead ts n []) = flushes m ahead stands in
-      record { machine = f.machine; characters = f.characters; goes = subst (λ text. Goes old.in_foreign m text (map AChar f.characters) f.machine []) (sym (append-nil ahead)) f.goes; stands = f.stands; text = f.text };
+      let f : Flushed old new (λ ts n. Goes m ahead ts n []) = flushes m ahead stands in
+      record { machine = f.machine; characters = f.characters; goes = subst (λ text. Goes m text (map AChar f.characters) f.machine []) (sym (append-nil ahead)) f.goes; stands = f.stands; text = f.text };
 }
 
 -- an ampersand alone
@@ -80,7 +80,7 @@ pub begun_arm : (old new : Tokenizer) → old.reference ≡ reference.Begun → 
 unfolding encode_utf8
 begun_arm old new is ends memory = ends_flushed old new (string_bytes old.written) (ends memory) (λ m ahead stands.
     let here : At old reference.Begun ahead m = at old reference.Begun ahead m is stands in
-    flushed old new (with_ampersand m) (λ ts n. Goes old.in_foreign m ahead ts n []) (outside_on old m there.CharacterReference (codes "&") m.code here.outside)
+    flushed old new (with_ampersand m) (λ ts n. Goes m ahead ts n []) (outside_on old m there.CharacterReference (codes "&") m.code here.outside)
     (subst (EndsReference old new) here.inside.1 (ends memory)) (stopped m there.CharacterReference ahead here.state here.inside.0 (ampersand_ends old.in_foreign m)))
 
 -- letters that are no name
@@ -97,7 +97,7 @@ ambiguous_arm old new is only memory =
           record {
             machine = n;
             characters = [];
-            goes = subst (λ text. Goes old.in_foreign m text [] n []) (sym (append-nil ahead)) (stopped m there.AmbiguousAmpersand ahead here.state here.inside (letters_end old.in_foreign m));
+            goes = subst (λ text. Goes m text [] n []) (sym (append-nil ahead)) (stopped m there.AmbiguousAmpersand ahead here.state here.inside (letters_end old.in_foreign m));
             stands = subst (λ t. Stands t [] n) (sym only) stands_on;
             text = ap text_of only ∙ sym (append-nil (text_of old));
           };
@@ -108,18 +108,18 @@ ambiguous_arm old new is only memory =
     held_of t n (inr value) = value.held t n value.named value.is
 
 number_flushed : (old new : Tokenizer) (number : ℕ) (r : Reference) → number_of r ≡ Some number → EndsReference old new (encode_utf8 (character_of number)) → (m : Machine) (ahead : List ℕ) → At old r ahead m →
-    Flushed old new (λ ts n. Goes old.in_foreign m ahead ts n [])
+    Flushed old new (λ ts n. Goes m ahead ts n [])
 number_flushed old new number (reference.Hex value) is ends m ahead here =
     let same : number ≡ value = cc in
     let bytes : encode_utf8 (character_of number) ≡ encode_utf8_all (numbered m).buffer =
     ap (λ n. encode_utf8 (character_of n)) (same ∙ here.inside.1) ∙ ap encode_utf8 (same_character m.code) ∙ sym (append-nil (encode_utf8 (character_of m.code))) in
-    flushed old new (numbered m) (λ ts n. Goes old.in_foreign m ahead ts n []) (outside_on old m there.NumericCharacterReferenceEnd (numbered m).buffer m.code here.outside) (subst (EndsReference old new) bytes ends)
+    flushed old new (numbered m) (λ ts n. Goes m ahead ts n []) (outside_on old m there.NumericCharacterReferenceEnd (numbered m).buffer m.code here.outside) (subst (EndsReference old new) bytes ends)
     (stopped m there.HexadecimalCharacterReference ahead here.state here.inside.0 (hex_ends old.in_foreign m))
 number_flushed old new number (reference.Decimal value) is ends m ahead here =
     let same : number ≡ value = cc in
     let bytes : encode_utf8 (character_of number) ≡ encode_utf8_all (numbered m).buffer =
     ap (λ n. encode_utf8 (character_of n)) (same ∙ here.inside.1) ∙ ap encode_utf8 (same_character m.code) ∙ sym (append-nil (encode_utf8 (character_of m.code))) in
-    flushed old new (numbered m) (λ ts n. Goes old.in_foreign m ahead ts n []) (outside_on old m there.NumericCharacterReferenceEnd (numbered m).buffer m.code here.outside) (subst (EndsReference old new) bytes ends)
+    flushed old new (numbered m) (λ ts n. Goes m ahead ts n []) (outside_on old m there.NumericCharacterReferenceEnd (numbered m).buffer m.code here.outside) (subst (EndsReference old new) bytes ends)
     (stopped m there.DecimalCharacterReference ahead here.state here.inside.0 (decimal_ends old.in_foreign m))
 number_flushed old new number reference.Number is ends m ahead here = absurd (cc)
 number_flushed old new number reference.HexStart is ends m ahead here = absurd (cc)
@@ -137,11 +137,11 @@ number_arm old new number is ends memory = ends_flushed old new (encode_utf8 (ch
 pub sharp_arm : (old new : Tokenizer) → old.reference ≡ reference.Number → (new.refused ≡ false → EndsReference old new (string_bytes old.written)) → new.refused ≡ false → EndsInReference old new
 sharp_arm old new is ends memory = ends_flushed old new (string_bytes old.written) (ends memory) (λ m ahead stands.
     let here : At old reference.Number ahead m = at old reference.Number ahead m is stands in
-    flushed old new (coded m there.DecimalCharacterReferenceStart 0) (λ ts n. Goes old.in_foreign m ahead ts n []) (outside_on old m there.DecimalCharacterReferenceStart m.buffer 0 here.outside)
+    flushed old new (coded m there.DecimalCharacterReferenceStart 0) (λ ts n. Goes m ahead ts n []) (outside_on old m there.DecimalCharacterReferenceStart m.buffer 0 here.outside)
     (subst (EndsReference old new) here.inside.1 (ends memory)) (stopped m there.NumericCharacterReference ahead here.state here.inside.0 (no_decimal_ends old.in_foreign m)))
 
 pub hex_arm : (old new : Tokenizer) → old.reference ≡ reference.HexStart → (new.refused ≡ false → EndsReference old new (string_bytes old.written)) → new.refused ≡ false → EndsInReference old new
 hex_arm old new is ends memory = ends_flushed old new (string_bytes old.written) (ends memory) (λ m ahead stands.
     let here : At old reference.HexStart ahead m = at old reference.HexStart ahead m is stands in
-    flushed old new (at_state m there.HexadecimalCharacterReferenceStart) (λ ts n. Goes old.in_foreign m ahead ts n []) (outside_on old m there.HexadecimalCharacterReferenceStart m.buffer m.code here.outside)
+    flushed old new (at_state m there.HexadecimalCharacterReferenceStart) (λ ts n. Goes m ahead ts n []) (outside_on old m there.HexadecimalCharacterReferenceStart m.buffer m.code here.outside)
     (subst (EndsReference old new) here.inside.1 (ends memory)) (stopped m there.HexadecimalCharacterReferenceStart ahead here.state here.inside.0 (no_hex_ends old.in_foreign m)))

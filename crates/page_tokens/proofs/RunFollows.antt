@@ -55,13 +55,13 @@ shown_same ends c goes_on null = ap (λ x. cond x 0xfffd c) (is_other ends c 0 g
 -- ---- a run that is gathered
 
 -- each character is gathered as `f` has it; M d is the machine that has gathered d
-pub gathered_by : {b : Bool} (f : ℕ → ℕ) (ends : ℕ → Bool) (M : List ℕ → Machine) →
-    ((d : List ℕ) (c : ℕ) (rest : List ℕ) → ends c ≡ false → Goes b (M d) (c ∷ rest) [] (M (d ++ f c ∷ [])) rest) →
-    (d front rest : List ℕ) → NoneEnds ends front → Goes b (M d) (front ++ rest) [] (M (d ++ map f front)) rest
-gathered_by {b} f ends M one d [] rest all = subst (λ e. Goes b (M d) rest [] (M e) rest) (sym (append-nil d)) stays
-gathered_by {b} f ends M one d (c ∷ front) rest all =
+pub gathered_by : (f : ℕ → ℕ) (ends : ℕ → Bool) (M : List ℕ → Machine) →
+    ((d : List ℕ) (c : ℕ) (rest : List ℕ) → ends c ≡ false → Goes (M d) (c ∷ rest) [] (M (d ++ f c ∷ [])) rest) →
+    (d front rest : List ℕ) → NoneEnds ends front → Goes (M d) (front ++ rest) [] (M (d ++ map f front)) rest
+gathered_by f ends M one d [] rest all = subst (λ e. Goes (M d) rest [] (M e) rest) (sym (append-nil d)) stays
+gathered_by f ends M one d (c ∷ front) rest all =
     let parts : (ends c ≡ false) × NoneEnds ends front = each ends c front all in
-    subst (λ e. Goes b (M d) (c ∷ (front ++ rest)) [] (M e) rest) (append_assoc d (f c ∷ []) (map f front))
+    subst (λ e. Goes (M d) (c ∷ (front ++ rest)) [] (M e) rest) (append_assoc d (f c ∷ []) (map f front))
     (then_on (one d c (front ++ rest) parts.0) (gathered_by f ends M one (d ++ f c ∷ []) front rest parts.1))
 
 map_same : (cs : List ℕ) → map (λ c. c) cs ≡ cs
@@ -69,10 +69,10 @@ map_same [] = refl
 map_same (c ∷ cs) = ap (λ t. c ∷ t) (map_same cs)
 
 -- each is gathered as it is
-pub gathered_plain : {b : Bool} (ends : ℕ → Bool) (M : List ℕ → Machine) →
-    ((d : List ℕ) (c : ℕ) (rest : List ℕ) → ends c ≡ false → Goes b (M d) (c ∷ rest) [] (M (d ++ c ∷ [])) rest) →
-    (d front rest : List ℕ) → NoneEnds ends front → Goes b (M d) (front ++ rest) [] (M (d ++ front)) rest
-gathered_plain {b} ends M one d front rest all = subst (λ e. Goes b (M d) (front ++ rest) [] (M (d ++ e)) rest) (map_same front) (gathered_by (λ c. c) ends M one d front rest all)
+pub gathered_plain : (ends : ℕ → Bool) (M : List ℕ → Machine) →
+    ((d : List ℕ) (c : ℕ) (rest : List ℕ) → ends c ≡ false → Goes (M d) (c ∷ rest) [] (M (d ++ c ∷ [])) rest) →
+    (d front rest : List ℕ) → NoneEnds ends front → Goes (M d) (front ++ rest) [] (M (d ++ front)) rest
+gathered_plain ends M one d front rest all = subst (λ e. Goes (M d) (front ++ rest) [] (M (d ++ e)) rest) (map_same front) (gathered_by (λ c. c) ends M one d front rest all)
 
 -- the bytes of what is gathered
 pub more_spelled : (bytes old more : List ℕ) (read : List ℕ) → bytes ≡ old ++ encode_utf8_all more → old ≡ encode_utf8_all read → bytes ≡ encode_utf8_all (read ++ more)
@@ -103,10 +103,10 @@ text_run old new from ends cs is adds none over nothing holds all =
     let b : Bool = old.in_foreign in
     let n : Machine = at_state m (state_of from) in
     let at : m.state ≡ state_of from = stands.state ∙ ap state_of is in
-    let run : Goes b n (cs ++ rest) (map AChar cs) n rest = emitted_run (λ c. not (ends c)) n (λ c rest goes_on. over c (not_true (ends c) goes_on) b m rest) cs rest all in
+    let run : Goes n (cs ++ rest) (map AChar cs) n rest = emitted_run (λ c. not (ends c)) n (λ c rest goes_on. over c (not_true (ends c) goes_on) b m rest) cs rest all in
     record {
       machine = n;
-      goes = subst (λ front. Goes b m (front ++ cs ++ rest) (map AChar cs) n rest) (sym (nothing old ahead m held)) (subst (λ k. Goes b k (cs ++ rest) (map AChar cs) n rest) (in_its_state m (state_of from) at) run);
+      goes = subst (λ front. Goes m (front ++ cs ++ rest) (map AChar cs) n rest) (sym (nothing old ahead m held)) (subst (λ k. Goes k (cs ++ rest) (map AChar cs) n rest) (in_its_state m (state_of from) at) run);
       stands = record { reference = stands.reference; state = ap state_of (sym is); last_start = stands.last_start; held = subst (λ s. Held s made [] n) (sym is) (holds made n) };
     }))
 
@@ -114,7 +114,7 @@ text_run old new from ends cs is adds none over nothing holds all =
 
 pub comment_run : (old new : Tokenizer) (inner : CommentState) (ends : ℕ → Bool) (cs : List ℕ) → old.state ≡ state.Comment inner → AddsToComment old new (encode_utf8_all cs) → old.refused ≡ false →
     ((b : Bool) (m : Machine) (d : List ℕ) (c : ℕ) (rest : List ℕ) → ends c ≡ false →
-    Goes b (commenting m (comment_state_of inner) d) (c ∷ rest) [] (commenting m (comment_state_of inner) (d ++ c ∷ [])) rest) →
+    Goes (commenting m (comment_state_of inner) d) (c ∷ rest) [] (commenting m (comment_state_of inner) (d ++ c ∷ [])) rest) →
     NoneEnds ends cs → FollowsStandard old new cs None
 comment_run old new inner ends cs is adds none one all =
     let made : Tokenizer = record old { comment = new.comment } in
@@ -124,10 +124,10 @@ comment_run old new inner ends cs is adds none one all =
     let b : Bool = old.in_foreign in
     let s = comment_state_of inner in
     let n : Machine = commenting m s (m.comment ++ cs) in
-    let run : Goes b (commenting m s m.comment) (cs ++ rest) [] n rest = gathered_plain ends (commenting m s) (λ d c rest goes_on. one b m d c rest goes_on) m.comment cs rest all in
+    let run : Goes (commenting m s m.comment) (cs ++ rest) [] n rest = gathered_plain ends (commenting m s) (λ d c rest goes_on. one b m d c rest goes_on) m.comment cs rest all in
     record {
       machine = n;
-      goes = subst (λ front. Goes b m (front ++ cs ++ rest) [] n rest) (sym at.nothing) (subst (λ k. Goes b k (cs ++ rest) [] n rest) at.machine run);
+      goes = subst (λ front. Goes m (front ++ cs ++ rest) [] n rest) (sym at.nothing) (subst (λ k. Goes k (cs ++ rest) [] n rest) at.machine run);
       stands = record {
         reference = stands.reference;
         state = ap state_of (sym is);
@@ -139,7 +139,7 @@ comment_run old new inner ends cs is adds none one all =
 -- ---- names of tags
 
 pub name_run : (old new : Tokenizer) (ends : ℕ → Bool) (cs : List ℕ) → old.state ≡ state.Tag tag.Name → AddsToTagName old new (encode_utf8_all cs) → old.refused ≡ false →
-    ((b : Bool) (m : Machine) (d : List ℕ) (c : ℕ) (rest : List ℕ) → ends c ≡ false → Goes b (naming m d) (c ∷ rest) [] (naming m (d ++ to_ascii_lowercase c ∷ [])) rest) →
+    ((b : Bool) (m : Machine) (d : List ℕ) (c : ℕ) (rest : List ℕ) → ends c ≡ false → Goes (naming m d) (c ∷ rest) [] (naming m (d ++ to_ascii_lowercase c ∷ [])) rest) →
     NoneEnds ends cs → FollowsStandard old new cs None
 name_run old new ends cs is adds none one all =
     let made : Tokenizer = record old { tag = record old.tag { name = new.tag.name } } in
@@ -150,7 +150,7 @@ name_run old new ends cs is adds none one all =
     let b : Bool = old.in_foreign in
     let n : Machine = naming m (m.tag.name ++ map to_ascii_lowercase cs) in
     let at : m.state ≡ there.TagName = stands.state ∙ ap state_of is in
-    let run : Goes b (naming m m.tag.name) (cs ++ rest) [] n rest = gathered_by to_ascii_lowercase ends (naming m) (λ d c rest goes_on. one b m d c rest goes_on) m.tag.name cs rest all in
+    let run : Goes (naming m m.tag.name) (cs ++ rest) [] n rest = gathered_by to_ascii_lowercase ends (naming m) (λ d c rest goes_on. one b m d c rest goes_on) m.tag.name cs rest all in
     let new_draft : IsDraft made.tag n.tag = record {
       kind = draft.kind;
       named = subst (λ (bytes : List ℕ). 0 < length bytes) (sym adds.1) (long (string_bytes old.tag.name) (encode_utf8_all cs) draft.named);
@@ -160,6 +160,6 @@ name_run old new ends cs is adds none one all =
     } in
     record {
       machine = n;
-      goes = subst (λ front. Goes b m (front ++ cs ++ rest) [] n rest) (sym held.0) (subst (λ k. Goes b k (cs ++ rest) [] n rest) (in_its_state m there.TagName at) run);
+      goes = subst (λ front. Goes m (front ++ cs ++ rest) [] n rest) (sym held.0) (subst (λ k. Goes k (cs ++ rest) [] n rest) (in_its_state m there.TagName at) run);
       stands = record { reference = stands.reference; state = ap state_of (sym is); last_start = stands.last_start; held = subst (λ s. Held s made [] n) (sym is) (refl, new_draft) };
     }))

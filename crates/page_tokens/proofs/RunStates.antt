@@ -113,8 +113,8 @@ in_comment old new cs is adds some none all =
     let h45 : (c == 45) ≡ false = is_other ends c 45 goes_on refl in
     let same_state : state_again c ≡ comment.Comment = rw (h60, h45) refl in
     let one : added_again c ≡ c ∷ [] = rw (h60, h45) (ap (λ e. e ∷ []) (shown_same ends c goes_on refl)) in
-    subst (λ e. Goes b (commenting m (comment_state_of comment.Comment) d) (c ∷ rest) [] (commenting m (comment_state_of comment.Comment) (d ++ e)) rest) one
-    (subst (λ s. Goes b (commenting m (comment_state_of comment.Comment) d) (c ∷ rest) [] (commenting m (comment_state_of s) (d ++ added_again c)) rest) same_state (again b m d rest c))) all
+    subst (λ e. Goes (commenting m (comment_state_of comment.Comment) d) (c ∷ rest) [] (commenting m (comment_state_of comment.Comment) (d ++ e)) rest) one
+    (subst (λ s. Goes (commenting m (comment_state_of comment.Comment) d) (c ∷ rest) [] (commenting m (comment_state_of s) (d ++ added_again c)) rest) same_state (again b m d rest c))) all
 
 in_bogus : Copied (state.Comment comment.Bogus) run.BogusComment
 in_bogus old new cs is adds some none all =
@@ -122,7 +122,7 @@ in_bogus old new cs is adds some none all =
     comment_run old new comment.Bogus ends cs is adds none (λ b m d c rest goes_on.
     let came : came_of comment.Bogus c ≡ Adds = rw (is_other ends c 62 goes_on refl) refl in
     let steps : Comes b comment.Bogus m d rest c Adds = subst (Comes b comment.Bogus m d rest c) came (came_comes comment.Bogus b m d rest c) in
-    subst (λ e. Goes b (commenting m (comment_state_of comment.Bogus) d) (c ∷ rest) [] (commenting m (comment_state_of comment.Bogus) (d ++ e ∷ [])) rest) (shown_same ends c goes_on refl) steps) all
+    subst (λ e. Goes (commenting m (comment_state_of comment.Bogus) d) (c ∷ rest) [] (commenting m (comment_state_of comment.Bogus) (d ++ e ∷ [])) rest) (shown_same ends c goes_on refl) steps) all
 
 -- ---- names and values in tags
 
@@ -137,9 +137,9 @@ letter_of ends c goes_on tab line_feed form_feed space slash greater = record {
 }
 
 -- a character of a tag's name
-pub name_step : (b : Bool) (m : Machine) (d : List ℕ) (c : ℕ) (rest : List ℕ) → ends_tag_name c ≡ false → Goes b (naming m d) (c ∷ rest) [] (naming m (d ++ to_ascii_lowercase c ∷ [])) rest
+pub name_step : (b : Bool) (m : Machine) (d : List ℕ) (c : ℕ) (rest : List ℕ) → ends_tag_name c ≡ false → Goes (naming m d) (c ∷ rest) [] (naming m (d ++ to_ascii_lowercase c ∷ [])) rest
 name_step b m d c rest goes_on =
-    subst (λ e. Goes b (naming m d) (c ∷ rest) [] (naming m (d ++ to_ascii_lowercase e ∷ [])) rest) (shown_same ends_tag_name c goes_on refl)
+    subst (λ e. Goes (naming m d) (c ∷ rest) [] (naming m (d ++ to_ascii_lowercase e ∷ [])) rest) (shown_same ends_tag_name c goes_on refl)
     (name_letter b m d rest c (letter_of ends_tag_name c goes_on refl refl refl refl refl refl))
 
 in_tag_name : Copied (state.Tag tag.Name) run.TagName
@@ -147,9 +147,9 @@ in_tag_name old new cs is adds some none all = name_run old new ends_tag_name cs
 
 -- a character of an attribute's name
 pub attr_name_step : (b : Bool) (m : Machine) (name value : List ℕ) (older : List Attr) (c : ℕ) (rest : List ℕ) → ends_attr_name c ≡ false →
-    Goes b (with_attrs m there.AttributeName (an_attr name value ∷ older)) (c ∷ rest) [] (with_attrs m there.AttributeName (an_attr (name ++ to_ascii_lowercase c ∷ []) value ∷ older)) rest
+    Goes (with_attrs m there.AttributeName (an_attr name value ∷ older)) (c ∷ rest) [] (with_attrs m there.AttributeName (an_attr (name ++ to_ascii_lowercase c ∷ []) value ∷ older)) rest
 attr_name_step b m name value older c rest goes_on =
-    subst (λ e. Goes b (with_attrs m there.AttributeName (an_attr name value ∷ older)) (c ∷ rest) [] (with_attrs m there.AttributeName (an_attr (name ++ to_ascii_lowercase e ∷ []) value ∷ older)) rest) (shown_same ends_attr_name c goes_on refl)
+    subst (λ e. Goes (with_attrs m there.AttributeName (an_attr name value ∷ older)) (c ∷ rest) [] (with_attrs m there.AttributeName (an_attr (name ++ to_ascii_lowercase e ∷ []) value ∷ older)) rest) (shown_same ends_attr_name c goes_on refl)
     (attr_letter b m name value rest older c (letter_of ends_attr_name c goes_on refl refl refl refl refl refl) (differs ends_attr_name 61 c goes_on refl))
 
 in_attr_name : Copied (state.Attribute attr.Name) run.AttrName

@@ -12,17 +12,17 @@ use Rattle.page_tokens.specs.Standard.{Goes, stays}
 use Rattle.page_tokens.proofs.StandardSteps.{then_on}
 
 -- a run that is gathered; M d is the machine that has gathered d
-pub gathered : {b : Bool} (test : ℕ → Bool) (M : List ℕ → Machine) → ((d : List ℕ) (c : ℕ) (rest : List ℕ) → test c ≡ true → Goes b (M d) (c ∷ rest) [] (M (d ++ c ∷ [])) rest) →
-    (d front rest : List ℕ) → list_all test front ≡ true → Goes b (M d) (front ++ rest) [] (M (d ++ front)) rest
-gathered {b} test M one d [] rest all = subst (λ e. Goes b (M d) rest [] (M e) rest) (sym (append-nil d)) stays
-gathered {b} test M one d (c ∷ front) rest all =
+pub gathered : (test : ℕ → Bool) (M : List ℕ → Machine) → ((d : List ℕ) (c : ℕ) (rest : List ℕ) → test c ≡ true → Goes (M d) (c ∷ rest) [] (M (d ++ c ∷ [])) rest) →
+    (d front rest : List ℕ) → list_all test front ≡ true → Goes (M d) (front ++ rest) [] (M (d ++ front)) rest
+gathered test M one d [] rest all = subst (λ e. Goes (M d) rest [] (M e) rest) (sym (append-nil d)) stays
+gathered test M one d (c ∷ front) rest all =
     let parts : (test c ≡ true) × (list_all test front ≡ true) = and_parts (test c) (list_all test front) all in
-    subst (λ e. Goes b (M d) (c ∷ (front ++ rest)) [] (M e) rest) (append_assoc d (c ∷ []) front)
+    subst (λ e. Goes (M d) (c ∷ (front ++ rest)) [] (M e) rest) (append_assoc d (c ∷ []) front)
     (then_on (one d c (front ++ rest) parts.0) (gathered test M one (d ++ c ∷ []) front rest parts.1))
 
 -- a run that is emitted
-pub emitted_run : {b : Bool} (test : ℕ → Bool) (m : Machine) → ((c : ℕ) (rest : List ℕ) → test c ≡ true → Goes b m (c ∷ rest) (AChar c ∷ []) m rest) →
-    (front rest : List ℕ) → list_all test front ≡ true → Goes b m (front ++ rest) (map AChar front) m rest
+pub emitted_run : (test : ℕ → Bool) (m : Machine) → ((c : ℕ) (rest : List ℕ) → test c ≡ true → Goes m (c ∷ rest) (AChar c ∷ []) m rest) →
+    (front rest : List ℕ) → list_all test front ≡ true → Goes m (front ++ rest) (map AChar front) m rest
 emitted_run test m one [] rest all = stays
 emitted_run test m one (c ∷ front) rest all =
     let parts : (test c ≡ true) × (list_all test front ≡ true) = and_parts (test c) (list_all test front) all in

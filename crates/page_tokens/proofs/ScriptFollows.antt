@@ -91,7 +91,7 @@ slash_follows old mid new inner c is came cleared empty goes =
     let n : Machine = record m { state = there.ScriptDataDoubleEscapeEnd; buffer = [] } in
     record {
       machine = n;
-      goes = subst (λ front. Goes b m (front ++ (c ∷ []) ++ rest) (AChar c ∷ []) n rest) (sym at.nothing) (subst (λ k. Goes b k (c ∷ rest) (AChar c ∷ []) n rest) at.machine (steps b m rest));
+      goes = subst (λ front. Goes m (front ++ (c ∷ []) ++ rest) (AChar c ∷ []) n rest) (sym at.nothing) (subst (λ k. Goes k (c ∷ rest) (AChar c ∷ []) n rest) at.machine (steps b m rest));
       stands = record { reference = stands.reference; state = refl; last_start = stands.last_start; held = (refl, empty) };
     }))
 
@@ -116,7 +116,7 @@ letter_follows old new inner c is came adds none =
     let letters : Spells made.letters n.buffer = one_more (string_bytes new.letters) (string_bytes old.letters) m.buffer (to_ascii_lowercase c) adds.letters (steps.1.0 old ahead m at.held) in
     record {
       machine = n;
-      goes = subst (λ front. Goes b m (front ++ (c ∷ []) ++ rest) (AChar c ∷ []) n rest) (sym at.nothing) (subst (λ k. Goes b k (c ∷ rest) (AChar c ∷ []) n rest) at.machine (steps.0 b m rest));
+      goes = subst (λ front. Goes m (front ++ (c ∷ []) ++ rest) (AChar c ∷ []) n rest) (sym at.nothing) (subst (λ k. Goes k (c ∷ rest) (AChar c ∷ []) n rest) at.machine (steps.0 b m rest));
       stands = record { reference = stands.reference; state = ap state_of (sym is); last_start = stands.last_start; held = subst (λ s. Held s made [] n) (sym is) (steps.1.1 made n letters) };
     }))
 
@@ -150,7 +150,7 @@ named_follows old new inner is_end c is came goes =
     let n : Machine = at_state m (state_of (behind_name_of is_end (bytes_eq m.buffer (codes "script")))) in
     record {
       machine = n;
-      goes = subst (λ front. Goes b m (front ++ (c ∷ []) ++ rest) (AChar c ∷ []) n rest) (sym at.nothing) (subst (λ k. Goes b k (c ∷ rest) (AChar c ∷ []) n rest) at.machine (steps.0 b m rest));
+      goes = subst (λ front. Goes m (front ++ (c ∷ []) ++ rest) (AChar c ∷ []) n rest) (sym at.nothing) (subst (λ k. Goes k (c ∷ rest) (AChar c ∷ []) n rest) at.machine (steps.0 b m rest));
       stands = record { reference = stands.reference; state = ap (λ x. state_of (behind_name_of is_end x)) (sym same); last_start = stands.last_start; held = behind_holds is_end is_script made n };
     }))
 

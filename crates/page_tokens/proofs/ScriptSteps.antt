@@ -39,12 +39,12 @@ Comes from home c (its.Text next) = Over (state.ScriptData from) next c (shown_o
 Comes from home c its.LessThan = Over (state.ScriptData from) (state.EndTag raw.Escaped end_tag.LessThan) c []
 Comes from home c its.Unescaped = BackTo (state.ScriptData from) state.Script c []
 Comes from home c its.Slash =
-    (b : Bool) (m : Machine) (rest : List ℕ) → Goes b (at_state m (script_state_of from)) (c ∷ rest) (AChar c ∷ []) (record m { state = there.ScriptDataDoubleEscapeEnd; buffer = [] }) rest
+    (b : Bool) (m : Machine) (rest : List ℕ) → Goes (at_state m (script_state_of from)) (c ∷ rest) (AChar c ∷ []) (record m { state = there.ScriptDataDoubleEscapeEnd; buffer = [] }) rest
 Comes from home c its.Letter =
-    ((b : Bool) (m : Machine) (rest : List ℕ) → Goes b (at_state m (script_state_of from)) (c ∷ rest) (AChar c ∷ []) (record m { state = script_state_of home; buffer = m.buffer ++ to_ascii_lowercase c ∷ [] }) rest)
+    ((b : Bool) (m : Machine) (rest : List ℕ) → Goes (at_state m (script_state_of from)) (c ∷ rest) (AChar c ∷ []) (record m { state = script_state_of home; buffer = m.buffer ++ to_ascii_lowercase c ∷ [] }) rest)
     × LettersHeld (state.ScriptData home)
 Comes from home c (its.Named is_end) =
-    ((b : Bool) (m : Machine) (rest : List ℕ) → Goes b (at_state m (script_state_of from)) (c ∷ rest) (AChar c ∷ []) (at_state m (state_of (behind_name_of is_end (bytes_eq m.buffer (codes "script"))))) rest)
+    ((b : Bool) (m : Machine) (rest : List ℕ) → Goes (at_state m (script_state_of from)) (c ∷ rest) (AChar c ∷ []) (at_state m (state_of (behind_name_of is_end (bytes_eq m.buffer (codes "script"))))) rest)
     × LettersHeld (state.ScriptData home)
 
 -- the character is read again
@@ -111,59 +111,59 @@ unfolding taken entries
 start_letter c is letter = ((λ b m rest. go b m rest (is_upper c) refl), start_letters)
   where
     go : (b : Bool) (m : Machine) (rest : List ℕ) (x : Bool) → is_upper c ≡ x →
-        Goes b (at_state m there.ScriptDataDoubleEscapeStart) (c ∷ rest) (AChar c ∷ []) (record m { state = there.ScriptDataDoubleEscapeStart; buffer = m.buffer ++ to_ascii_lowercase c ∷ [] }) rest
+        Goes (at_state m there.ScriptDataDoubleEscapeStart) (c ∷ rest) (AChar c ∷ []) (record m { state = there.ScriptDataDoubleEscapeStart; buffer = m.buffer ++ to_ascii_lowercase c ∷ [] }) rest
     go b m rest true e =
-        by_entry (at_state m there.ScriptDataDoubleEscapeStart) (c ∷ rest) (taking (Add Buffer Lower ∷ Emit Current ∷ []) Stay (c ∷ [])) (rw (is.tab, is.line_feed, is.form_feed, is.space, is.slash, is.greater, e) refl) refl
+        by_entry (at_state m there.ScriptDataDoubleEscapeStart) (c ∷ rest) (taking (Add Buffer Lower ∷ Emit Current ∷ []) Stay (c ∷ [])) (λ x. rw (is.tab, is.line_feed, is.form_feed, is.space, is.slash, is.greater, e) refl) refl
     go b m rest false e =
-        subst (λ d. Goes b (at_state m there.ScriptDataDoubleEscapeStart) (c ∷ rest) (AChar c ∷ []) (record m { state = there.ScriptDataDoubleEscapeStart; buffer = m.buffer ++ d ∷ [] }) rest) (sym (stays_lower c e))
+        subst (λ d. Goes (at_state m there.ScriptDataDoubleEscapeStart) (c ∷ rest) (AChar c ∷ []) (record m { state = there.ScriptDataDoubleEscapeStart; buffer = m.buffer ++ d ∷ [] }) rest) (sym (stays_lower c e))
         (by_entry (at_state m there.ScriptDataDoubleEscapeStart) (c ∷ rest) (taking (Add Buffer Current ∷ Emit Current ∷ []) Stay (c ∷ []))
-        (rw (is.tab, is.line_feed, is.form_feed, is.space, is.slash, is.greater, e, is_lower_of c letter e) refl) refl)
+        (λ x. rw (is.tab, is.line_feed, is.form_feed, is.space, is.slash, is.greater, e, is_lower_of c letter e) refl) refl)
 
 end_letter : (c : ℕ) → IsLetter c → is_ascii_alphabetic c ≡ true → Comes (script.Double double.End) (script.Double double.End) c its.Letter
 unfolding taken entries
 end_letter c is letter = ((λ b m rest. go b m rest (is_upper c) refl), end_letters)
   where
     go : (b : Bool) (m : Machine) (rest : List ℕ) (x : Bool) → is_upper c ≡ x →
-        Goes b (at_state m there.ScriptDataDoubleEscapeEnd) (c ∷ rest) (AChar c ∷ []) (record m { state = there.ScriptDataDoubleEscapeEnd; buffer = m.buffer ++ to_ascii_lowercase c ∷ [] }) rest
+        Goes (at_state m there.ScriptDataDoubleEscapeEnd) (c ∷ rest) (AChar c ∷ []) (record m { state = there.ScriptDataDoubleEscapeEnd; buffer = m.buffer ++ to_ascii_lowercase c ∷ [] }) rest
     go b m rest true e =
-        by_entry (at_state m there.ScriptDataDoubleEscapeEnd) (c ∷ rest) (taking (Add Buffer Lower ∷ Emit Current ∷ []) Stay (c ∷ [])) (rw (is.tab, is.line_feed, is.form_feed, is.space, is.slash, is.greater, e) refl) refl
+        by_entry (at_state m there.ScriptDataDoubleEscapeEnd) (c ∷ rest) (taking (Add Buffer Lower ∷ Emit Current ∷ []) Stay (c ∷ [])) (λ x. rw (is.tab, is.line_feed, is.form_feed, is.space, is.slash, is.greater, e) refl) refl
     go b m rest false e =
-        subst (λ d. Goes b (at_state m there.ScriptDataDoubleEscapeEnd) (c ∷ rest) (AChar c ∷ []) (record m { state = there.ScriptDataDoubleEscapeEnd; buffer = m.buffer ++ d ∷ [] }) rest) (sym (stays_lower c e))
+        subst (λ d. Goes (at_state m there.ScriptDataDoubleEscapeEnd) (c ∷ rest) (AChar c ∷ []) (record m { state = there.ScriptDataDoubleEscapeEnd; buffer = m.buffer ++ d ∷ [] }) rest) (sym (stays_lower c e))
         (by_entry (at_state m there.ScriptDataDoubleEscapeEnd) (c ∷ rest) (taking (Add Buffer Current ∷ Emit Current ∷ []) Stay (c ∷ []))
-        (rw (is.tab, is.line_feed, is.form_feed, is.space, is.slash, is.greater, e, is_lower_of c letter e) refl) refl)
+        (λ x. rw (is.tab, is.line_feed, is.form_feed, is.space, is.slash, is.greater, e, is_lower_of c letter e) refl) refl)
 
 -- the end of a name
 start_named : (b : Bool) (m : Machine) (rest : List ℕ) (c : ℕ) → ends_name c ≡ true → (x : Bool) → bytes_eq m.buffer (codes "script") ≡ x →
-    Goes b (at_state m there.ScriptDataDoubleEscapeStart) (c ∷ rest) (AChar c ∷ []) (at_state m (state_of (behind_name_of false x))) rest
+    Goes (at_state m there.ScriptDataDoubleEscapeStart) (c ∷ rest) (AChar c ∷ []) (at_state m (state_of (behind_name_of false x))) rest
 unfolding taken entries
 start_named b m rest c ends true e =
     let M : Machine = at_state m there.ScriptDataDoubleEscapeStart in
-    let at : (d : ℕ) → taken b M (d ∷ rest) (entries there.ScriptDataDoubleEscapeStart) ≡ taking (Emit Current ∷ []) (Switch there.ScriptDataDoubleEscaped) (d ∷ []) →
-    Goes b M (d ∷ rest) (AChar d ∷ []) (at_state m there.ScriptDataDoubleEscaped) rest = λ d is. by_entry M (d ∷ rest) (taking (Emit Current ∷ []) (Switch there.ScriptDataDoubleEscaped) (d ∷ [])) is refl in
-    ends_cases (λ d. Goes b M (d ∷ rest) (AChar d ∷ []) (at_state m there.ScriptDataDoubleEscaped) rest) c ends
-    (at 47 (rw e refl)) (at 62 (rw e refl)) (at 9 (rw e refl)) (at 10 (rw e refl)) (at 12 (rw e refl)) (at 32 (rw e refl))
+    let at : (d : ℕ) → ((y : Bool) → taken y M (d ∷ rest) (entries there.ScriptDataDoubleEscapeStart) ≡ taking (Emit Current ∷ []) (Switch there.ScriptDataDoubleEscaped) (d ∷ [])) →
+    Goes M (d ∷ rest) (AChar d ∷ []) (at_state m there.ScriptDataDoubleEscaped) rest = λ d is. by_entry M (d ∷ rest) (taking (Emit Current ∷ []) (Switch there.ScriptDataDoubleEscaped) (d ∷ [])) is refl in
+    ends_cases (λ d. Goes M (d ∷ rest) (AChar d ∷ []) (at_state m there.ScriptDataDoubleEscaped) rest) c ends
+    (at 47 (λ y. rw e refl)) (at 62 (λ y. rw e refl)) (at 9 (λ y. rw e refl)) (at 10 (λ y. rw e refl)) (at 12 (λ y. rw e refl)) (at 32 (λ y. rw e refl))
 start_named b m rest c ends false e =
     let M : Machine = at_state m there.ScriptDataDoubleEscapeStart in
-    let at : (d : ℕ) → taken b M (d ∷ rest) (entries there.ScriptDataDoubleEscapeStart) ≡ taking (Emit Current ∷ []) (Switch there.ScriptDataEscaped) (d ∷ []) →
-    Goes b M (d ∷ rest) (AChar d ∷ []) (at_state m there.ScriptDataEscaped) rest = λ d is. by_entry M (d ∷ rest) (taking (Emit Current ∷ []) (Switch there.ScriptDataEscaped) (d ∷ [])) is refl in
-    ends_cases (λ d. Goes b M (d ∷ rest) (AChar d ∷ []) (at_state m there.ScriptDataEscaped) rest) c ends
-    (at 47 (rw e refl)) (at 62 (rw e refl)) (at 9 (rw e refl)) (at 10 (rw e refl)) (at 12 (rw e refl)) (at 32 (rw e refl))
+    let at : (d : ℕ) → ((y : Bool) → taken y M (d ∷ rest) (entries there.ScriptDataDoubleEscapeStart) ≡ taking (Emit Current ∷ []) (Switch there.ScriptDataEscaped) (d ∷ [])) →
+    Goes M (d ∷ rest) (AChar d ∷ []) (at_state m there.ScriptDataEscaped) rest = λ d is. by_entry M (d ∷ rest) (taking (Emit Current ∷ []) (Switch there.ScriptDataEscaped) (d ∷ [])) is refl in
+    ends_cases (λ d. Goes M (d ∷ rest) (AChar d ∷ []) (at_state m there.ScriptDataEscaped) rest) c ends
+    (at 47 (λ y. rw e refl)) (at 62 (λ y. rw e refl)) (at 9 (λ y. rw e refl)) (at 10 (λ y. rw e refl)) (at 12 (λ y. rw e refl)) (at 32 (λ y. rw e refl))
 
 end_named : (b : Bool) (m : Machine) (rest : List ℕ) (c : ℕ) → ends_name c ≡ true → (x : Bool) → bytes_eq m.buffer (codes "script") ≡ x →
-    Goes b (at_state m there.ScriptDataDoubleEscapeEnd) (c ∷ rest) (AChar c ∷ []) (at_state m (state_of (behind_name_of true x))) rest
+    Goes (at_state m there.ScriptDataDoubleEscapeEnd) (c ∷ rest) (AChar c ∷ []) (at_state m (state_of (behind_name_of true x))) rest
 unfolding taken entries
 end_named b m rest c ends true e =
     let M : Machine = at_state m there.ScriptDataDoubleEscapeEnd in
-    let at : (d : ℕ) → taken b M (d ∷ rest) (entries there.ScriptDataDoubleEscapeEnd) ≡ taking (Emit Current ∷ []) (Switch there.ScriptDataEscaped) (d ∷ []) →
-    Goes b M (d ∷ rest) (AChar d ∷ []) (at_state m there.ScriptDataEscaped) rest = λ d is. by_entry M (d ∷ rest) (taking (Emit Current ∷ []) (Switch there.ScriptDataEscaped) (d ∷ [])) is refl in
-    ends_cases (λ d. Goes b M (d ∷ rest) (AChar d ∷ []) (at_state m there.ScriptDataEscaped) rest) c ends
-    (at 47 (rw e refl)) (at 62 (rw e refl)) (at 9 (rw e refl)) (at 10 (rw e refl)) (at 12 (rw e refl)) (at 32 (rw e refl))
+    let at : (d : ℕ) → ((y : Bool) → taken y M (d ∷ rest) (entries there.ScriptDataDoubleEscapeEnd) ≡ taking (Emit Current ∷ []) (Switch there.ScriptDataEscaped) (d ∷ [])) →
+    Goes M (d ∷ rest) (AChar d ∷ []) (at_state m there.ScriptDataEscaped) rest = λ d is. by_entry M (d ∷ rest) (taking (Emit Current ∷ []) (Switch there.ScriptDataEscaped) (d ∷ [])) is refl in
+    ends_cases (λ d. Goes M (d ∷ rest) (AChar d ∷ []) (at_state m there.ScriptDataEscaped) rest) c ends
+    (at 47 (λ y. rw e refl)) (at 62 (λ y. rw e refl)) (at 9 (λ y. rw e refl)) (at 10 (λ y. rw e refl)) (at 12 (λ y. rw e refl)) (at 32 (λ y. rw e refl))
 end_named b m rest c ends false e =
     let M : Machine = at_state m there.ScriptDataDoubleEscapeEnd in
-    let at : (d : ℕ) → taken b M (d ∷ rest) (entries there.ScriptDataDoubleEscapeEnd) ≡ taking (Emit Current ∷ []) (Switch there.ScriptDataDoubleEscaped) (d ∷ []) →
-    Goes b M (d ∷ rest) (AChar d ∷ []) (at_state m there.ScriptDataDoubleEscaped) rest = λ d is. by_entry M (d ∷ rest) (taking (Emit Current ∷ []) (Switch there.ScriptDataDoubleEscaped) (d ∷ [])) is refl in
-    ends_cases (λ d. Goes b M (d ∷ rest) (AChar d ∷ []) (at_state m there.ScriptDataDoubleEscaped) rest) c ends
-    (at 47 (rw e refl)) (at 62 (rw e refl)) (at 9 (rw e refl)) (at 10 (rw e refl)) (at 12 (rw e refl)) (at 32 (rw e refl))
+    let at : (d : ℕ) → ((y : Bool) → taken y M (d ∷ rest) (entries there.ScriptDataDoubleEscapeEnd) ≡ taking (Emit Current ∷ []) (Switch there.ScriptDataDoubleEscaped) (d ∷ [])) →
+    Goes M (d ∷ rest) (AChar d ∷ []) (at_state m there.ScriptDataDoubleEscaped) rest = λ d is. by_entry M (d ∷ rest) (taking (Emit Current ∷ []) (Switch there.ScriptDataDoubleEscaped) (d ∷ [])) is refl in
+    ends_cases (λ d. Goes M (d ∷ rest) (AChar d ∷ []) (at_state m there.ScriptDataDoubleEscaped) rest) c ends
+    (at 47 (λ y. rw e refl)) (at 62 (λ y. rw e refl)) (at 9 (λ y. rw e refl)) (at 10 (λ y. rw e refl)) (at 12 (λ y. rw e refl)) (at 32 (λ y. rw e refl))
 
 -- ---- escaped script data
 
@@ -174,7 +174,7 @@ dashed from home dash other less c at_dash at_less holds null plain =
     by_test (Comes from home) c 45 (its.Text dash) (cond (c == 60) less (its.Text other)) at_dash
     (λ h45. by_test (Comes from home) c 60 less (its.Text other) at_less
     (λ h60. (
-      (λ b m rest. by_bool (λ e x. Goes b (at_state m (script_state_of from)) (e ∷ rest) (AChar (cond x 0xfffd e) ∷ []) (at_state m (state_of other)) rest) c 0 (null b m rest) (λ h0. plain h45 h60 h0 b m rest)),
+      (λ b m rest. by_bool (λ e x. Goes (at_state m (script_state_of from)) (e ∷ rest) (AChar (cond x 0xfffd e) ∷ []) (at_state m (state_of other)) rest) c 0 (null b m rest) (λ h0. plain h45 h60 h0 b m rest)),
       holds,
     )))
 
@@ -182,30 +182,30 @@ in_escaped : (home : ScriptState) (c : ℕ) → Comes script.Escaped home c (esc
 unfolding taken entries
 in_escaped home c =
     dashed script.Escaped home (state.ScriptData script.EscapedDash) escaped its.LessThan c
-    ((λ b m rest. by_entry (at_state m there.ScriptDataEscaped) (45 ∷ rest) (taking (Emit (These (codes "-")) ∷ []) (Switch there.ScriptDataEscapedDash) (45 ∷ [])) refl refl), (λ t m. refl))
-    (λ b m rest. by_entry (at_state m there.ScriptDataEscaped) (60 ∷ rest) (taking [] (Switch there.ScriptDataEscapedLessThanSign) (60 ∷ [])) refl refl)
-    (λ t m. refl) (λ b m rest. by_entry (at_state m there.ScriptDataEscaped) (0 ∷ rest) (taking (Emit replacement ∷ []) Stay (0 ∷ [])) refl refl)
-    (λ h45 h60 h0 b m rest. by_entry (at_state m there.ScriptDataEscaped) (c ∷ rest) (taking (Emit Current ∷ []) Stay (c ∷ [])) (rw (h45, h60, h0) refl) refl)
+    ((λ b m rest. by_entry (at_state m there.ScriptDataEscaped) (45 ∷ rest) (taking (Emit (These (codes "-")) ∷ []) (Switch there.ScriptDataEscapedDash) (45 ∷ [])) (λ x. refl) refl), (λ t m. refl))
+    (λ b m rest. by_entry (at_state m there.ScriptDataEscaped) (60 ∷ rest) (taking [] (Switch there.ScriptDataEscapedLessThanSign) (60 ∷ [])) (λ x. refl) refl)
+    (λ t m. refl) (λ b m rest. by_entry (at_state m there.ScriptDataEscaped) (0 ∷ rest) (taking (Emit replacement ∷ []) Stay (0 ∷ [])) (λ x. refl) refl)
+    (λ h45 h60 h0 b m rest. by_entry (at_state m there.ScriptDataEscaped) (c ∷ rest) (taking (Emit Current ∷ []) Stay (c ∷ [])) (λ x. rw (h45, h60, h0) refl) refl)
 
 in_escaped_dash : (home : ScriptState) (c : ℕ) → Comes script.EscapedDash home c (escaped_step_of script.EscapedDashDash c)
 unfolding taken entries
 in_escaped_dash home c =
     dashed script.EscapedDash home (state.ScriptData script.EscapedDashDash) escaped its.LessThan c
-    ((λ b m rest. by_entry (at_state m there.ScriptDataEscapedDash) (45 ∷ rest) (taking (Emit (These (codes "-")) ∷ []) (Switch there.ScriptDataEscapedDashDash) (45 ∷ [])) refl refl), (λ t m. refl))
-    (λ b m rest. by_entry (at_state m there.ScriptDataEscapedDash) (60 ∷ rest) (taking [] (Switch there.ScriptDataEscapedLessThanSign) (60 ∷ [])) refl refl)
-    (λ t m. refl) (λ b m rest. by_entry (at_state m there.ScriptDataEscapedDash) (0 ∷ rest) (taking (Emit replacement ∷ []) (Switch there.ScriptDataEscaped) (0 ∷ [])) refl refl)
-    (λ h45 h60 h0 b m rest. by_entry (at_state m there.ScriptDataEscapedDash) (c ∷ rest) (taking (Emit Current ∷ []) (Switch there.ScriptDataEscaped) (c ∷ [])) (rw (h45, h60, h0) refl) refl)
+    ((λ b m rest. by_entry (at_state m there.ScriptDataEscapedDash) (45 ∷ rest) (taking (Emit (These (codes "-")) ∷ []) (Switch there.ScriptDataEscapedDashDash) (45 ∷ [])) (λ x. refl) refl), (λ t m. refl))
+    (λ b m rest. by_entry (at_state m there.ScriptDataEscapedDash) (60 ∷ rest) (taking [] (Switch there.ScriptDataEscapedLessThanSign) (60 ∷ [])) (λ x. refl) refl)
+    (λ t m. refl) (λ b m rest. by_entry (at_state m there.ScriptDataEscapedDash) (0 ∷ rest) (taking (Emit replacement ∷ []) (Switch there.ScriptDataEscaped) (0 ∷ [])) (λ x. refl) refl)
+    (λ h45 h60 h0 b m rest. by_entry (at_state m there.ScriptDataEscapedDash) (c ∷ rest) (taking (Emit Current ∷ []) (Switch there.ScriptDataEscaped) (c ∷ [])) (λ x. rw (h45, h60, h0) refl) refl)
 
 in_escaped_dash_dash : (home : ScriptState) (c : ℕ) → Comes script.EscapedDashDash home c (script_step_of script.EscapedDashDash c)
 unfolding taken entries
 in_escaped_dash_dash home c =
     by_test (Comes script.EscapedDashDash home) c 62 (its.Text state.Script) (escaped_step_of script.EscapedDashDash c)
-    ((λ b m rest. by_entry (at_state m there.ScriptDataEscapedDashDash) (62 ∷ rest) (taking (Emit (These (codes ">")) ∷ []) (Switch there.ScriptData) (62 ∷ [])) refl refl), (λ t m. refl))
+    ((λ b m rest. by_entry (at_state m there.ScriptDataEscapedDashDash) (62 ∷ rest) (taking (Emit (These (codes ">")) ∷ []) (Switch there.ScriptData) (62 ∷ [])) (λ x. refl) refl), (λ t m. refl))
     (λ h62. dashed script.EscapedDashDash home (state.ScriptData script.EscapedDashDash) escaped its.LessThan c
-    ((λ b m rest. by_entry (at_state m there.ScriptDataEscapedDashDash) (45 ∷ rest) (taking (Emit (These (codes "-")) ∷ []) Stay (45 ∷ [])) refl refl), (λ t m. refl))
-    (λ b m rest. by_entry (at_state m there.ScriptDataEscapedDashDash) (60 ∷ rest) (taking [] (Switch there.ScriptDataEscapedLessThanSign) (60 ∷ [])) refl refl)
-    (λ t m. refl) (λ b m rest. by_entry (at_state m there.ScriptDataEscapedDashDash) (0 ∷ rest) (taking (Emit replacement ∷ []) (Switch there.ScriptDataEscaped) (0 ∷ [])) refl refl)
-    (λ h45 h60 h0 b m rest. by_entry (at_state m there.ScriptDataEscapedDashDash) (c ∷ rest) (taking (Emit Current ∷ []) (Switch there.ScriptDataEscaped) (c ∷ [])) (rw (h45, h60, h62, h0) refl) refl))
+    ((λ b m rest. by_entry (at_state m there.ScriptDataEscapedDashDash) (45 ∷ rest) (taking (Emit (These (codes "-")) ∷ []) Stay (45 ∷ [])) (λ x. refl) refl), (λ t m. refl))
+    (λ b m rest. by_entry (at_state m there.ScriptDataEscapedDashDash) (60 ∷ rest) (taking [] (Switch there.ScriptDataEscapedLessThanSign) (60 ∷ [])) (λ x. refl) refl)
+    (λ t m. refl) (λ b m rest. by_entry (at_state m there.ScriptDataEscapedDashDash) (0 ∷ rest) (taking (Emit replacement ∷ []) (Switch there.ScriptDataEscaped) (0 ∷ [])) (λ x. refl) refl)
+    (λ h45 h60 h0 b m rest. by_entry (at_state m there.ScriptDataEscapedDashDash) (c ∷ rest) (taking (Emit Current ∷ []) (Switch there.ScriptDataEscaped) (c ∷ [])) (λ x. rw (h45, h60, h62, h0) refl) refl))
 
 -- ---- the same where it is escaped twice
 
@@ -213,38 +213,38 @@ in_doubled : (home : ScriptState) (c : ℕ) → Comes (script.Double double.Esca
 unfolding taken entries
 in_doubled home c =
     dashed (script.Double double.Escaped) home (doubled double.Dash) (doubled double.Escaped) (its.Text (doubled double.LessThan)) c
-    ((λ b m rest. by_entry (at_state m there.ScriptDataDoubleEscaped) (45 ∷ rest) (taking (Emit (These (codes "-")) ∷ []) (Switch there.ScriptDataDoubleEscapedDash) (45 ∷ [])) refl refl), (λ t m. refl))
-    ((λ b m rest. by_entry (at_state m there.ScriptDataDoubleEscaped) (60 ∷ rest) (taking (Emit (These (codes "<")) ∷ []) (Switch there.ScriptDataDoubleEscapedLessThanSign) (60 ∷ [])) refl refl), (λ t m. refl))
-    (λ t m. refl) (λ b m rest. by_entry (at_state m there.ScriptDataDoubleEscaped) (0 ∷ rest) (taking (Emit replacement ∷ []) Stay (0 ∷ [])) refl refl)
-    (λ h45 h60 h0 b m rest. by_entry (at_state m there.ScriptDataDoubleEscaped) (c ∷ rest) (taking (Emit Current ∷ []) Stay (c ∷ [])) (rw (h45, h60, h0) refl) refl)
+    ((λ b m rest. by_entry (at_state m there.ScriptDataDoubleEscaped) (45 ∷ rest) (taking (Emit (These (codes "-")) ∷ []) (Switch there.ScriptDataDoubleEscapedDash) (45 ∷ [])) (λ x. refl) refl), (λ t m. refl))
+    ((λ b m rest. by_entry (at_state m there.ScriptDataDoubleEscaped) (60 ∷ rest) (taking (Emit (These (codes "<")) ∷ []) (Switch there.ScriptDataDoubleEscapedLessThanSign) (60 ∷ [])) (λ x. refl) refl), (λ t m. refl))
+    (λ t m. refl) (λ b m rest. by_entry (at_state m there.ScriptDataDoubleEscaped) (0 ∷ rest) (taking (Emit replacement ∷ []) Stay (0 ∷ [])) (λ x. refl) refl)
+    (λ h45 h60 h0 b m rest. by_entry (at_state m there.ScriptDataDoubleEscaped) (c ∷ rest) (taking (Emit Current ∷ []) Stay (c ∷ [])) (λ x. rw (h45, h60, h0) refl) refl)
 
 in_doubled_dash : (home : ScriptState) (c : ℕ) → Comes (script.Double double.Dash) home c (doubled_step_of double.DashDash c)
 unfolding taken entries
 in_doubled_dash home c =
     dashed (script.Double double.Dash) home (doubled double.DashDash) (doubled double.Escaped) (its.Text (doubled double.LessThan)) c
-    ((λ b m rest. by_entry (at_state m there.ScriptDataDoubleEscapedDash) (45 ∷ rest) (taking (Emit (These (codes "-")) ∷ []) (Switch there.ScriptDataDoubleEscapedDashDash) (45 ∷ [])) refl refl), (λ t m. refl))
-    ((λ b m rest. by_entry (at_state m there.ScriptDataDoubleEscapedDash) (60 ∷ rest) (taking (Emit (These (codes "<")) ∷ []) (Switch there.ScriptDataDoubleEscapedLessThanSign) (60 ∷ [])) refl refl), (λ t m. refl))
-    (λ t m. refl) (λ b m rest. by_entry (at_state m there.ScriptDataDoubleEscapedDash) (0 ∷ rest) (taking (Emit replacement ∷ []) (Switch there.ScriptDataDoubleEscaped) (0 ∷ [])) refl refl)
-    (λ h45 h60 h0 b m rest. by_entry (at_state m there.ScriptDataDoubleEscapedDash) (c ∷ rest) (taking (Emit Current ∷ []) (Switch there.ScriptDataDoubleEscaped) (c ∷ [])) (rw (h45, h60, h0) refl) refl)
+    ((λ b m rest. by_entry (at_state m there.ScriptDataDoubleEscapedDash) (45 ∷ rest) (taking (Emit (These (codes "-")) ∷ []) (Switch there.ScriptDataDoubleEscapedDashDash) (45 ∷ [])) (λ x. refl) refl), (λ t m. refl))
+    ((λ b m rest. by_entry (at_state m there.ScriptDataDoubleEscapedDash) (60 ∷ rest) (taking (Emit (These (codes "<")) ∷ []) (Switch there.ScriptDataDoubleEscapedLessThanSign) (60 ∷ [])) (λ x. refl) refl), (λ t m. refl))
+    (λ t m. refl) (λ b m rest. by_entry (at_state m there.ScriptDataDoubleEscapedDash) (0 ∷ rest) (taking (Emit replacement ∷ []) (Switch there.ScriptDataDoubleEscaped) (0 ∷ [])) (λ x. refl) refl)
+    (λ h45 h60 h0 b m rest. by_entry (at_state m there.ScriptDataDoubleEscapedDash) (c ∷ rest) (taking (Emit Current ∷ []) (Switch there.ScriptDataDoubleEscaped) (c ∷ [])) (λ x. rw (h45, h60, h0) refl) refl)
 
 in_doubled_dash_dash : (home : ScriptState) (c : ℕ) → Comes (script.Double double.DashDash) home c (double_step_of double.DashDash c)
 unfolding taken entries
 in_doubled_dash_dash home c =
     by_test (Comes (script.Double double.DashDash) home) c 62 (its.Text state.Script) (doubled_step_of double.DashDash c)
-    ((λ b m rest. by_entry (at_state m there.ScriptDataDoubleEscapedDashDash) (62 ∷ rest) (taking (Emit (These (codes ">")) ∷ []) (Switch there.ScriptData) (62 ∷ [])) refl refl), (λ t m. refl))
+    ((λ b m rest. by_entry (at_state m there.ScriptDataDoubleEscapedDashDash) (62 ∷ rest) (taking (Emit (These (codes ">")) ∷ []) (Switch there.ScriptData) (62 ∷ [])) (λ x. refl) refl), (λ t m. refl))
     (λ h62. dashed (script.Double double.DashDash) home (doubled double.DashDash) (doubled double.Escaped) (its.Text (doubled double.LessThan)) c
-    ((λ b m rest. by_entry (at_state m there.ScriptDataDoubleEscapedDashDash) (45 ∷ rest) (taking (Emit (These (codes "-")) ∷ []) Stay (45 ∷ [])) refl refl), (λ t m. refl))
-    ((λ b m rest. by_entry (at_state m there.ScriptDataDoubleEscapedDashDash) (60 ∷ rest) (taking (Emit (These (codes "<")) ∷ []) (Switch there.ScriptDataDoubleEscapedLessThanSign) (60 ∷ [])) refl refl), (λ t m. refl))
-    (λ t m. refl) (λ b m rest. by_entry (at_state m there.ScriptDataDoubleEscapedDashDash) (0 ∷ rest) (taking (Emit replacement ∷ []) (Switch there.ScriptDataDoubleEscaped) (0 ∷ [])) refl refl)
-    (λ h45 h60 h0 b m rest. by_entry (at_state m there.ScriptDataDoubleEscapedDashDash) (c ∷ rest) (taking (Emit Current ∷ []) (Switch there.ScriptDataDoubleEscaped) (c ∷ [])) (rw (h45, h60, h62, h0) refl) refl))
+    ((λ b m rest. by_entry (at_state m there.ScriptDataDoubleEscapedDashDash) (45 ∷ rest) (taking (Emit (These (codes "-")) ∷ []) Stay (45 ∷ [])) (λ x. refl) refl), (λ t m. refl))
+    ((λ b m rest. by_entry (at_state m there.ScriptDataDoubleEscapedDashDash) (60 ∷ rest) (taking (Emit (These (codes "<")) ∷ []) (Switch there.ScriptDataDoubleEscapedLessThanSign) (60 ∷ [])) (λ x. refl) refl), (λ t m. refl))
+    (λ t m. refl) (λ b m rest. by_entry (at_state m there.ScriptDataDoubleEscapedDashDash) (0 ∷ rest) (taking (Emit replacement ∷ []) (Switch there.ScriptDataDoubleEscaped) (0 ∷ [])) (λ x. refl) refl)
+    (λ h45 h60 h0 b m rest. by_entry (at_state m there.ScriptDataDoubleEscapedDashDash) (c ∷ rest) (taking (Emit Current ∷ []) (Switch there.ScriptDataDoubleEscaped) (c ∷ [])) (λ x. rw (h45, h60, h62, h0) refl) refl))
 
 in_doubled_less_than : (home : ScriptState) (c : ℕ) → Comes (script.Double double.LessThan) home c (double_step_of double.LessThan c)
 unfolding taken entries
 in_doubled_less_than home c =
     by_test (Comes (script.Double double.LessThan) home) c 47 its.Slash (doubled_step_of double.Dash c)
-    (λ b m rest. by_entry (at_state m there.ScriptDataDoubleEscapedLessThanSign) (47 ∷ rest) (taking (SetEmpty Buffer ∷ Emit (These (codes "/")) ∷ []) (Switch there.ScriptDataDoubleEscapeEnd) (47 ∷ [])) refl refl)
+    (λ b m rest. by_entry (at_state m there.ScriptDataDoubleEscapedLessThanSign) (47 ∷ rest) (taking (SetEmpty Buffer ∷ Emit (These (codes "/")) ∷ []) (Switch there.ScriptDataDoubleEscapeEnd) (47 ∷ [])) (λ x. refl) refl)
     (λ h47. back (script.Double double.LessThan) (script.Double double.Escaped) home c (doubled_step_of double.Dash c)
-    (λ b m rest. by_entry (at_state m there.ScriptDataDoubleEscapedLessThanSign) (c ∷ rest) (taking [] (Reconsume there.ScriptDataDoubleEscaped) (c ∷ [])) (rw h47 refl) refl) (in_doubled home c))
+    (λ b m rest. by_entry (at_state m there.ScriptDataDoubleEscapedLessThanSign) (c ∷ rest) (taking [] (Reconsume there.ScriptDataDoubleEscaped) (c ∷ [])) (λ x. rw h47 refl) refl) (in_doubled home c))
 
 -- ---- names
 
@@ -260,7 +260,7 @@ at_start c = go (ends_name c) refl (is_ascii_alphabetic c) refl
         let is : IsLetter c = ends_none c e in
         back script.DoubleStart script.Escaped script.DoubleStart c (escaped_step_of script.EscapedDash c)
         (λ b m rest. by_entry (at_state m there.ScriptDataDoubleEscapeStart) (c ∷ rest) (taking [] (Reconsume there.ScriptDataEscaped) (c ∷ []))
-        (rw (is.tab, is.line_feed, is.form_feed, is.space, is.slash, is.greater, no_upper c f, no_lower c f) refl) refl) (in_escaped script.DoubleStart c)
+        (λ x. rw (is.tab, is.line_feed, is.form_feed, is.space, is.slash, is.greater, no_upper c f, no_lower c f) refl) refl) (in_escaped script.DoubleStart c)
 
 at_end : (c : ℕ) → Comes (script.Double double.End) (script.Double double.End) c (double_step_of double.End c)
 unfolding taken entries
@@ -274,7 +274,7 @@ at_end c = go (ends_name c) refl (is_ascii_alphabetic c) refl
         let is : IsLetter c = ends_none c e in
         back (script.Double double.End) (script.Double double.Escaped) (script.Double double.End) c (doubled_step_of double.Dash c)
         (λ b m rest. by_entry (at_state m there.ScriptDataDoubleEscapeEnd) (c ∷ rest) (taking [] (Reconsume there.ScriptDataDoubleEscaped) (c ∷ []))
-        (rw (is.tab, is.line_feed, is.form_feed, is.space, is.slash, is.greater, no_upper c f, no_lower c f) refl) refl) (in_doubled (script.Double double.End) c)
+        (λ x. rw (is.tab, is.line_feed, is.form_feed, is.space, is.slash, is.greater, no_upper c f, no_lower c f) refl) refl) (in_doubled (script.Double double.End) c)
 
 -- ---- where script data begins to be escaped
 
@@ -282,15 +282,15 @@ begins : (c : ℕ) → Comes script.EscapeStart script.EscapeStart c (script_ste
 unfolding taken entries
 begins c =
     by_test (Comes script.EscapeStart script.EscapeStart) c 45 (its.Text (state.ScriptData script.EscapeStartDash)) its.Unescaped
-    ((λ b m rest. by_entry (at_state m there.ScriptDataEscapeStart) (45 ∷ rest) (taking (Emit (These (codes "-")) ∷ []) (Switch there.ScriptDataEscapeStartDash) (45 ∷ [])) refl refl), (λ t m. refl))
-    (λ h45 b m rest. by_entry (at_state m there.ScriptDataEscapeStart) (c ∷ rest) (taking [] (Reconsume there.ScriptData) (c ∷ [])) (rw h45 refl) refl)
+    ((λ b m rest. by_entry (at_state m there.ScriptDataEscapeStart) (45 ∷ rest) (taking (Emit (These (codes "-")) ∷ []) (Switch there.ScriptDataEscapeStartDash) (45 ∷ [])) (λ x. refl) refl), (λ t m. refl))
+    (λ h45 b m rest. by_entry (at_state m there.ScriptDataEscapeStart) (c ∷ rest) (taking [] (Reconsume there.ScriptData) (c ∷ [])) (λ x. rw h45 refl) refl)
 
 begins_dash : (c : ℕ) → Comes script.EscapeStartDash script.EscapeStartDash c (script_step_of script.EscapeStartDash c)
 unfolding taken entries
 begins_dash c =
     by_test (Comes script.EscapeStartDash script.EscapeStartDash) c 45 (its.Text (state.ScriptData script.EscapedDashDash)) its.Unescaped
-    ((λ b m rest. by_entry (at_state m there.ScriptDataEscapeStartDash) (45 ∷ rest) (taking (Emit (These (codes "-")) ∷ []) (Switch there.ScriptDataEscapedDashDash) (45 ∷ [])) refl refl), (λ t m. refl))
-    (λ h45 b m rest. by_entry (at_state m there.ScriptDataEscapeStartDash) (c ∷ rest) (taking [] (Reconsume there.ScriptData) (c ∷ [])) (rw h45 refl) refl)
+    ((λ b m rest. by_entry (at_state m there.ScriptDataEscapeStartDash) (45 ∷ rest) (taking (Emit (These (codes "-")) ∷ []) (Switch there.ScriptDataEscapedDashDash) (45 ∷ [])) (λ x. refl) refl), (λ t m. refl))
+    (λ h45 b m rest. by_entry (at_state m there.ScriptDataEscapeStartDash) (c ∷ rest) (taking [] (Reconsume there.ScriptData) (c ∷ [])) (λ x. rw h45 refl) refl)
 
 pub comes : (inner : ScriptState) (c : ℕ) → Comes inner inner c (script_step_of inner c)
 comes script.EscapeStart c = begins c

@@ -13,18 +13,18 @@ use Rattle.page_tokens.specs.Standard.{Goes, stays, steps}
 abbrev pub taking : List Act → Then → List ℕ → Taken
 taking acts goes current = record { acts = acts; goes = goes; current = current }
 
-pub then_on : {b : Bool} {m n k : Machine} {text mid rest : List ℕ} {ts us : List StandardToken} → Goes b m text ts n mid → Goes b n mid us k rest → Goes b m text (ts ++ us) k rest
+pub then_on : {m n k : Machine} {text mid rest : List ℕ} {ts us : List StandardToken} → Goes m text ts n mid → Goes n mid us k rest → Goes m text (ts ++ us) k rest
 then_on stays more = more
-then_on {b} {m} {n} {k} {text} {mid} {rest} {ts} {us} (steps {tokens = later} s is runs goes) more =
-    subst (λ all. Goes b m text all k rest) (sym (append_assoc s.tokens later us)) (steps s is runs (then_on goes more))
+then_on {m} {n} {k} {text} {mid} {rest} {ts} {us} (steps {tokens = later} s is runs goes) more =
+    subst (λ all. Goes m text all k rest) (sym (append_assoc s.tokens later us)) (steps s is runs (then_on goes more))
 
 -- where the machine stands behind an entry
-pub by_entry : {b : Bool} (m : Machine) (text : List ℕ) (t : Taken) → taken b m text (entries m.state) ≡ t → stops t.goes ≡ false →
-    Goes b m text (all_emitted t.current t.acts m) (step_by m text t).machine (step_by m text t).rest
+pub by_entry : (m : Machine) (text : List ℕ) (t : Taken) → ((x : Bool) → taken x m text (entries m.state) ≡ t) → stops t.goes ≡ false →
+    Goes m text (all_emitted t.current t.acts m) (step_by m text t).machine (step_by m text t).rest
 unfolding step
-by_entry {b} m text t is runs =
+by_entry m text t is runs =
     let s : Step = step_by m text t in
-    subst (λ all. Goes b m text all s.machine s.rest) (append-nil s.tokens) (steps s (ap (step_by m text) is) runs stays)
+    subst (λ all. Goes m text all s.machine s.rest) (append-nil s.tokens) (steps s (λ x. ap (step_by m text) (is x)) runs stays)
 
 -- a machine is the one that stands in its state
 pub in_its_state : (m : Machine) (s : StandardState) → m.state ≡ s → at_state m s ≡ m

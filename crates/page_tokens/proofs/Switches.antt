@@ -36,10 +36,10 @@ switches old new from to c told is only told_is none entry nothing also =
     let b : Bool = old.in_foreign in
     let n : Machine = at_state m (state_of to) in
     let at : m.state ≡ state_of from = stands.state ∙ ap state_of is in
-    let step : Goes b (at_state m (state_of from)) (c ∷ rest) [] n rest = by_entry (at_state m (state_of from)) (c ∷ rest) (taking [] (Switch (state_of to)) (c ∷ [])) (entry b m rest) refl in
+    let step : Goes (at_state m (state_of from)) (c ∷ rest) [] n rest = by_entry (at_state m (state_of from)) (c ∷ rest) (taking [] (Switch (state_of to)) (c ∷ [])) (λ x. entry x m rest) refl in
     record {
       machine = n;
-      goes = subst (λ front. Goes b m (front ++ (c ∷ []) ++ rest) [] n rest) (sym (nothing old ahead m held)) (subst (λ k. Goes b k (c ∷ rest) [] n rest) (in_its_state m (state_of from) at) step);
+      goes = subst (λ front. Goes m (front ++ (c ∷ []) ++ rest) [] n rest) (sym (nothing old ahead m held)) (subst (λ k. Goes k (c ∷ rest) [] n rest) (in_its_state m (state_of from) at) step);
       stands = record { reference = stands.reference; state = refl; last_start = stands.last_start; held = also old old ahead m held };
     })))
 
@@ -53,11 +53,11 @@ reconsumes_all old mid new from to c cs told is only remembers entry nothing als
     let b : Bool = old.in_foreign in
     let n : Machine = at_state m (state_of to) in
     let at : m.state ≡ state_of from = stands.state ∙ ap state_of is in
-    let step : Goes b (at_state m (state_of from)) (c ∷ (cs ++ rest)) [] n (c ∷ (cs ++ rest)) =
-    by_entry (at_state m (state_of from)) (c ∷ (cs ++ rest)) (taking [] (Reconsume (state_of to)) (c ∷ [])) (entry b m (cs ++ rest)) refl in
+    let step : Goes (at_state m (state_of from)) (c ∷ (cs ++ rest)) [] n (c ∷ (cs ++ rest)) =
+    by_entry (at_state m (state_of from)) (c ∷ (cs ++ rest)) (taking [] (Reconsume (state_of to)) (c ∷ [])) (λ x. entry x m (cs ++ rest)) refl in
     record {
       machine = n;
-      goes = subst (λ front. Goes b m (front ++ (c ∷ cs) ++ rest) [] n (c ∷ (cs ++ rest))) (sym (nothing old ahead m held)) (subst (λ k. Goes b k (c ∷ (cs ++ rest)) [] n (c ∷ (cs ++ rest))) (in_its_state m (state_of from) at) step);
+      goes = subst (λ front. Goes m (front ++ (c ∷ cs) ++ rest) [] n (c ∷ (cs ++ rest))) (sym (nothing old ahead m held)) (subst (λ k. Goes k (c ∷ (cs ++ rest)) [] n (c ∷ (cs ++ rest))) (in_its_state m (state_of from) at) step);
       stands = subst (λ t. Stands t [] n) (sym only) (record { reference = stands.reference; state = refl; last_start = stands.last_start; held = also old mid ahead m held });
     }) follows
 

@@ -30,13 +30,13 @@ Entry s c acts goes = (b : Bool) (m : Machine) (rest : List ℕ) → taken b (at
 
 -- the character leads from one state to another
 abbrev pub Over : StandardState → StandardState → ℕ → Type 0
-Over s to c = (b : Bool) (m : Machine) (rest : List ℕ) → Goes b (at_state m s) (c ∷ rest) [] (at_state m to) rest
+Over s to c = (b : Bool) (m : Machine) (rest : List ℕ) → Goes (at_state m s) (c ∷ rest) [] (at_state m to) rest
 
 pub switched : (s to : StandardState) (c : ℕ) → Entry s c [] (Switch to) → Over s to c
-switched s to c entry b m rest = by_entry (at_state m s) (c ∷ rest) (taking [] (Switch to) (c ∷ [])) (entry b m rest) refl
+switched s to c entry b m rest = by_entry (at_state m s) (c ∷ rest) (taking [] (Switch to) (c ∷ [])) (λ x. entry x m rest) refl
 
 pub stayed : (s : StandardState) (c : ℕ) → Entry s c [] Stay → Over s s c
-stayed s c entry b m rest = by_entry (at_state m s) (c ∷ rest) (taking [] Stay (c ∷ [])) (entry b m rest) refl
+stayed s c entry b m rest = by_entry (at_state m s) (c ∷ rest) (taking [] Stay (c ∷ [])) (λ x. entry x m rest) refl
 
 -- ---- kinds of characters
 
@@ -107,14 +107,14 @@ stays_on old from c is over nothing also none = switches_on old old from from c 
 -- at `>` the standard emits what is `made` of its current tag
 abbrev pub EmitsOver : StandardState → (StandardTag → StandardTag) → Type 0
 EmitsOver s made = (b : Bool) (m : Machine) (rest : List ℕ) →
-    Goes b (at_state m s) (62 ∷ rest) (token_of (made m.tag) ∷ []) (record m { state = there.Data; tag = made m.tag; last_start = last_start_of (made m.tag) m.last_start }) rest
+    Goes (at_state m s) (62 ∷ rest) (token_of (made m.tag) ∷ []) (record m { state = there.Data; tag = made m.tag; last_start = last_start_of (made m.tag) m.last_start }) rest
 
 -- the tag is emitted as it is
 abbrev pub as_it_is : StandardTag → StandardTag
 as_it_is one = one
 
 pub emitted_plain : (s : StandardState) → Entry s 62 (EmitTag ∷ []) (Switch there.Data) → EmitsOver s as_it_is
-emitted_plain s entry b m rest = by_entry (at_state m s) (62 ∷ rest) (taking (EmitTag ∷ []) (Switch there.Data) (62 ∷ [])) (entry b m rest) refl
+emitted_plain s entry b m rest = by_entry (at_state m s) (62 ∷ rest) (taking (EmitTag ∷ []) (Switch there.Data) (62 ∷ [])) (λ x. entry x m rest) refl
 
 -- `mid` has what the standard emits, which is `made` of its current tag
 pub emitted_on : (old mid new : Tokenizer) (from : State) (made : StandardTag → StandardTag) (told : Option TokenKind) → old.state ≡ from → mid ≡ record old { tag = mid.tag; errors = mid.errors; refused = mid.refused } → Remembers old mid →
@@ -136,8 +136,8 @@ emitted_on old mid new from made told is only remembers is_draft keeps named_emi
         ahead' = [];
         characters = [];
         tokens = token_of (made m.tag) ∷ [];
-        goes = subst (λ front. Goes b m (front ++ (62 ∷ []) ++ rest) (token_of (made m.tag) ∷ []) n rest) (sym (nothing old ahead m held))
-            (subst (λ k. Goes b k (62 ∷ rest) (token_of (made m.tag) ∷ []) n rest) (in_its_state m (state_of from) at) (goes b m rest));
+        goes = subst (λ front. Goes m (front ++ (62 ∷ []) ++ rest) (token_of (made m.tag) ∷ []) n rest) (sym (nothing old ahead m held))
+            (subst (λ k. Goes k (62 ∷ rest) (token_of (made m.tag) ∷ []) n rest) (in_its_state m (state_of from) at) (goes b m rest));
         holds = inl (record {
           reference = emits.same_reference ∙ ap (λ t. t.reference) only ∙ stands.reference;
           state = ap state_of (sym emits.now_state);

@@ -48,15 +48,15 @@ emitted_tag_where old new from told is keeps named_emits entry nothing drafted =
       let b : Bool = old.in_foreign in
       let n : Machine = record m { state = there.Data; last_start = last_start_of m.tag m.last_start } in
       let at : m.state ≡ state_of from = stands.state ∙ ap state_of is in
-      let step : Goes b (at_state m (state_of from)) (62 ∷ rest) (token_of m.tag ∷ []) n rest =
-      by_entry (at_state m (state_of from)) (62 ∷ rest) (taking (EmitTag ∷ []) (Switch there.Data) (62 ∷ [])) (entry b m ahead rest stands) refl in
+      let step : Goes (at_state m (state_of from)) (62 ∷ rest) (token_of m.tag ∷ []) n rest =
+      by_entry (at_state m (state_of from)) (62 ∷ rest) (taking (EmitTag ∷ []) (Switch there.Data) (62 ∷ [])) (λ x. entry x m ahead rest stands) refl in
       record {
         machine = n;
         ahead' = [];
         characters = [];
         tokens = token_of m.tag ∷ [];
-        goes = subst (λ front. Goes b m (front ++ (62 ∷ []) ++ rest) (token_of m.tag ∷ []) n rest) (sym (nothing old ahead m held))
-            (subst (λ k. Goes b k (62 ∷ rest) (token_of m.tag ∷ []) n rest) (in_its_state m (state_of from) at) step);
+        goes = subst (λ front. Goes m (front ++ (62 ∷ []) ++ rest) (token_of m.tag ∷ []) n rest) (sym (nothing old ahead m held))
+            (subst (λ k. Goes k (62 ∷ rest) (token_of m.tag ∷ []) n rest) (in_its_state m (state_of from) at) step);
         holds = inl (record {
           reference = emits.same_reference ∙ stands.reference;
           state = ap state_of (sym emits.now_state);
@@ -140,7 +140,7 @@ named old new c is memory letter gains =
     let n : Machine = naming m more in
     let at : m.state ≡ there.TagName = stands.state ∙ ap state_of is in
     let made : Tokenizer = record old { tag = record old.tag { name = new.tag.name }; errors = new.errors; refused = new.refused } in
-    let step : Goes b (at_state m there.TagName) (c ∷ rest) [] n rest = name_letter b m m.tag.name rest c letter in
+    let step : Goes (at_state m there.TagName) (c ∷ rest) [] n rest = name_letter b m m.tag.name rest c letter in
     let same : made.state ≡ state.Tag tag.Name = is in
     let new_draft : IsDraft made.tag n.tag = record {
       kind = draft.kind;
@@ -151,7 +151,7 @@ named old new c is memory letter gains =
     } in
     record {
       machine = n;
-      goes = subst (λ front. Goes b m (front ++ (c ∷ []) ++ rest) [] n rest) (sym held.0) (subst (λ k. Goes b k (c ∷ rest) [] n rest) (in_its_state m there.TagName at) step);
+      goes = subst (λ front. Goes m (front ++ (c ∷ []) ++ rest) [] n rest) (sym held.0) (subst (λ k. Goes k (c ∷ rest) [] n rest) (in_its_state m there.TagName at) step);
       stands = subst (λ t. Stands t [] n) (sym only) (record { reference = stands.reference; state = ap state_of (sym is); last_start = stands.last_start; held = subst (λ s. Held s made [] n) (sym is) (refl, new_draft) });
     })
 

@@ -70,9 +70,9 @@ abbrev pub fresh : Machine → StandardKind → Machine
 fresh m kind = record m { tag = record { kind = kind; name = []; attrs = []; self_closing = false } }
 
 new_tag : (s : StandardState) (kind : StandardKind) (c : ℕ) → is_ascii_alphabetic c ≡ true → Entry s c (NewTag kind ∷ []) (Reconsume there.TagName) → (b : Bool) (m : Machine) (rest : List ℕ) →
-    Goes b (at_state m s) (c ∷ rest) [] (naming (fresh m kind) (to_ascii_lowercase (shown_of c) ∷ [])) rest
+    Goes (at_state m s) (c ∷ rest) [] (naming (fresh m kind) (to_ascii_lowercase (shown_of c) ∷ [])) rest
 new_tag s kind c letter entry b m rest =
-    then_on (by_entry (at_state m s) (c ∷ rest) (taking (NewTag kind ∷ []) (Reconsume there.TagName) (c ∷ [])) (entry b m rest) refl) (name_letter b (fresh m kind) [] rest c (letter_of_name c letter))
+    then_on (by_entry (at_state m s) (c ∷ rest) (taking (NewTag kind ∷ []) (Reconsume there.TagName) (c ∷ [])) (λ x. entry x m rest) refl) (name_letter b (fresh m kind) [] rest c (letter_of_name c letter))
 
 pub no_attrs : (kept : List TagAttr) (name value : List ℕ) → kept ≡ [] → name ≡ [] → value ≡ [] → HoldsAttrs kept name value []
 no_attrs [] [] value kept_is name_is value_is = (value_is, tt)
@@ -146,7 +146,7 @@ bogus_follows old mid begun new from c told is mid_is remembers begun_is empty e
     let n : Machine = commenting m there.BogusComment [] in
     record {
       machine = n;
-      goes = by_entry (at_state m (state_of from)) (c ∷ rest) (taking (NewComment ∷ []) (Reconsume there.BogusComment) (c ∷ [])) (entry old.in_foreign m rest) refl;
+      goes = by_entry (at_state m (state_of from)) (c ∷ rest) (taking (NewComment ∷ []) (Reconsume there.BogusComment) (c ∷ [])) (λ x. entry x m rest) refl;
       stands = subst (λ t. Stands t [] n) (sym all) (record { reference = stands.reference; state = refl; last_start = stands.last_start; held = (refl, empty) });
     }) follows
 
@@ -220,6 +220,6 @@ other_opens old erred put new c (Ok told) is no_letter no_bang no_slash no_quest
     let h47 : (47 == c) ≡ false = ne_eqb 47 c (λ e. no_slash (sym e)) in
     let h63 : (63 == c) ≡ false = ne_eqb 63 c (λ e. no_question (sym e)) in
     goes_on_before old (record put { state = state.Data }) new (state.Tag tag.Open) state.Data c (codes "<") (codes "<") told is (λ free. goes_before old erred put (codes "<") erred_is remembers (goes free)) refl
-    (λ b m rest. by_entry (at_state m there.TagOpen) (c ∷ rest) (taking (Emit (These (codes "<")) ∷ []) (Reconsume there.Data) (c ∷ [])) (rw (h33, h47, no_upper c no_letter, no_lower c no_letter, h63) refl) refl)
+    (λ b m rest. by_entry (at_state m there.TagOpen) (c ∷ rest) (taking (Emit (These (codes "<")) ∷ []) (Reconsume there.Data) (c ∷ [])) (λ x. rw (h33, h47, no_upper c no_letter, no_lower c no_letter, h63) refl) refl)
     (λ t ahead m held. held) (λ t m. refl) (follows none)
 other_opens old erred put new c (Err e) is no_letter no_bang no_slash no_question erred_is remembers goes follows = tt

@@ -35,19 +35,19 @@ abbrev pub naming : Machine → List ℕ → Machine
 naming m name = record m { state = there.TagName; tag = record m.tag { name = name } }
 
 -- a letter of the tag's name
-pub name_letter : (b : Bool) (m : Machine) (name rest : List ℕ) (c : ℕ) → IsNameLetter c → Goes b (naming m name) (c ∷ rest) [] (naming m (name ++ to_ascii_lowercase (shown_of c) ∷ [])) rest
+pub name_letter : (b : Bool) (m : Machine) (name rest : List ℕ) (c : ℕ) → IsNameLetter c → Goes (naming m name) (c ∷ rest) [] (naming m (name ++ to_ascii_lowercase (shown_of c) ∷ [])) rest
 unfolding taken entries
 name_letter b m name rest c is =
-    by_bool (λ e x. Goes b (naming m name) (e ∷ rest) [] (naming m (name ++ to_ascii_lowercase (cond x 0xfffd e) ∷ [])) rest) c 0
-    (by_entry (naming m name) (0 ∷ rest) (taking (Add TheTagName replacement ∷ []) Stay (0 ∷ [])) refl refl)
+    by_bool (λ e x. Goes (naming m name) (e ∷ rest) [] (naming m (name ++ to_ascii_lowercase (cond x 0xfffd e) ∷ [])) rest) c 0
+    (by_entry (naming m name) (0 ∷ rest) (taking (Add TheTagName replacement ∷ []) Stay (0 ∷ [])) (λ x. refl) refl)
     (λ h0. go h0 (is_upper c) refl)
   where
-    go : (0 == c) ≡ false → (x : Bool) → is_upper c ≡ x → Goes b (naming m name) (c ∷ rest) [] (naming m (name ++ to_ascii_lowercase c ∷ [])) rest
+    go : (0 == c) ≡ false → (x : Bool) → is_upper c ≡ x → Goes (naming m name) (c ∷ rest) [] (naming m (name ++ to_ascii_lowercase c ∷ [])) rest
     go h0 true e =
-        by_entry (naming m name) (c ∷ rest) (taking (Add TheTagName Lower ∷ []) Stay (c ∷ [])) (rw (is.tab, is.line_feed, is.form_feed, is.space, is.slash, is.greater, e) refl) refl
+        by_entry (naming m name) (c ∷ rest) (taking (Add TheTagName Lower ∷ []) Stay (c ∷ [])) (λ x. rw (is.tab, is.line_feed, is.form_feed, is.space, is.slash, is.greater, e) refl) refl
     go h0 false e =
-        subst (λ d. Goes b (naming m name) (c ∷ rest) [] (naming m (name ++ d ∷ [])) rest) (sym (stays_lower c e))
-        (by_entry (naming m name) (c ∷ rest) (taking (Add TheTagName Current ∷ []) Stay (c ∷ [])) (rw (is.tab, is.line_feed, is.form_feed, is.space, is.slash, is.greater, e, h0) refl) refl)
+        subst (λ d. Goes (naming m name) (c ∷ rest) [] (naming m (name ++ d ∷ [])) rest) (sym (stays_lower c e))
+        (by_entry (naming m name) (c ∷ rest) (taking (Add TheTagName Current ∷ []) Stay (c ∷ [])) (λ x. rw (is.tab, is.line_feed, is.form_feed, is.space, is.slash, is.greater, e, h0) refl) refl)
 
 abbrev pub with_attrs : Machine → StandardState → List Attr → Machine
 with_attrs m state attrs = record m { state = state; tag = record m.tag { attrs = attrs } }
@@ -57,19 +57,19 @@ an_attr name value = record { name = name; value = value }
 
 -- a letter of an attribute's name
 pub attr_letter : (b : Bool) (m : Machine) (name value rest : List ℕ) (older : List Attr) (c : ℕ) → IsNameLetter c → (61 == c) ≡ false →
-    Goes b (with_attrs m there.AttributeName (an_attr name value ∷ older)) (c ∷ rest) [] (with_attrs m there.AttributeName (an_attr (name ++ to_ascii_lowercase (shown_of c) ∷ []) value ∷ older)) rest
+    Goes (with_attrs m there.AttributeName (an_attr name value ∷ older)) (c ∷ rest) [] (with_attrs m there.AttributeName (an_attr (name ++ to_ascii_lowercase (shown_of c) ∷ []) value ∷ older)) rest
 unfolding taken entries
 attr_letter b m name value rest older c is h61 =
-    by_bool (λ e x. Goes b M (e ∷ rest) [] (with_attrs m there.AttributeName (an_attr (name ++ to_ascii_lowercase (cond x 0xfffd e) ∷ []) value ∷ older)) rest) c 0
-    (by_entry M (0 ∷ rest) (taking (Add AttrName replacement ∷ []) Stay (0 ∷ [])) refl refl)
+    by_bool (λ e x. Goes M (e ∷ rest) [] (with_attrs m there.AttributeName (an_attr (name ++ to_ascii_lowercase (cond x 0xfffd e) ∷ []) value ∷ older)) rest) c 0
+    (by_entry M (0 ∷ rest) (taking (Add AttrName replacement ∷ []) Stay (0 ∷ [])) (λ x. refl) refl)
     (λ h0. go h0 (is_upper c) refl)
   where
     M : Machine
     M = with_attrs m there.AttributeName (an_attr name value ∷ older)
 
-    go : (0 == c) ≡ false → (x : Bool) → is_upper c ≡ x → Goes b M (c ∷ rest) [] (with_attrs m there.AttributeName (an_attr (name ++ to_ascii_lowercase c ∷ []) value ∷ older)) rest
+    go : (0 == c) ≡ false → (x : Bool) → is_upper c ≡ x → Goes M (c ∷ rest) [] (with_attrs m there.AttributeName (an_attr (name ++ to_ascii_lowercase c ∷ []) value ∷ older)) rest
     go h0 true e =
-        by_entry M (c ∷ rest) (taking (Add AttrName Lower ∷ []) Stay (c ∷ [])) (rw (is.tab, is.line_feed, is.form_feed, is.space, is.slash, is.greater, h61, e) refl) refl
+        by_entry M (c ∷ rest) (taking (Add AttrName Lower ∷ []) Stay (c ∷ [])) (λ x. rw (is.tab, is.line_feed, is.form_feed, is.space, is.slash, is.greater, h61, e) refl) refl
     go h0 false e =
-        subst (λ d. Goes b M (c ∷ rest) [] (with_attrs m there.AttributeName (an_attr (name ++ d ∷ []) value ∷ older)) rest) (sym (stays_lower c e))
-        (by_entry M (c ∷ rest) (taking (Add AttrName Current ∷ []) Stay (c ∷ [])) (rw (is.tab, is.line_feed, is.form_feed, is.space, is.slash, is.greater, h61, e, h0) refl) refl)
+        subst (λ d. Goes M (c ∷ rest) [] (with_attrs m there.AttributeName (an_attr (name ++ d ∷ []) value ∷ older)) rest) (sym (stays_lower c e))
+        (by_entry M (c ∷ rest) (taking (Add AttrName Current ∷ []) Stay (c ∷ [])) (λ x. rw (is.tab, is.line_feed, is.form_feed, is.space, is.slash, is.greater, h61, e, h0) refl) refl)

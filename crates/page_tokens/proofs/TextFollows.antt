@@ -29,7 +29,7 @@ use Rattle.page_tokens.proofs.Switches.{ReadsNothingAhead}
 -- the machine goes on, emits these characters, and stands with the tokenizer
 pub record Emits (old new : Tokenizer) (m : Machine) (text : List ℕ) (shown rest : List ℕ) : Type 0 where
   pub machine : Machine
-  pub goes : Goes old.in_foreign m text (map AChar shown) machine rest
+  pub goes : Goes m text (map AChar shown) machine rest
   pub stands : Stands new [] machine
 
 -- the characters are read, and these are emitted
@@ -45,7 +45,7 @@ emits_text old new read shown memory leaves text emits = record {
         ahead' = [];
         characters = shown;
         tokens = [];
-        goes = subst (λ ts. Goes old.in_foreign m (ahead ++ read ++ rest) ts to.machine rest) (sym (append-nil (map AChar shown))) to.goes;
+        goes = subst (λ ts. Goes m (ahead ++ read ++ rest) ts to.machine rest) (sym (append-nil (map AChar shown))) to.goes;
         holds = inl to.stands;
         text = text;
         ends = refl;
@@ -68,8 +68,8 @@ emits_before old mid new read shown_by told remembers leaves text emits follows 
       let to : Emits old mid m (ahead ++ read ++ rest) shown (read ++ rest) = emits m ahead rest stands in
       let more : Behind mid new read told to.machine [] rest = follows.reads to.machine [] rest to.stands in
       let b : Bool = old.in_foreign in
-      let later : Goes b to.machine (read ++ rest) (map AChar more.characters ++ more.tokens) more.machine (more.ahead' ++ rest) =
-      subst (λ b. Goes b to.machine (read ++ rest) (map AChar more.characters ++ more.tokens) more.machine (more.ahead' ++ rest)) leaves.in_foreign more.goes in
+      let later : Goes to.machine (read ++ rest) (map AChar more.characters ++ more.tokens) more.machine (more.ahead' ++ rest) =
+      subst (λ b. Goes to.machine (read ++ rest) (map AChar more.characters ++ more.tokens) more.machine (more.ahead' ++ rest)) leaves.in_foreign more.goes in
       let all : map AChar shown ++ (map AChar more.characters ++ more.tokens) ≡ map AChar (shown ++ more.characters) ++ more.tokens =
       sym (append_assoc (map AChar shown) (map AChar more.characters) more.tokens) ∙ ap (λ ts. ts ++ more.tokens) (sym (map_append AChar shown more.characters)) in
       record {
@@ -77,7 +77,7 @@ emits_before old mid new read shown_by told remembers leaves text emits follows 
         ahead' = more.ahead';
         characters = shown ++ more.characters;
         tokens = more.tokens;
-        goes = subst (λ ts. Goes b m (ahead ++ read ++ rest) ts more.machine (more.ahead' ++ rest)) all (then_on to.goes later);
+        goes = subst (λ ts. Goes m (ahead ++ read ++ rest) ts more.machine (more.ahead' ++ rest)) all (then_on to.goes later);
         holds = more.holds;
         text = more.text ∙ ap (λ e. e ++ encode_utf8_all more.characters) (text m ahead stands) ∙ append_assoc (text_of old) (encode_utf8_all shown) (encode_utf8_all more.characters)
             ∙ ap (λ e. text_of old ++ e) (sym (encodes-append shown more.characters));
@@ -97,11 +97,11 @@ OnlyErrors old mid = mid ≡ record old { errors = mid.errors; refused = mid.ref
 
 -- from one state to another, over a character
 abbrev pub Over : State → State → ℕ → List ℕ → Type 0
-Over from to c shown = (b : Bool) (m : Machine) (rest : List ℕ) → Goes b (at_state m (state_of from)) (c ∷ rest) (map AChar shown) (at_state m (state_of to)) rest
+Over from to c shown = (b : Bool) (m : Machine) (rest : List ℕ) → Goes (at_state m (state_of from)) (c ∷ rest) (map AChar shown) (at_state m (state_of to)) rest
 
 -- the same, and the character is read again
 abbrev pub BackTo : State → State → ℕ → List ℕ → Type 0
-BackTo from to c shown = (b : Bool) (m : Machine) (rest : List ℕ) → Goes b (at_state m (state_of from)) (c ∷ rest) (map AChar shown) (at_state m (state_of to)) (c ∷ rest)
+BackTo from to c shown = (b : Bool) (m : Machine) (rest : List ℕ) → Goes (at_state m (state_of from)) (c ∷ rest) (map AChar shown) (at_state m (state_of to)) (c ∷ rest)
 
 -- the text goes on over a character
 pub goes_on_over : (old mid new : Tokenizer) (from to : State) (c : ℕ) (shown bytes : List ℕ) (told : Option TokenKind) → old.state ≡ from → OnlyErrors old mid → Remembers old mid → TextGoesOn mid new to bytes →
@@ -118,7 +118,7 @@ goes_on_over old mid new from to c shown bytes told is only remembers goes bytes
     let at : m.state ≡ state_of from = stands.state ∙ ap state_of is in
     record {
       machine = n;
-      goes = subst (λ front. Goes b m (front ++ (c ∷ []) ++ rest) (map AChar shown) n rest) (sym (nothing old ahead m held)) (subst (λ k. Goes b k (c ∷ rest) (map AChar shown) n rest) (in_its_state m (state_of from) at) (over b m rest));
+      goes = subst (λ front. Goes m (front ++ (c ∷ []) ++ rest) (map AChar shown) n rest) (sym (nothing old ahead m held)) (subst (λ k. Goes k (c ∷ rest) (map AChar shown) n rest) (in_its_state m (state_of from) at) (over b m rest));
       stands = record { reference = stands.reference; state = refl; last_start = stands.last_start; held = holds made n };
     })))
 
@@ -136,8 +136,8 @@ goes_on_before old mid new from to c shown bytes told is goes_if bytes_are back 
     let made : Tokenizer = record old { state = to; text = mid.text; errors = mid.errors; refused = mid.refused } in
     record {
       machine = n;
-      goes = subst (λ front. Goes b m (front ++ (c ∷ []) ++ rest) (map AChar shown) n (c ∷ rest)) (sym (nothing old ahead m held))
-          (subst (λ k. Goes b k (c ∷ rest) (map AChar shown) n (c ∷ rest)) (in_its_state m (state_of from) at) (back b m rest));
+      goes = subst (λ front. Goes m (front ++ (c ∷ []) ++ rest) (map AChar shown) n (c ∷ rest)) (sym (nothing old ahead m held))
+          (subst (λ k. Goes k (c ∷ rest) (map AChar shown) n (c ∷ rest)) (in_its_state m (state_of from) at) (back b m rest));
       stands = subst (λ t. Stands t [] n) (sym goes.only) (record { reference = stands.reference; state = refl; last_start = stands.last_start; held = holds made n });
     }) follows
 
@@ -156,14 +156,14 @@ begins_reference old new from told is allows begins told_is none entry nothing a
       let at : m.state ≡ state_of from = stands.state ∙ ap state_of is in
       let same_state : new.state ≡ from = ap (λ t. t.state) begins.only ∙ is in
       let new_reference : new.reference ≡ reference.Begun = ap (λ t. t.reference) begins.only in
-      let step : Goes b (at_state m (state_of from)) (38 ∷ rest) [] n rest =
-      by_entry (at_state m (state_of from)) (38 ∷ rest) (taking (ReturnTo (state_of from) ∷ []) (Switch there.CharacterReference) (38 ∷ [])) (entry b m rest) refl in
+      let step : Goes (at_state m (state_of from)) (38 ∷ rest) [] n rest =
+      by_entry (at_state m (state_of from)) (38 ∷ rest) (taking (ReturnTo (state_of from) ∷ []) (Switch there.CharacterReference) (38 ∷ [])) (λ x. entry x m rest) refl in
       record {
         machine = n;
         ahead' = [];
         characters = [];
         tokens = [];
-        goes = subst (λ front. Goes b m (front ++ (38 ∷ []) ++ rest) [] n rest) (sym (nothing old ahead m held)) (subst (λ k. Goes b k (38 ∷ rest) [] n rest) (in_its_state m (state_of from) at) step);
+        goes = subst (λ front. Goes m (front ++ (38 ∷ []) ++ rest) [] n rest) (sym (nothing old ahead m held)) (subst (λ k. Goes k (38 ∷ rest) [] n rest) (in_its_state m (state_of from) at) step);
         holds = inr (record {
           state = ap (λ r. state_in r new.state) (sym new_reference);
           back = ap state_of (sym same_state);

@@ -1,5 +1,5 @@
 -- Whole pages: where the tokenizer stands, the standard's machine stands that has read the same page.
-use Rattle.std.specs.Prelude.{◌≡◌, ℕ, Bool, true, false, List, [], ◌∷◌, ◌++◌, map, reverse, Option, None, Some, String, string_bytes, refl}
+use Rattle.std.specs.Prelude.{◌≡◌, ℕ, Bool, List, [], ◌∷◌, ◌++◌, map, reverse, Option, None, Some, String, string_bytes, refl}
 use Rattle.std.proofs.Common.{inl, inr}
 use Rattle.std.specs.Option.{IsSomeAnd}
 use Rattle.std.specs.Str.{encode_utf8_all}
@@ -15,8 +15,9 @@ use Rattle.standard_tokens.specs.States.{State as StandardState}
 use Rattle.standard_tokens.specs.Tokens.{Attr, Doctype as StandardDoctype, Token as StandardToken, AChar, AComment, ADoctype, AStart, AnEnd, AnEof}
 use Rattle.page_tokens.specs.PageLaws.{CallsReadTexts, CallsReadTokens, CharactersAreTold, IsAnswered, PagesBegin, PagesEnd, TextsAreRead, TokensAreRead}
 use Rattle.page_tokens.specs.Reading.{text_of}
-use Rattle.page_tokens.specs.Standard.{AreAttrs, Goes, stays, steps, Held, Holds, IsAttr, IsDoctype, IsLast, IsTag, MaySpell, ReferenceHeld, Stands, Stops, Told}
-use Rattle.page_tokens.specs.StandardPages.{BehindText, EmitsLast, Finishes, HasRead, IsAt, IsForeignNow, IsOfPage, IsTextState, KeepsFlag, lacks_cdata, ReadsText, told_or}
+use Rattle.page_tokens.specs.Standard.{AreAttrs, Held, Holds, IsAttr, IsDoctype, IsLast, IsTag, MaySpell, ReferenceHeld, Stands, Stops, Told}
+use Rattle.page_tokens.specs.StandardPages as come
+use Rattle.page_tokens.specs.StandardPages.{BehindText, Comes, EmitsLast, Finishes, HasRead, IsAnswering, IsAt, IsTextState, ReadsText, told_or}
 use Rattle.page_tokens.specs.StandardStates.{attr_state_of, cdata_state_of, comment_state_of, doctype_state_of, end_tag_state_of, script_state_of, state_in, state_of, tag_state_of}
 use Rattle.page_tokens.specs.declared.attribute.TagAttr.{TagAttr}
 use Rattle.page_tokens.specs.declared.token.Doctype.{Doctype}
@@ -47,8 +48,9 @@ use Rattle.page_tokens.specs.declared.tokenizer.state.State.{State}
 use Rattle.page_tokens.specs.declared.tokenizer.state.State.TheVariants as state
 use Rattle.page_tokens.specs.declared.tokenizer.state.TagState.{TagState}
 use Rattle.page_tokens.specs.declared.tokenizer.state.TagState.TheVariants as tag
-use Rattle.page_tokens.proofs.ForeignFlag.{lacks_rest, same_step}
-use Rattle.page_tokens.proofs.LastSteps.{IsOne, Splits, head_of, is_data, nil_cons, step_split, tail_of}
+use Rattle.page_tokens.proofs.FlagAsked.{from_goes}
+use Rattle.page_tokens.proofs.ForeignFlag.{same_step}
+use Rattle.page_tokens.proofs.LastSteps.{IsOne, head_of, is_data}
 use Rattle.page_tokens.proofs.PageTexts.{told_one}
 use Rattle.page_tokens.proofs.Placed.{beside, holds_on, stands_beside}
 use Rattle.page_tokens.proofs.TextFollows.{map_append}
@@ -247,73 +249,28 @@ none_answered : (f : Feedback) → IsFeedback f → (seen : List StandardToken) 
 none_answered f honest seen [] m = refl
 none_answered f honest seen (c ∷ cs) m = ap (λ o. switched o m) (chars_stay f honest seen c cs)
 
--- characters in two parts
-record Parts (ts us : List StandardToken) (cs : List ℕ) : Type 0 where
-  pub first : List ℕ
-  pub second : List ℕ
-  pub front : ts ≡ map AChar first
-  pub back : us ≡ map AChar second
-  pub all : cs ≡ first ++ second
+-- what tree construction's flag is, behind the characters that are kept
+abbrev flag_behind : Feedback → List StandardToken → List ℕ → Bool
+flag_behind f told kept = f.in_foreign (told ++ map AChar kept)
 
-parts_of : (ts us : List StandardToken) (cs : List ℕ) → ts ++ us ≡ map AChar cs → Parts ts us cs
-parts_of [] us cs e = record { first = []; second = cs; front = refl; back = e; all = refl }
-parts_of (t ∷ ts) us [] e = absurd (nil_cons t (ts ++ us) (sym e))
-parts_of (t ∷ ts) us (c ∷ cs) e =
-    let head : t ≡ AChar c = head_of t (AChar c) (ts ++ us) (map AChar cs) e in
-    let tail : ts ++ us ≡ map AChar cs = tail_of t (AChar c) (ts ++ us) (map AChar cs) e in
-    let more : Parts ts us cs = parts_of ts us cs tail in
-    record { first = c ∷ more.first; second = more.second; front = ap (λ x. x ∷ ts) head ∙ ap (λ xs. AChar c ∷ xs) more.front; back = more.back; all = ap (λ xs. c ∷ xs) more.all }
+told_on : (told : List StandardToken) (kept cs : List ℕ) → (told ++ map AChar kept) ++ map AChar cs ≡ told ++ map AChar (kept ++ cs)
+told_on told kept cs = append_assoc told (map AChar kept) (map AChar cs) ∙ ap (λ ts. told ++ ts) (sym (map_append AChar kept cs))
 
--- what was read is of the page, and so is what is left
-reads_split : {f : Feedback} {r q : Reader} → Reads f r q → Splits r.text q.text
-reads_split here = record { front = []; is = refl }
-reads_split {f} {r} {q} (next s is runs reads) =
-    let one : Splits r.text s.rest = subst (λ (s : Step). Splits r.text s.rest) is (step_split (f.in_foreign r.seen) r.machine r.text) in
-    let more : Splits s.rest q.text = reads_split reads in
-    record { front = one.front ++ more.front; is = one.is ∙ ap (λ r. one.front ++ r) more.is ∙ sym (append_assoc one.front more.front q.text) }
-
--- the flag is told and stays behind characters, or it doesn't matter
-abbrev Stays : Bool → Feedback → Bool → Reader → Type 0
-Stays true f b r = (f.in_foreign r.seen ≡ b) × KeepsFlag f r
-Stays false f b r = lacks_cdata r.text ≡ true
-
-stays_on : (cdata : Bool) (f : Feedback) (b : Bool) (r q : Reader) (cs : List ℕ) → Reads f r q → q.seen ≡ r.seen ++ map AChar cs → Stays cdata f b r → Stays cdata f b q
-stays_on true f b r q cs reads e stay = (stay.1 q r.seen cs reads e ∙ stay.0, λ p seen ds more is. stay.1 p seen ds (go_on reads more) is)
-stays_on false f b r q cs reads e stay =
-    let split : Splits r.text q.text = reads_split reads in
-    lacks_rest split.front q.text (subst (λ t. lacks_cdata t ≡ true) split.is stay)
-
-step_now : (cdata : Bool) (f : Feedback) (b : Bool) (r : Reader) → Stays cdata f b r → step (f.in_foreign r.seen) r.machine r.text ≡ step b r.machine r.text
-step_now true f b r stay = ap (λ x. step x r.machine r.text) stay.0
-step_now false f b r stay = same_step (f.in_foreign r.seen) b r.machine r.text stay
-
-nothing_seen : (cs : List ℕ) → [] ≡ map AChar cs → cs ≡ []
-nothing_seen [] e = refl
-nothing_seen (c ∷ cs) e = absurd (nil_cons (AChar c) (map AChar cs) e)
-
-here_on : {f : Feedback} {m : Machine} {text : List ℕ} (seen all : List StandardToken) → seen ≡ all → Reads f (reader m text seen) (reader m text all)
-here_on {f} {m} {text} seen all e = subst (λ ts. Reads f (reader m text seen) (reader m text ts)) e here
-
-quiet : (cdata : Bool) (f : Feedback) → IsFeedback f → {b : Bool} {m n : Machine} {text rest : List ℕ} {ts : List StandardToken} → Goes b m text ts n rest → (seen : List StandardToken) (cs : List ℕ) → ts ≡ map AChar cs → Stays cdata f b (reader m text seen) →
-    Reads f (reader m text seen) (reader n rest (seen ++ map AChar cs))
-quiet cdata f honest stays seen cs e stay = here_on seen (seen ++ map AChar cs) (sym (append-nil seen) ∙ ap (λ ds. seen ++ map AChar ds) (sym (nothing_seen cs e)))
-quiet cdata f honest {b} {m} {n} {text} {rest} {ts} (steps {tokens = later} s is runs goes) seen cs e stay =
-    let parts : Parts s.tokens later cs = parts_of s.tokens later cs e in
-    let now : List StandardToken = seen ++ map AChar parts.first in
-    let same : after f (reader m text seen) s ≡ reader s.machine s.rest now =
-    ap (λ ts. reader (answered f seen ts s.machine) s.rest (seen ++ ts)) parts.front ∙ ap (λ k. reader k s.rest now) (none_answered f honest seen parts.first s.machine) in
-    let one : Reads f (reader m text seen) (reader s.machine s.rest now) =
-    subst (λ r. Reads f (reader m text seen) r) same (next s (step_now cdata f b (reader m text seen) stay ∙ is) runs here) in
-    let more : Reads f (reader s.machine s.rest now) (reader n rest (now ++ map AChar parts.second)) =
-    quiet cdata f honest goes now parts.second parts.back (stays_on cdata f b (reader m text seen) (reader s.machine s.rest now) parts.first one refl stay) in
-    let all : now ++ map AChar parts.second ≡ seen ++ map AChar cs =
-    append_assoc seen (map AChar parts.first) (map AChar parts.second) ∙ ap (λ ts. seen ++ ts) (sym (map_append AChar parts.first parts.second)) ∙ ap (λ ds. seen ++ map AChar ds) (sym parts.all) in
-    go_on one (subst (λ ts. Reads f (reader s.machine s.rest now) (reader n rest ts)) all more)
+-- where the machine comes by steps that emit characters, reading comes with the answers of tree construction
+reads_on : (f : Feedback) → IsFeedback f → (told : List StandardToken) {kept all : List ℕ} {m n : Machine} {text rest : List ℕ} → Comes (flag_behind f told) kept m text all n rest →
+    Reads f (reader m text (told ++ map AChar kept)) (reader n rest (told ++ map AChar all))
+reads_on f honest told come.here = here
+reads_on f honest told {kept} {all} {m} {n} {text} {rest} (come.next s shown is runs tokens comes) =
+    let seen : List StandardToken = told ++ map AChar kept in
+    let same : after f (reader m text seen) s ≡ reader s.machine s.rest (told ++ map AChar (kept ++ shown)) =
+    ap (λ ts. reader (answered f seen ts s.machine) s.rest (seen ++ ts)) tokens ∙ ap (λ k. reader k s.rest (seen ++ map AChar shown)) (none_answered f honest seen shown s.machine)
+    ∙ ap (λ ts. reader s.machine s.rest ts) (told_on told kept shown) in
+    next s is runs (subst (λ r. Reads f r (reader n rest (told ++ map AChar all))) (sym same) (reads_on f honest told comes))
 
 -- ---- the beginning
 
 pub begins : PagesBegin
-begins cdata f first t fresh empty holds = λ rest page. record {
+begins f first t fresh empty holds = λ rest. record {
   machine = start_in first;
   ahead = [];
   kept = [];
@@ -324,56 +281,38 @@ begins cdata f first t fresh empty holds = λ rest page. record {
 
 -- ---- a text
 
-stays_at : (cdata : Bool) (f : Feedback) (b : Bool) (first : StandardState) (page text : List ℕ) (m : Machine) (told : List StandardToken) (kept : List ℕ) → IsForeignNow cdata f told b → IsOfPage cdata f first page →
-    Reads f (reader (start_in first) page []) (reader m text (told ++ map AChar kept)) → Stays cdata f b (reader m text (told ++ map AChar kept))
-stays_at true f b first page text m told kept stay of reads =
-    (of (reader m text (told ++ map AChar kept)) told kept reads refl ∙ stay, λ q seen cs more e. of q seen cs (go_on reads more) e)
-stays_at false f b first page text m told kept stay of reads =
-    let split : Splits page text = reads_split reads in
-    lacks_rest split.front text (subst (λ t. lacks_cdata t ≡ true) split.is of)
-
-of_more : (cdata : Bool) (f : Feedback) (first : StandardState) (read more rest : List ℕ) → IsOfPage cdata f first (normalized ((read ++ more) ++ rest)) → IsOfPage cdata f first (normalized (read ++ (more ++ rest)))
-of_more cdata f first read more rest of = subst (λ text. IsOfPage cdata f first (normalized text)) (append_assoc read more rest) of
-
-of_read : (cdata : Bool) (f : Feedback) (first : StandardState) (read : List ℕ) → IsOfPage cdata f first (normalized read) → IsOfPage cdata f first (normalized (read ++ []))
-of_read cdata f first read of = subst (λ text. IsOfPage cdata f first (normalized text)) (sym (append-nil read)) of
-
 -- the place before, with more text in front of the rest
 at_more : (f : Feedback) (first : StandardState) (read more : List ℕ) (told : List StandardToken) (old : Tokenizer) (rest : List ℕ) (at : IsAt f first read told old (more ++ rest)) →
     Reads f (reader (start_in first) (normalized ((read ++ more) ++ rest)) []) (reader at.machine (at.ahead ++ normalized_behind old.after_return (more ++ rest)) (told ++ map AChar at.kept))
 at_more f first read more told old rest at =
     subst (λ text. Reads f (reader (start_in first) (normalized text) []) (reader at.machine (at.ahead ++ normalized_behind old.after_return (more ++ rest)) (told ++ map AChar at.kept))) (sym (append_assoc read more rest)) at.reads
 
-kept_text : (a b : List ℕ) (kept cs : List ℕ) → a ≡ encode_utf8_all kept → b ≡ a ++ encode_utf8_all cs → b ≡ encode_utf8_all (kept ++ cs)
-kept_text a b kept cs one other = other ∙ ap (λ e. e ++ encode_utf8_all cs) one ∙ sym (encodes-append kept cs)
-
-told_on : (told : List StandardToken) (kept cs : List ℕ) → (told ++ map AChar kept) ++ map AChar cs ≡ told ++ map AChar (kept ++ cs)
-told_on told kept cs = append_assoc told (map AChar kept) (map AChar cs) ∙ ap (λ ts. told ++ ts) (sym (map_append AChar kept cs))
+-- the flag where no characters are kept
+flag_now : (f : Feedback) (told : List StandardToken) (t : Tokenizer) → IsAnswering f told t → flag_behind f told [] ≡ t.in_foreign
+flag_now f told t answers = ap f.in_foreign (append-nil told) ∙ answers.flag
 
 pub texts : TextsAreRead
-texts cdata f first read more told old new honest stay has reads = λ rest of.
-    let at : IsAt f first read told old (more ++ rest) = has (more ++ rest) (of_more cdata f first read more rest of) in
-    let to : BehindText old new more None at.machine at.ahead rest = reads.reads at.machine at.ahead rest at.holds in
-    let seen : List StandardToken = told ++ map AChar at.kept in
+texts f first read more told old new honest answers has reads = λ rest.
+    let at : IsAt f first read told old (more ++ rest) = has (more ++ rest) in
+    let to : BehindText (flag_behind f told) at.kept old new more None at.machine at.ahead rest =
+    reads.reads answers.wants (flag_behind f told) (flag_now f told old answers) at.kept at.text at.machine at.ahead rest at.holds in
+    let text : List ℕ = at.ahead ++ normalized_behind old.after_return (more ++ rest) in
     let left : List ℕ = to.ahead' ++ normalized_behind new.after_return rest in
-    let goes : Reads f (reader at.machine (at.ahead ++ normalized_behind old.after_return (more ++ rest)) seen) (reader to.machine left (seen ++ map AChar to.characters)) =
-    quiet cdata f honest to.goes seen to.characters (ap (λ ts. map AChar to.characters ++ ts) to.ends ∙ append-nil (map AChar to.characters))
-    (stays_at cdata f old.in_foreign first (normalized (read ++ (more ++ rest))) (at.ahead ++ normalized_behind old.after_return (more ++ rest)) at.machine told at.kept stay (of_more cdata f first read more rest of) at.reads) in
+    let comes : Comes (flag_behind f told) at.kept at.machine text to.all to.machine left = subst (λ ts. Finishes (flag_behind f told) at.kept at.machine text to.all ts to.machine left) to.ends to.goes in
     record {
       machine = to.machine;
       ahead = to.ahead';
-      kept = at.kept ++ to.characters;
-      reads = go_on (at_more f first read more told old rest at)
-          (subst (λ ts. Reads f (reader at.machine (at.ahead ++ normalized_behind old.after_return (more ++ rest)) seen) (reader to.machine left ts)) (told_on told at.kept to.characters) goes);
+      kept = to.all;
+      reads = go_on (at_more f first read more told old rest at) (reads_on f honest told comes);
       holds = to.holds;
-      text = kept_text (text_of old) (text_of new) at.kept to.characters at.text to.text;
+      text = to.text;
     }
 
 -- ---- characters that are told
 
 pub characters : CharactersAreTold
-characters cdata f first read told old new has taken cs spelled = λ rest of.
-    let at : IsAt f first read told old rest = has rest of in
+characters f first read told old new has taken cs spelled = λ rest.
+    let at : IsAt f first read told old rest = has rest in
     let same : at.kept ≡ cs = encodes_same at.kept cs (sym at.text ∙ spelled) in
     let fresh : new.after_return ≡ old.after_return = ap (λ t. t.after_return) taken.only in
     let seen : told ++ map AChar at.kept ≡ (told ++ map AChar cs) ++ [] = ap (λ ds. told ++ map AChar ds) same ∙ sym (append-nil (told ++ map AChar cs)) in
@@ -401,45 +340,40 @@ record TokenAt (f : Feedback) (first : StandardState) (read : List ℕ) (told : 
       (reader (switched (f.switch (told ++ map AChar kept ++ token ∷ [])) machine) (normalized_behind t.after_return rest) (told ++ map AChar kept ++ token ∷ []))
 
 -- the last step, and the answer to its token
-last_answered : (cdata : Bool) (f : Feedback) → IsFeedback f → {b : Bool} {m n : Machine} {text rest : List ℕ} (cs : List ℕ) (one : StandardToken) → EmitsLast b m text cs one n rest → (seen : List StandardToken) → Stays cdata f b (reader m text seen) →
-    Reads f (reader m text seen) (reader (switched (f.switch (seen ++ map AChar cs ++ one ∷ [])) n) rest (seen ++ map AChar cs ++ one ∷ []))
-last_answered cdata f honest {b} {m} {n} {text} {rest} cs one last seen stay =
-    let now : List StandardToken = seen ++ map AChar cs in
-    let s : Step = step b last.before last.left in
-    let first : Reads f (reader m text seen) (reader last.before last.left now) = quiet cdata f honest last.goes seen cs refl stay in
+last_answered : (f : Feedback) → IsFeedback f → (told : List StandardToken) {kept all : List ℕ} {m n : Machine} {text rest : List ℕ} (one : StandardToken) → EmitsLast (flag_behind f told) kept m text all one n rest →
+    Reads f (reader m text (told ++ map AChar kept)) (reader (switched (f.switch (told ++ map AChar all ++ one ∷ [])) n) rest (told ++ map AChar all ++ one ∷ []))
+last_answered f honest told {kept} {all} {m} {n} {text} {rest} one last =
+    let now : List StandardToken = told ++ map AChar all in
+    let s : Step = step (flag_behind f told all) last.before last.left in
     let same : after f (reader last.before last.left now) s ≡ reader (switched (f.switch (now ++ one ∷ [])) n) rest (now ++ one ∷ []) =
     ap (λ ts. reader (answered f now ts s.machine) s.rest (now ++ ts)) last.tokens
     ∙ ap (λ k. reader (switched (f.switch (now ++ one ∷ [])) k) s.rest (now ++ one ∷ [])) last.machine
     ∙ ap (λ r. reader (switched (f.switch (now ++ one ∷ [])) n) r (now ++ one ∷ [])) last.rest_is in
-    go_on first (next s (step_now cdata f b (reader last.before last.left now) (stays_on cdata f b (reader m text seen) (reader last.before last.left now) cs first refl stay)) last.runs
-    (subst (λ r. Reads f (after f (reader last.before last.left now) s) r) same here))
+    go_on (reads_on f honest told last.comes) (next s refl last.runs (subst (λ r. Reads f (after f (reader last.before last.left now) s) r) same here))
 
-token_at : (cdata : Bool) (f : Feedback) (first : StandardState) (read more : List ℕ) (told : List StandardToken) (old new : Tokenizer) (kind : TokenKind) → IsFeedback f → IsForeignNow cdata f told old.in_foreign → HasRead cdata f first read told old →
-    ReadsText old new more (Some kind) → (rest : List ℕ) → IsOfPage cdata f first (normalized ((read ++ more) ++ rest)) → TokenAt f first (read ++ more) told kind new rest
-token_at cdata f first read more told old new kind honest stay has reads rest of =
-    let at : IsAt f first read told old (more ++ rest) = has (more ++ rest) (of_more cdata f first read more rest of) in
-    let to : BehindText old new more (Some kind) at.machine at.ahead rest = reads.reads at.machine at.ahead rest at.holds in
+token_at : (f : Feedback) (first : StandardState) (read more : List ℕ) (told : List StandardToken) (old new : Tokenizer) (kind : TokenKind) → IsFeedback f → IsAnswering f told old → HasRead f first read told old →
+    ReadsText old new more (Some kind) → (rest : List ℕ) → TokenAt f first (read ++ more) told kind new rest
+token_at f first read more told old new kind honest answers has reads rest =
+    let at : IsAt f first read told old (more ++ rest) = has (more ++ rest) in
+    let to : BehindText (flag_behind f told) at.kept old new more (Some kind) at.machine at.ahead rest =
+    reads.reads answers.wants (flag_behind f told) (flag_now f told old answers) at.kept at.text at.machine at.ahead rest at.holds in
     let text : List ℕ = at.ahead ++ normalized_behind old.after_return (more ++ rest) in
     let left : List ℕ = to.ahead' ++ normalized_behind new.after_return rest in
-    let seen : List StandardToken = told ++ map AChar at.kept in
     let one : IsOne to.tokens = told_one kind new to.tokens to.ends in
-    let last : EmitsLast old.in_foreign at.machine text to.characters one.token to.machine left =
-    subst (λ ts. Finishes old.in_foreign at.machine text to.characters ts to.machine left) one.are to.last in
+    let last : EmitsLast (flag_behind f told) at.kept at.machine text to.all one.token to.machine left =
+    subst (λ ts. Finishes (flag_behind f told) at.kept at.machine text to.all ts to.machine left) one.are to.goes in
     let at_data : InData new to.ahead' to.machine = in_data new to.ahead' to.machine last.leads to.holds in
-    let now : List StandardToken = told ++ map AChar (at.kept ++ to.characters) ++ one.token ∷ [] in
-    let goes : Reads f (reader at.machine text seen) (reader (switched (f.switch (seen ++ map AChar to.characters ++ one.token ∷ [])) to.machine) left (seen ++ map AChar to.characters ++ one.token ∷ [])) =
-    last_answered cdata f honest to.characters one.token last seen (stays_at cdata f old.in_foreign first (normalized (read ++ (more ++ rest))) text at.machine told at.kept stay (of_more cdata f first read more rest of) at.reads) in
-    let told_now : seen ++ map AChar to.characters ++ one.token ∷ [] ≡ now = ap (λ ts. ts ++ one.token ∷ []) (told_on told at.kept to.characters) in
+    let now : List StandardToken = told ++ map AChar to.all ++ one.token ∷ [] in
     record {
       machine = to.machine;
-      kept = at.kept ++ to.characters;
+      kept = to.all;
       token = one.token;
       is = subst (λ ts. Told (Some kind) new ts) one.are to.ends;
-      text = kept_text (text_of old) (text_of new) at.kept to.characters at.text to.text;
+      text = to.text;
       stands = at_data.stands;
       reads = go_on (at_more f first read more told old rest at)
-          (subst (λ a. Reads f (reader at.machine text seen) (reader (switched (f.switch now) to.machine) (a ++ normalized_behind new.after_return rest) now)) at_data.none
-          (subst (λ ts. Reads f (reader at.machine text seen) (reader (switched (f.switch ts) to.machine) left ts)) told_now goes));
+          (subst (λ a. Reads f (reader at.machine text (told ++ map AChar at.kept)) (reader (switched (f.switch now) to.machine) (a ++ normalized_behind new.after_return rest) now)) at_data.none
+          (last_answered f honest told one.token last));
     }
 
 -- tree construction answers
@@ -470,21 +404,21 @@ fed_back (Some to) old new m only is stands = record {
 }
 
 pub tokens : TokensAreRead
-tokens cdata f first read more told old new kind honest stay has reads behind page =
-    let at : (rest : List ℕ) → IsOfPage cdata f first (normalized ((read ++ more) ++ rest)) → TokenAt f first (read ++ more) told kind new rest = token_at cdata f first read more told old new kind honest stay has reads in
-    let chosen : TokenAt f first (read ++ more) told kind new behind = at behind page in
+tokens f first read more told old new kind honest answers has reads =
+    let at : (rest : List ℕ) → TokenAt f first (read ++ more) told kind new rest = token_at f first read more told old new kind honest answers has reads in
+    let chosen : TokenAt f first (read ++ more) told kind new [] = at [] in
     let now : List StandardToken = told ++ map AChar chosen.kept ++ chosen.token ∷ [] in
     record {
       token = chosen.token;
       characters = chosen.kept;
       is = chosen.is;
       text = chosen.text;
-      goes_on = λ fed answers rest of.
-          let here_at : TokenAt f first (read ++ more) told kind new rest = at rest of in
+      goes_on = λ fed fed_is rest.
+          let here_at : TokenAt f first (read ++ more) told kind new rest = at rest in
           let kept : here_at.kept ≡ chosen.kept = encodes_same here_at.kept chosen.kept (sym here_at.text ∙ chosen.text) in
           let one : here_at.token ≡ chosen.token = same_told kind new here_at.token chosen.token here_at.is chosen.is in
           let same : told ++ map AChar here_at.kept ++ here_at.token ∷ [] ≡ now = ap (λ cs. told ++ map AChar cs ++ here_at.token ∷ []) kept ∙ ap (λ t. told ++ map AChar chosen.kept ++ t ∷ []) one in
-          let fresh : fed.after_return ≡ new.after_return = ap (λ t. t.after_return) answers.only in
+          let fresh : fed.after_return ≡ new.after_return = ap (λ t. t.after_return) fed_is.only in
           record {
             machine = switched (f.switch now) here_at.machine;
             ahead = [];
@@ -492,8 +426,8 @@ tokens cdata f first read more told old new kind honest stay has reads behind pa
             reads = subst (λ x. Reads f (reader (start_in first) (normalized ((read ++ more) ++ rest)) []) (reader (switched (f.switch now) here_at.machine) (normalized_behind x rest) (now ++ []))) (sym fresh)
                 (subst (λ ts. Reads f (reader (start_in first) (normalized ((read ++ more) ++ rest)) []) (reader (switched (f.switch now) here_at.machine) (normalized_behind new.after_return rest) ts)) (sym (append-nil now))
                 (subst (λ ts. Reads f (reader (start_in first) (normalized ((read ++ more) ++ rest)) []) (reader (switched (f.switch ts) here_at.machine) (normalized_behind new.after_return rest) ts)) same here_at.reads));
-            holds = inl (fed_back (f.switch now) new fed here_at.machine answers.only answers.state here_at.stands);
-            text = answers.empty;
+            holds = inl (fed_back (f.switch now) new fed here_at.machine fed_is.only fed_is.state here_at.stands);
+            text = fed_is.empty;
           };
     }
 
@@ -504,30 +438,33 @@ told_is None after e = sym e
 told_is (Some kind) after e = sym e
 
 pub texts_called : CallsReadTexts
-texts_called cdata f first read told old new text rest honest stay has up =
-    (up.read, up.cut, texts cdata f first read up.read told old new honest stay has (subst (λ k. ReadsText old new up.read k) (told_is up.told None up.kind) up.reads))
+texts_called f first read told old new text rest honest answers has up =
+    (up.read, up.cut, texts f first read up.read told old new honest answers has (subst (λ k. ReadsText old new up.read k) (told_is up.told None up.kind) up.reads))
 
 pub tokens_called : CallsReadTokens
-tokens_called cdata f first read told old new text rest kind honest stay has up =
-    (up.read, up.cut, tokens cdata f first read up.read told old new kind honest stay has (subst (λ k. ReadsText old new up.read k) (told_is up.told (Some kind) up.kind) up.reads))
+tokens_called f first read told old new text rest kind honest answers has up =
+    (up.read, up.cut, tokens f first read up.read told old new kind honest answers has (subst (λ k. ReadsText old new up.read k) (told_is up.told (Some kind) up.kind) up.reads))
 
 -- ---- the end
 
+kept_text : (a b : List ℕ) (kept cs : List ℕ) → a ≡ encode_utf8_all kept → b ≡ a ++ encode_utf8_all cs → b ≡ encode_utf8_all (kept ++ cs)
+kept_text a b kept cs one other = other ∙ ap (λ e. e ++ encode_utf8_all cs) one ∙ sym (encodes-append kept cs)
+
 pub ends : PagesEnd
-ends cdata f first read told old new kind honest stay has of page =
-    let at : IsAt f first read told old [] = has [] (of_read cdata f first read of) in
+ends f first read told old new kind honest has page =
+    let at : IsAt f first read told old [] = has [] in
     let stop : Stops old new kind at.machine at.ahead = page.stops at.machine at.ahead at.holds in
     let b : Bool = old.in_foreign in
-    let seen : List StandardToken = told ++ map AChar at.kept in
-    let now : List StandardToken = seen ++ map AChar stop.characters in
-    let left : Reads f (reader (start_in first) (normalized (read ++ [])) []) (reader at.machine at.ahead seen) =
-    subst (λ text. Reads f (reader (start_in first) (normalized (read ++ [])) []) (reader at.machine text seen)) (append-nil at.ahead) at.reads in
-    let stay_on : Stays cdata f b (reader at.machine at.ahead seen) = stays_at cdata f b first (normalized (read ++ [])) at.ahead at.machine told at.kept stay (of_read cdata f first read of) left in
-    let goes : Reads f (reader at.machine at.ahead seen) (reader stop.machine [] now) = quiet cdata f honest stop.goes seen stop.characters refl stay_on in
-    let flag : step (f.in_foreign now) stop.machine [] ≡ step b stop.machine [] =
-    step_now cdata f b (reader stop.machine [] now) (stays_on cdata f b (reader at.machine at.ahead seen) (reader stop.machine [] now) stop.characters goes refl stay_on) in
-    let all : told ++ map AChar (at.kept ++ (stop.characters ++ stop.last)) ++ stop.tokens ++ AnEof ∷ [] ≡ now ++ (map AChar stop.last ++ stop.tokens ++ AnEof ∷ []) =
-    ap (λ ts. ts ++ stop.tokens ++ AnEof ∷ []) (sym (told_on told at.kept (stop.characters ++ stop.last)) ∙ ap (λ ts. seen ++ ts) (map_append AChar stop.characters stop.last) ∙ sym (append_assoc seen (map AChar stop.characters) (map AChar stop.last)))
+    let all : List ℕ = at.kept ++ stop.characters in
+    let now : List StandardToken = told ++ map AChar all in
+    let left : Reads f (reader (start_in first) (normalized (read ++ [])) []) (reader at.machine at.ahead (told ++ map AChar at.kept)) =
+    subst (λ text. Reads f (reader (start_in first) (normalized (read ++ [])) []) (reader at.machine text (told ++ map AChar at.kept))) (append-nil at.ahead) at.reads in
+    let goes : Reads f (reader at.machine at.ahead (told ++ map AChar at.kept)) (reader stop.machine [] now) = reads_on f honest told (from_goes (flag_behind f told) at.kept stop.characters stop.goes refl) in
+    let flag : step (f.in_foreign now) stop.machine [] ≡ step b stop.machine [] = same_step (f.in_foreign now) b stop.machine [] refl in
+    let joined : told ++ map AChar (at.kept ++ (stop.characters ++ stop.last)) ≡ now ++ map AChar stop.last =
+    ap (λ cs. told ++ map AChar cs) (sym (append_assoc at.kept stop.characters stop.last)) ∙ sym (told_on told all stop.last) in
+    let tokens : told ++ map AChar (at.kept ++ (stop.characters ++ stop.last)) ++ stop.tokens ++ AnEof ∷ [] ≡ now ++ (map AChar stop.last ++ stop.tokens ++ AnEof ∷ []) =
+    ap (λ ts. ts ++ stop.tokens ++ AnEof ∷ []) joined
     ∙ ap (λ ts. ts ++ AnEof ∷ []) (append_assoc now (map AChar stop.last) stop.tokens) ∙ append_assoc now (map AChar stop.last ++ stop.tokens) (AnEof ∷ []) in
     record {
       tokens = stop.tokens;
@@ -536,8 +473,8 @@ ends cdata f first read told old new kind honest stay has of page =
       text = kept_text (text_of old) (text_of new) at.kept (stop.characters ++ stop.last) at.text stop.text;
       whole = record {
         last = reader stop.machine [] now;
-        reads = go_on (subst (λ text. Reads f (reader (start_in first) (normalized text) []) (reader at.machine at.ahead seen)) (append-nil read) left) goes;
+        reads = go_on (subst (λ text. Reads f (reader (start_in first) (normalized text) []) (reader at.machine at.ahead (told ++ map AChar at.kept))) (append-nil read) left) goes;
         stops = ap (λ (s : Step). s.stopped) flag ∙ stop.stops;
-        all = all ∙ ap (λ ts. now ++ ts) (sym (ap (λ (s : Step). s.tokens) flag ∙ stop.emits));
+        all = tokens ∙ ap (λ ts. now ++ ts) (sym (ap (λ (s : Step). s.tokens) flag ∙ stop.emits));
       };
     }

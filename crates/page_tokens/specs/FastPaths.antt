@@ -7,6 +7,7 @@ use Rattle.std.specs.List.{list_all}
 use Rattle.std.specs.Option.{IsSomeAnd}
 use Rattle.std.specs.Str.{encode_utf8_all}
 use Rattle.page_tokens.specs.Standard.{FollowsStandard}
+use Rattle.page_tokens.specs.StandardStates.{may_begin_cdata}
 use Rattle.page_tokens.specs.Tags.{opening}
 use Rattle.page_tokens.specs.declared.token.TagKind.{TagKind}
 use Rattle.page_tokens.specs.declared.token.TokenKind.{TokenKind}
@@ -107,6 +108,10 @@ ReadsAny old new text rest told = ((rest ≡ text) × (new ≡ old) × (told ≡
 -- what is read is read as the standard reads it
 abbrev pub ReadsPlain : {E : Type 0} → Tokenizer → Tokenizer → List ℕ → Option TokenKind → Result (Bor (List ℕ)) E → Type 0
 ReadsPlain old new text told result = IfOk result (λ rest. ReadsAny old new text rest.now told)
+
+-- nothing was read, or it stands where no CDATA section may begin
+abbrev pub IsApart : Tokenizer → Tokenizer → Type 0
+IsApart old new = (new ≡ old) ⊎ (may_begin_cdata new.state ≡ false)
 
 -- not inside a reference, and not right after a carriage return
 pub record IsOutside (t : Tokenizer) : Type 0 where

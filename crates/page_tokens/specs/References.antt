@@ -27,7 +27,7 @@ use Rattle.page_tokens.specs.declared.tokenizer.state.State.{State}
 pub record InFront (old new : Tokenizer) (m : Machine) (ahead rest : List ℕ) : Type 0 where
   pub machine : Machine
   pub characters : List ℕ
-  pub goes : Goes old.in_foreign m (ahead ++ rest) (map AChar characters) machine rest
+  pub goes : Goes m (ahead ++ rest) (map AChar characters) machine rest
   pub stands : Stands new [] machine
   pub text : text_of new ≡ text_of old ++ encode_utf8_all characters
 

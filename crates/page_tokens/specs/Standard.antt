@@ -33,15 +33,16 @@ use Rattle.page_tokens.specs.declared.tokenizer.state.State.TheVariants as state
 use Rattle.page_tokens.specs.declared.tokenizer.state.TagState.TheVariants as tag
 use Rattle.page_tokens.specs.NamedReferences.{after_name, read_of}
 use Rattle.page_tokens.specs.Reading.{text_of}
-use Rattle.page_tokens.specs.StandardStates.{state_of, state_in}
+use Rattle.page_tokens.specs.StandardStates.{may_begin_cdata, state_of, state_in}
 
 -- ---- the standard's side
 
 -- The machine goes on from one place in a text to another by steps behind which tree construction switches nothing, and emits these tokens.
-pub data Goes (foreign : Bool) : Machine → List ℕ → List StandardToken → Machine → List ℕ → Type 0 where
-  stays : {m : Machine} {text : List ℕ} → Goes foreign m text [] m text
-  steps : {m n : Machine} {text rest : List ℕ} {tokens : List StandardToken} → (s : Step) → step foreign m text ≡ s → s.stopped ≡ false →
-      Goes foreign s.machine s.rest tokens n rest → Goes foreign m text (s.tokens ++ tokens) n rest
+-- Whatever its flag for foreign content is, each step is the same.
+pub data Goes : Machine → List ℕ → List StandardToken → Machine → List ℕ → Type 0 where
+  stays : {m : Machine} {text : List ℕ} → Goes m text [] m text
+  steps : {m n : Machine} {text rest : List ℕ} {tokens : List StandardToken} → (s : Step) → ((foreign : Bool) → step foreign m text ≡ s) →
+      s.stopped ≡ false → Goes s.machine s.rest tokens n rest → Goes m text (s.tokens ++ tokens) n rest
 
 -- ---- texts
 
@@ -208,7 +209,7 @@ pub record Behind (old new : Tokenizer) (read : List ℕ) (told : Option TokenKi
   pub ahead' : List ℕ
   pub characters : List ℕ
   pub tokens : List StandardToken
-  pub goes : Goes old.in_foreign m (ahead ++ read ++ rest) (map AChar characters ++ tokens) machine (ahead' ++ rest)
+  pub goes : Goes m (ahead ++ read ++ rest) (map AChar characters ++ tokens) machine (ahead' ++ rest)
   pub holds : Holds new ahead' machine
   pub text : text_of new ≡ text_of old ++ encode_utf8_all characters
   pub ends : Told told new tokens
@@ -236,6 +237,29 @@ pub record FollowsStandard (old new : Tokenizer) (read : List ℕ) (told : Optio
 abbrev pub Follows : {E : Type 0} → Tokenizer → Tokenizer → List ℕ → Result (Option TokenKind) E → Type 0
 Follows old new read result = IfOk result (λ told. new.refused ≡ false → FollowsStandard old new read told)
 
+-- ---- where the flag is asked
+
+-- The machine takes one step here, for which it is asked whether this is foreign content, and emits nothing.
+pub record StepsAsked (foreign : Bool) (new : Tokenizer) (m : Machine) (text rest : List ℕ) : Type 0 where
+  pub runs : (step foreign m text).stopped ≡ false
+  pub tokens : (step foreign m text).tokens ≡ []
+  pub rest_is : (step foreign m text).rest ≡ rest
+  pub stands : Stands new [] (step foreign m text).machine
+
+-- With this character the tokenizer has read `[CDATA[`, and asks its flag for foreign content.
+pub record AsksFlag (old new : Tokenizer) (read : List ℕ) (told : Option TokenKind) : Type 0 where
+  pub memory : old.refused ≡ false
+  pub told_is : told ≡ None
+  pub leaves : Leaves old new
+  pub begun : may_begin_cdata old.state ≡ true
+  pub text : text_of new ≡ text_of old
+  pub steps : (m : Machine) (ahead rest : List ℕ) → Stands old ahead m → StepsAsked old.in_foreign new m (ahead ++ read ++ rest) rest
+
+-- The call reads `read` as the standard does, and may ask the flag.
+abbrev pub FollowsAsking : {E : Type 0} → Tokenizer → Tokenizer → List ℕ → Result (Option TokenKind) E → Type 0
+FollowsAsking old new read result =
+    IfOk result (λ told. new.refused ≡ false → FollowsStandard old new read told ⊎ AsksFlag old new read told)
+
 -- ---- the end of the page
 
 -- Nothing follows: the machine goes to where it stops, and emits the last characters, the token that ends and the end of the file.
@@ -244,7 +268,7 @@ pub record Stops (old new : Tokenizer) (told : Option TokenKind) (m : Machine) (
   pub characters : List ℕ
   pub last : List ℕ
   pub tokens : List StandardToken
-  pub goes : Goes old.in_foreign m ahead (map AChar characters) machine []
+  pub goes : Goes m ahead (map AChar characters) machine []
   pub stops : (step old.in_foreign machine []).stopped ≡ true
   pub emits : (step old.in_foreign machine []).tokens ≡ map AChar last ++ tokens ++ AnEof ∷ []
   pub text : text_of new ≡ text_of old ++ encode_utf8_all (characters ++ last)

@@ -1,4 +1,5 @@
 -- The states of the tokenizer, and the 80 states of the HTML Standard that they stand for.
+use Rattle.std.specs.Prelude.{Bool, false, true}
 use Rattle.standard_tokens.specs.States as there
 use Rattle.standard_tokens.specs.States.{State as StandardState}
 use Rattle.page_tokens.specs.declared.tokenizer.references.Reference.{Reference}
@@ -21,6 +22,7 @@ use Rattle.page_tokens.specs.declared.tokenizer.state.Raw.{Raw}
 use Rattle.page_tokens.specs.declared.tokenizer.state.Raw.TheVariants as raw
 use Rattle.page_tokens.specs.declared.tokenizer.state.ScriptState.{ScriptState}
 use Rattle.page_tokens.specs.declared.tokenizer.state.ScriptState.TheVariants as script
+use Rattle.page_tokens.specs.declared.tokenizer.state.Seen.TheVariants as seen
 use Rattle.page_tokens.specs.declared.tokenizer.state.State.{State}
 use Rattle.page_tokens.specs.declared.tokenizer.state.State.TheVariants as state
 use Rattle.page_tokens.specs.declared.tokenizer.state.TagState.{TagState}
@@ -125,6 +127,11 @@ state_of (state.Attribute inner) = attr_state_of inner
 state_of (state.Declaration seen) = there.MarkupDeclarationOpen
 state_of (state.Comment inner) = comment_state_of inner
 state_of (state.Doctype inner) = doctype_state_of inner
+
+-- what was read of the text may begin a CDATA section
+abbrev pub may_begin_cdata : State → Bool
+may_begin_cdata (state.Declaration (seen.Cdata count)) = true
+may_begin_cdata _ = false
 
 -- the state in a character reference, or else this one
 abbrev pub state_in : Reference → State → StandardState

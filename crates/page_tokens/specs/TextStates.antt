@@ -1,6 +1,7 @@
 -- Characters outside of tags, and how texts that end at an end tag with the right name are read.
 use Rattle.std.specs.Prelude.{◌≡◌, ℕ, ◌==◌, ◌&&◌, Bool, false, not, cond, List, ◌++◌, codes, length, string_bytes}
 use Rattle.page_tokens.specs.Reading.{text_of}
+use Rattle.page_tokens.specs.StandardStates.{may_begin_cdata}
 use Rattle.page_tokens.specs.declared.tokenizer.Tokenizer.{Tokenizer}
 use Rattle.page_tokens.specs.declared.tokenizer.references.Reference.TheVariants as reference
 use Rattle.page_tokens.specs.declared.tokenizer.state.CdataState.{CdataState}
@@ -8,7 +9,6 @@ use Rattle.page_tokens.specs.declared.tokenizer.state.CdataState.TheVariants as 
 use Rattle.page_tokens.specs.declared.tokenizer.state.Raw.{Raw}
 use Rattle.page_tokens.specs.declared.tokenizer.state.Raw.TheVariants as raw
 use Rattle.page_tokens.specs.declared.tokenizer.state.ScriptState.TheVariants as script
-use Rattle.page_tokens.specs.declared.tokenizer.state.Seen.TheVariants as seen
 use Rattle.page_tokens.specs.declared.tokenizer.state.State.{State}
 use Rattle.page_tokens.specs.declared.tokenizer.state.State.TheVariants as state
 use Rattle.page_tokens.specs.declared.tokenizer.text.CdataStep.{CdataStep}
@@ -51,11 +51,6 @@ cdata_step_of cdata.Section c = cond (c == 93) (its.Then (state.Cdata cdata.Brac
 cdata_step_of cdata.Bracket c = cond (c == 93) (its.Then (state.Cdata cdata.End)) its.Text
 cdata_step_of cdata.End c = cond (c == 93) its.Bracket (cond (c == 62) (its.Then state.Data) its.Text)
 
--- `<![` was just read, which may begin a CDATA section
-abbrev pub may_begin_cdata : State → Bool
-may_begin_cdata (state.Declaration (seen.Cdata count)) = count == 1
-may_begin_cdata _ = false
-
--- It was read in foreign content, behind characters that are still kept.
+-- Such a beginning was read behind characters that are still kept.
 abbrev pub wants_characters_of : Tokenizer → Bool
-wants_characters_of t = may_begin_cdata t.state && (t.in_foreign && not (length (text_of t) == 0))
+wants_characters_of t = may_begin_cdata t.state && not (length (text_of t) == 0)

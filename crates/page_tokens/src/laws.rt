@@ -13,15 +13,15 @@ pub fn same_named_references()
 {}
 
 /// A page may be cut into pieces anywhere: a text in which no token ends, and the text that is read
-/// after it, are read as if they were one text.
+/// after it, are read as if they were one text, if no characters have to be told between them.
 pub fn pieces()
     ensures { PiecesAreOneText }
 {}
 
 /// Whole pages: the tokens that are read from the beginning of a page to its end, with the answers
 /// of tree construction between them, are those of the definition of the HTML Standard's tokenizer,
-/// if `[CDATA[` occurs nowhere in the page, or tree construction's flag for foreign content stays as
-/// it is behind characters. `HasRead` says how far a page is read and which tokens were told.
+/// where the characters for which `wants_characters` asks are told. `HasRead` says how far a page is
+/// read and which tokens were told.
 pub fn pages()
     ensures begin { PagesBegin }
     ensures texts { TextsAreRead }

@@ -116,7 +116,7 @@ fn push(text: &mut String, c: char) -> Progress
 impl Tokenizer {
     ghost use Rattle.std.specs.Option.{option_copied};
     ghost use Rattle.page_tokens.specs.Reading.{IsInText, text_of};
-    ghost use Rattle.page_tokens.specs.Standard.{Follows};
+    ghost use Rattle.page_tokens.specs.Standard.{Follows, FollowsAsking};
     ghost use Rattle.page_tokens.specs.StandardPages.{BeginsPage, FollowsText, IsTextState};
     ghost use Rattle.page_tokens.specs.StandardPages.{KeepsPlace, ReadsAnywhere, Switches};
     ghost use Rattle.page_tokens.specs.Tags.{TakesTag};
@@ -283,7 +283,7 @@ impl Tokenizer {
 
     /// Processes a character outside a character reference, by the state.
     fn read(&mut self, c: char) -> Progress
-        ensures { Follows self.old self.new (c ∷ []) result }
+        ensures { FollowsAsking self.old self.new (c ∷ []) result }
     {
         match self.state {
             State::Data => self.in_data(c),

@@ -58,11 +58,11 @@ fn what_begins(seen: Seen, c: char) -> Declared
 
 impl Tokenizer {
     ghost use Rattle.page_tokens.specs.Changes.{CommentGoesOn};
-    ghost use Rattle.page_tokens.specs.Standard.{Follows};
+    ghost use Rattle.page_tokens.specs.Standard.{FollowsAsking};
 
     pub(super) fn in_declaration(&mut self, seen: Seen, c: char) -> Progress
         ensures { self.old.state ≡ State.Declaration seen →
-            Follows self.old self.new (c ∷ []) result }
+            FollowsAsking self.old self.new (c ∷ []) result }
     {
         match what_begins(seen, c) {
             Declared::More(more) => {

@@ -25,7 +25,13 @@ impl TagDraft {
     ghost use Rattle.page_tokens.specs.Drafts.{FinishesAttr, IsTagOf};
 
     /// Returns a draft without a tag.
-    pub fn new(alloc: Global) -> TagDraft {
+    pub fn new(alloc: Global) -> TagDraft
+        ensures name { string_bytes result.name ≡ [] }
+        ensures attrs { result.attrs.kept.items ≡ [] }
+        ensures attr_name { string_bytes result.attr_name ≡ [] }
+        ensures attr_value { string_bytes result.attr_value ≡ [] }
+        ensures self_closing { result.self_closing ≡ false }
+    {
         TagDraft {
             kind: TagKind::Start,
             name: String::new(alloc),

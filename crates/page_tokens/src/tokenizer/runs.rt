@@ -224,23 +224,23 @@ pub fn run_len(run: Run, text: &str) -> usize
 }
 
 /// Returns whether a part of the text that is read at once ends with this byte, where parse errors
-/// are collected: with `>`, which can end a token, and in foreign content with `[`, behind which
-/// tree construction can have to process characters first.
-fn ends_part(byte: u8, in_foreign: bool) -> bool
+/// are collected: with `>`, which can end a token, and with `[`, behind which tree construction can
+/// have to process characters first.
+fn ends_part(byte: u8) -> bool
     ensures { result ≡ true → byte < 128 }
 {
-    byte == b'>' || (in_foreign && byte == b'[')
+    byte == b'>' || byte == b'['
 }
 
 /// Returns the length of the part of the text that is read at once where parse errors are
 /// collected.
-fn part_len(text: &str, in_foreign: bool) -> usize
+fn part_len(text: &str) -> usize
     ensures boundary { IsCharBoundary text.now result }
     ensures some { 0 < length text.now → 0 < result }
 {
     let bytes = text.as_bytes();
     for index in 0..bytes.len() {
-        if ends_part(bytes[index], in_foreign) {
+        if ends_part(bytes[index]) {
             return index + 1;
         }
     }
@@ -260,10 +260,10 @@ fn split_char(text: &str) -> Option<(char, &str)>
 }
 
 impl Tokenizer {
-    ghost use Rattle.page_tokens.specs.FastPaths.{CopiesRun, FollowsRun};
+    ghost use Rattle.page_tokens.specs.FastPaths.{CopiesRun, FollowsRun, IsApart};
     ghost use Rattle.page_tokens.specs.Reading.{IsInText, AddsText};
     ghost use Rattle.page_tokens.specs.Reading.{LeavesLess, ReadsRun, ReadsWhole};
-    ghost use Rattle.page_tokens.specs.StandardPages.{ReadsAsStandard, ReadsUpTo};
+    ghost use Rattle.page_tokens.specs.StandardPages.{ReadsAsStandard, ReadsOnAsStandard, ReadsUpTo};
     ghost use Rattle.page_tokens.specs.Tags.{ReadsPlainTag, TakesPlainTag};
     ghost use Rattle.page_tokens.specs.TakenTokens.{TakesUpTo};
     ghost use Rattle.page_tokens.specs.TextStates.{wants_characters_of};
@@ -310,7 +310,7 @@ impl Tokenizer {
             ReadsUpTo self.old self.new text.now rest.now kind.old kind.new) }
         ensures less { LeavesLess text.now result }
     {
-        let (part, _) = text.split_at(part_len(text, self.in_foreign));
+        let (part, _) = text.split_at(part_len(text));
         self.check_input(part)?;
         let left = self.read_settled(part, kind)?;
         let (_, rest) = text.split_at(part.len() - left.len());
@@ -367,18 +367,16 @@ impl Tokenizer {
         self.read_to_token(rest, kind)
     }
 
-    /// Returns whether `<![` was just read in foreign content, with characters before it. Tree
-    /// construction has to process these and [`Tokenizer::set_in_foreign`] has to be called before
-    /// the next character is read: whether a CDATA section starts here depends on the element in
-    /// which they end, which may be an HTML element that they reopen.
+    /// Returns whether `<![` was just read with characters before it. Tree construction has to
+    /// process these and [`Tokenizer::set_in_foreign`] has to be called before the next character is
+    /// read: whether a CDATA section starts here depends on the element in which they end, which may
+    /// be an HTML element that they reopen.
     pub fn wants_characters(&self) -> bool
         ensures data { self.now.state ≡ State.Data → result ≡ false }
         ensures is { result ≡ wants_characters_of self.now }
     {
         match self.state {
-            State::Declaration(Seen::Cdata(count)) => {
-                count == 1 && self.in_foreign && !self.text.is_empty()
-            }
+            State::Declaration(Seen::Cdata(_)) => !self.text.is_empty(),
             _ => false,
         }
     }
@@ -386,7 +384,7 @@ impl Tokenizer {
     /// Reads the text up to the end of a token, if one ends in it, or to where tree construction
     /// has to process the characters first.
     fn read_to_token<'a>(&mut self, text: &'a str, kind: &mut Option<TokenKind>) -> Rest<'a>
-        ensures follows { ReadsAsStandard self.old self.new text.now kind.old kind.new result }
+        ensures follows { ReadsOnAsStandard self.old self.new text.now kind.old kind.new result }
         ensures within { IfOk result (λ rest. length rest.now ≤ length text.now) }
     {
         let mut made = None;
@@ -447,6 +445,7 @@ impl Tokenizer {
         ensures text { IsInText self.old → IsRun text.now →
             ReadsWhole self.old self.new text.now result }
         ensures follows { FollowsRun self.old self.new text.now result }
+        ensures apart { OnOk result (IsApart self.old self.new) }
     {
         if self.after_return || self.is_in_reference() {
             return Ok(text);

@@ -3,7 +3,7 @@ use Rattle.page_tokens.proofs.PageCalls.{new_kind, no_kind, then_arm}
 use Rattle.page_tokens.proofs.tokenizer.Tokenizer.read_mark.Goals as goal
 
 pub returns-then-is_some-clause-follows : goal.returns-then-is_some-clause-follows
-returns-then-is_some-clause-follows c free = new_kind c.args.self.now _ c.args.text.now _ _ c.args.kind.now _ c.is_some.ensures c.if-is_some.true (c.in_ok-rest.ensures.follows refl free)
+returns-then-is_some-clause-follows c free = new_kind c.args.text.now _ _ c.args.kind.now _ c.is_some.ensures c.if-is_some.true (c.in_ok-rest.ensures.follows refl free)
 
 pub returns-clause-follows : goal.returns-clause-follows
 returns-clause-follows c =
