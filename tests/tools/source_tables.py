@@ -82,6 +82,7 @@ FUNCTIONS = {
     "end_in_table": ["in table"],
     "start_other_in_table": ["in table"],
     "is_hidden_content": ["in table"],
+    "names_image": ["in table"],
     "insert_table_form": ["form in table"],
     "end_in_caption": ["in caption"],
     "start_in_group": ["in column group"],

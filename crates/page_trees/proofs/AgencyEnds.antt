@@ -83,7 +83,7 @@ or_turned true false = refl
 or_turned false true = refl
 or_turned false false = refl
 
-any_turned : (p : Open → Bool) (xs : List Open) → list_any p (reverse xs) ≡ list_any p xs
+pub any_turned : (p : Open → Bool) (xs : List Open) → list_any p (reverse xs) ≡ list_any p xs
 any_turned p = by_ends (λ xs. list_any p (reverse xs) ≡ list_any p xs) refl (λ ys y same.
     ap (list_any p) (reverse-append ys (y ∷ [])) ∙ ap (λ b. p y || b) same ∙ or_turned (p y) (list_any p ys) ∙ sym (any_push p ys y))
 
@@ -98,7 +98,7 @@ searched wanted ends w e t same_wanted same_ends (o ∷ os) s =
 
 -- ---- where the formatting element is on the stack
 
-none_placed : {X : Type 0} (p : X → Bool) (xs : List X) → last_place p xs ≡ 0 → list_any p xs ≡ false
+pub none_placed : {X : Type 0} (p : X → Bool) (xs : List X) → last_place p xs ≡ 0 → list_any p xs ≡ false
 none_placed p [] e = refl
 none_placed p (x ∷ xs) e = by (list_any p (x ∷ xs)) e
   where
@@ -162,7 +162,7 @@ not_scoped s t x p b stands e lacks =
 
 -- ---- whether there is a furthest block
 
-special_known : are_known special ≡ true
+pub special_known : are_known special ≡ true
 unfolding html_rows rare_rows
 special_known = refl
 
@@ -218,7 +218,7 @@ last_is t seen (n ∷ ns) = by (is_one_of t special n) (last_is t (Some n) ns) (
     by true here later = here ∙ or_else (list_any (is_one_of t special) ns) (is_present seen)
     by false here later = later
 
-specials_are : (t : GrowingTree) (os : List Open) → AllStand t.nodes os → list_any (is_one_of t special) (map (λ o. o.id) os) ≡ list_any is_special_element os
+pub specials_are : (t : GrowingTree) (os : List Open) → AllStand t.nodes os → list_any (is_one_of t special) (map (λ o. o.id) os) ≡ list_any is_special_element os
 specials_are t [] all = refl
 specials_are t (o ∷ os) all =
     ap (λ b. b || list_any (is_one_of t special) (map (λ o. o.id) os)) (sym (one_agrees special special_known t o all.0)) ∙ ap (λ b. is_special_element o || b) (specials_are t os all.1)
@@ -242,14 +242,6 @@ none_first p n (x ∷ xs) e = by (p x) (none_first p (n + 1) xs) e
     by true more e = cc
     by false more e = more e
 
-some_first : (p : Open → Bool) (n q : ℕ) (xs : List Open) → Some q ≡ first_from p n xs → list_any p xs ≡ true
-some_first p n q [] e = cc
-some_first p n q (x ∷ xs) e = by (p x) (some_first p (n + 1) q xs) e
-  where
-    by : (b : Bool) → (Some q ≡ first_from p (n + 1) xs → list_any p xs ≡ true) → Some q ≡ (if b then Some n else first_from p (n + 1) xs) → (b || list_any p xs) ≡ true
-    by true more e = refl
-    by false more e = more e
-
 absent : (o : Option ℕ) → is_present o ≡ false → o ≡ None
 absent None e = refl
 absent (Some n) e = absurd (true≢false e)
@@ -257,10 +249,6 @@ absent (Some n) e = absurd (true≢false e)
 pub no_block : (s : TreeState) (t : GrowingTree) (x : Open) (p : ℕ) → Builds s t → EntryStands t.nodes (Entry.Element x) → last_place (is_this x.name x.id) s.stack ≡ p + 1 →
     None ≡ first_from is_special_element (p + 1) (drop (p + 1) s.stack) → last_special t None (before_in x.id t.stack) ≡ None
 no_block s t x p b stands e none = absent _ (blocks s t x p b stands e ∙ none_first is_special_element (p + 1) (drop (p + 1) s.stack) none)
-
-pub a_block : (s : TreeState) (t : GrowingTree) (x : Open) (p q : ℕ) → Builds s t → EntryStands t.nodes (Entry.Element x) → last_place (is_this x.name x.id) s.stack ≡ p + 1 →
-    Some q ≡ first_from is_special_element (p + 1) (drop (p + 1) s.stack) → is_present (last_special t None (before_in x.id t.stack)) ≡ true
-a_block s t x p q b stands e some = blocks s t x p b stands e ∙ some_first is_special_element (p + 1) q (drop (p + 1) s.stack) some
 
 -- ---- all up to the formatting element are popped
 

@@ -6,7 +6,7 @@ use Rattle.page_tokens.specs.declared.token.Tag.{Tag}
 use Rattle.page_trees.specs.BodyTags.{Continues, EndsInBody, IsContinued, ends_in}
 use Rattle.page_trees.specs.Constructs.{RemembersLimits}
 use Rattle.page_trees.specs.Groups.{group_named}
-use Rattle.page_trees.specs.Listing.{ProcessesEndWhere, ProcessesStartWhere, ends_adoption, formats, lists_few, starts_a, starts_nobr}
+use Rattle.page_trees.specs.Listing.{ProcessesEndWhere, ProcessesStartWhere, allows_agency, formats, lists_few, starts_a, starts_nobr}
 use Rattle.page_trees.specs.declared.builder.Next.{Next}
 use Rattle.page_trees.specs.declared.builder.TreeBuilder.{TreeBuilder}
 use Rattle.page_trees.specs.declared.modes.groups.Group.{Group}
@@ -46,13 +46,13 @@ pub formatting_continued : (group : Group) (name : Name) (tag : Tag) (old new : 
 formatting_continued group name tag old new next e remembers rule covers named =
     subst (λ g. IsContinued g name tag old new next) (sym e) (formatting_rest name tag old new next remembers (rule (named ∙ e)))
 
-in_agency : (group : Group) (b : Building) → formats group ≡ true → ends_in group b ≡ true → ends_adoption b ≡ true
+in_agency : (group : Group) (b : Building) → formats group ≡ true → ends_in group b ≡ true → allows_agency b ≡ true
 in_agency Group.A b h test = test
 in_agency Group.Formatting b h test = test
 in_agency Group.Nobr b h test = test
 in_agency _ b h test = absurd (true≢false (sym h))
 
 pub formatting_closed : (group : Group) (name : Name) (tag : Tag) (old new : TreeBuilder) (next : Next) → group_named name ≡ group → formats group ≡ true →
-    (formats (group_named name) ≡ true → ProcessesEndWhere ends_adoption InBody name tag old new next) → EndsInBody name tag old new next
+    (formats (group_named name) ≡ true → ProcessesEndWhere allows_agency InBody name tag old new next) → EndsInBody name tag old new next
 formatting_closed group name tag old new next e h rule covers ends within b current stands test =
     rule (ap formats e ∙ h) ends within b (in_agency (group_named name) b (ap formats e ∙ h) test) current stands

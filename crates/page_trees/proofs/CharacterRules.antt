@@ -67,11 +67,11 @@ taken_char c d same b token rs = taken_of (AChar c) b token rs ∙ chosen_alike 
 
 -- ---- the dispatcher
 
-abbrev char_acts : Bool → Bool → Bool → Bool → List Act → List Act → List Act
+abbrev pub char_acts : Bool → Bool → Bool → Bool → List Act → List Act → List Act
 char_acts e h t p u f =
     elim (e && true) [ true ↦ u | false ↦ elim (h && true) [ true ↦ u | false ↦ elim (t && true) [ true ↦ u | false ↦ elim (p && true) [ true ↦ u | false ↦ f ] ] ] ]
 
-picked : (e h t p : Bool) (u f : List Act) → (e || (h || (t || p))) ≡ true → char_acts e h t p u f ≡ u
+pub picked : (e h t p : Bool) (u f : List Act) → (e || (h || (t || p))) ≡ true → char_acts e h t p u f ≡ u
 picked true h t p u f k = refl
 picked false true t p u f k = refl
 picked false false true p u f k = refl

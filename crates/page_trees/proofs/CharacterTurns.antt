@@ -10,8 +10,8 @@ use Rattle.std.proofs.lemmas.Option.{same_Some}
 use Rattle.standard_tokens.specs.Tokens.{AChar, Token as StandardToken}
 use Rattle.standard_trees.specs.Building.{Building, is_empty, is_line_feed, is_space, tree_steps, with_next}
 use Rattle.standard_trees.specs.RuleWords.{Dispatcher, Mode as StandardMode, TextState}
-use Rattle.page_trees.specs.CharacterSteps.{Inserts, fits_in, fits_mode, goes_to_mode, has_begun, has_no_null, is_dropping, is_nowhere, is_run}
-use Rattle.page_trees.specs.CharacterTexts.{TakesCharacters, TakesPiece, TakesText, fits_piece, front_spaces, is_text, past_spaces, unskipped}
+use Rattle.page_trees.specs.CharacterSteps.{Inserts, fits_in, fits_mode, goes_to_mode, has_begun, has_no_null, is_nowhere, is_run}
+use Rattle.page_trees.specs.CharacterTexts.{TakesCharacters, TakesNoNulls, TakesPiece, TakesText, fits_piece, front_spaces, is_text, past_spaces, unskipped}
 use Rattle.page_trees.specs.Constructs.{Constructs, RemembersLimits, WithinLimits, state_for}
 use Rattle.page_trees.specs.CoveredTurns.{FewTurns, ProcessesToken, TakesTokens, covered_turn, is_text_mode}
 use Rattle.page_trees.specs.Modes.{drops_letters, joins_spaces, mode_of}
@@ -25,11 +25,12 @@ use Rattle.page_trees.proofs.CoveredRuns.{is_covered}
 use Rattle.page_trees.proofs.FollowingTurns.{in_turn}
 use Rattle.page_trees.proofs.KeptByCharacters.{char_keeps}
 use Rattle.page_trees.proofs.NamesAgree.{both}
-use Rattle.page_trees.proofs.RunOutcomes.{dropping_is, put_in_text}
-use Rattle.page_trees.proofs.SpacesApart.{all_front, all_past, front_encoded, joined, none_encoded, nulls_encoded, past_encoded, past_first, unskipped_encoded}
+use Rattle.page_trees.proofs.RunOutcomes.{put_in_text}
+use Rattle.page_trees.proofs.SpacesApart.{all_front, all_past, front_encoded, joined, none_encoded, past_encoded, past_first, unskipped_encoded}
 use Rattle.page_trees.proofs.TokenStates.{begun}
 use Rattle.page_trees.proofs.TokenTurns.{fits_is}
 use Rattle.page_trees.proofs.TurnsPassed.{first_steps, turn_passes, while_all_steps, while_runs}
+use Rattle.page_trees.proofs.WordsApart.{past_plain}
 
 -- the tokens of characters
 abbrev pub chars_of : List ℕ → List StandardToken
@@ -92,33 +93,6 @@ steps_begun depth (c ∷ cs) b x e h =
     let parts = in_turn (tree_step_while covered_turn depth b (AChar c)) (λ after. tree_steps_while covered_turn depth after (chars_of cs)) x h in
     steps_begun depth cs parts.0 x (turn_begun depth b parts.0 c (sym (begun_while depth b c (no_skip b e)) ∙ parts.1)) parts.2
 
--- ---- which characters are covered
-
-null_covered : (depth : ℕ) (cs : List ℕ) (b x : Building) → has_begun b ≡ true → tree_steps_while covered_turn depth b (chars_of cs) ≡ Some x → has_no_null cs ≡ true
-null_covered depth [] b x e h = refl
-null_covered depth (c ∷ cs) b x e h =
-    let parts = in_turn (tree_step_while covered_turn depth b (AChar c)) (λ after. tree_steps_while covered_turn depth after (chars_of cs)) x h in
-    let turn = sym (begun_while depth b c (no_skip b e)) ∙ parts.1 in
-    let covered = is_covered c (with_next (AChar c) b) (turn_passes covered_turn depth (with_next (AChar c) b) parts.0 turn) in
-    ap (λ (y : Bool). not y && has_no_null cs) covered.other ∙ null_covered depth cs parts.0 x (turn_begun depth b parts.0 c turn) parts.2
-
--- It is enough to show it of characters none of which is null.
-pub unless_null : (cs : List ℕ) (old new : TreeBuilder) → (has_no_null cs ≡ true → TakesCharacters cs old new) → TakesCharacters cs old new
-unless_null cs old new rule within b e stands depth few x h = rule (null_covered depth cs b x e h) within b e stands depth few x h
-
-pub take_with_null : (text : List ℕ) (old new : TreeBuilder) → has_no_null text ≡ false → TakesText text old new
-take_with_null text old new some cs spelt =
-    unless_null cs old new (λ all. absurd (true≢false (sym all ∙ sym (nulls_encoded cs) ∙ sym (ap (λ bytes. has_no_null bytes) spelt) ∙ some)))
-
--- a letter where letters may be ignored
-pub take_dropped : (c : ℕ) (cs : List ℕ) (old new : TreeBuilder) → is_space c ≡ false → drops_letters old.mode ≡ true → TakesCharacters (c ∷ cs) old new
-take_dropped c cs old new letter drops within b e stands depth few x h =
-    let parts = in_turn (tree_step_while covered_turn depth b (AChar c)) (λ after. tree_steps_while covered_turn depth after (chars_of cs)) x h in
-    let turn = sym (begun_while depth b c (no_skip b e)) ∙ parts.1 in
-    let covered = is_covered c (with_next (AChar c) b) (turn_passes covered_turn depth (with_next (AChar c) b) parts.0 turn) in
-    let dropping : is_dropping b.mode ≡ true = ap is_dropping stands.mode ∙ dropping_is old.mode ∙ drops in
-    absurd (true≢false (sym covered.kept ∙ ap (λ (y : Bool). y || not (is_dropping b.mode)) letter ∙ ap not dropping))
-
 -- ---- several characters
 
 pub take_none : (s : TreeBuilder) → TakesCharacters [] s s
@@ -175,7 +149,7 @@ take_in_text text old new is some rule (c ∷ cs) spelt within b e stands depth 
     let begins : Constructs old after = begun_again old b c e stands in
     let parts = in_turn (tree_step_while covered_turn depth b (AChar c)) (λ after. tree_steps_while covered_turn depth after (chars_of cs)) x h in
     let turn = sym (begun_while depth b c (no_skip b e)) ∙ parts.1 in
-    let covered = is_covered c after (turn_passes covered_turn depth after parts.0 turn) in
+    let covered = is_covered after (turn_passes covered_turn depth after parts.0 turn) in
     let goes : goes_to_mode b.tree ≡ true =
     sym (ap (λ (m : StandardMode). not (is_text_mode m) || goes_to_mode b.tree) (stands.mode ∙ ap mode_of is)) ∙ covered.text in
     put_in_text old new c cs is after refl goes covered.covered begins (rule c cs spelt within after begins) depth x
@@ -206,16 +180,16 @@ fits_letter m c cs letter keeps =
     by false = refl
 
 -- The text is a run of others.
-is_letters : (cs : List ℕ) → has_no_null cs ≡ true → list_all is_space cs ≡ false → is_run Run.Letters cs ≡ true
+pub is_letters : (cs : List ℕ) → has_no_null cs ≡ true → list_all is_space cs ≡ false → is_run Run.Letters cs ≡ true
 is_letters cs all some = ap (λ (x : Bool). x && not (list_all is_space cs)) all ∙ ap not some
 
 -- the whole text, where the mode treats white space like the others
 pub take_joined : (text rest : List ℕ) (old new : TreeBuilder) → rest ≡ past_spaces text → is_empty rest ≡ false → joins_spaces old.mode ≡ true → TakesPiece Run.Letters text old new →
-    TakesText text old new
-take_joined text rest old new past some joins rule [] spelt =
+    TakesNoNulls text old new
+take_joined text rest old new past some joins rule [] spelt all =
     absurd (true≢false (sym (ap (λ (xs : List ℕ). is_empty xs) (past ∙ ap (λ (xs : List ℕ). past_spaces xs) spelt)) ∙ some))
-take_joined text rest old new past some joins rule (c ∷ cs) spelt = unless_null (c ∷ cs) old new (λ all.
-    rule (c ∷ cs) spelt (ap (λ (x : Bool). x && fits_mode old.mode Run.Letters (c ∷ cs)) (is_letters (c ∷ cs) all letters) ∙ fits_joined old.mode c cs joins))
+take_joined text rest old new past some joins rule (c ∷ cs) spelt all =
+    rule (c ∷ cs) spelt (ap (λ (x : Bool). x && fits_mode old.mode Run.Letters (c ∷ cs)) (is_letters (c ∷ cs) all letters) ∙ fits_joined old.mode c cs joins)
   where
     behind : (ds : List ℕ) → rest ≡ encode_utf8_all ds → is_empty ds ≡ false
     behind [] e = absurd (true≢false (sym (ap (λ (xs : List ℕ). is_empty xs) e) ∙ some))
@@ -238,8 +212,8 @@ rest_of : (text rest cs : List ℕ) → rest ≡ past_spaces text → text ≡ e
 rest_of text rest cs past spelt = past ∙ ap (λ (xs : List ℕ). past_spaces xs) spelt ∙ past_encoded cs
 
 -- white space alone
-pub take_spaces : (text front rest : List ℕ) (old new : TreeBuilder) → front ≡ front_spaces text → rest ≡ past_spaces text → is_empty rest ≡ true → TakesPiece Run.Spaces front old new → TakesText text old new
-take_spaces text front rest old new is past none rule cs spelt =
+pub take_spaces : (text front rest : List ℕ) (old new : TreeBuilder) → front ≡ front_spaces text → rest ≡ past_spaces text → is_empty rest ≡ true → TakesPiece Run.Spaces front old new → TakesNoNulls text old new
+take_spaces text front rest old new is past none rule cs spelt all =
     subst (λ (xs : List ℕ). TakesCharacters xs old new)
     (sym (append_nil (front_spaces cs)) ∙ ap (λ (xs : List ℕ). front_spaces cs ++ xs) (sym (none_encoded (past_spaces cs) (sym (rest_of text rest cs past spelt) ∙ empty_is rest none))) ∙ joined cs)
     (take_front text front old new is rule cs spelt)
@@ -250,11 +224,11 @@ take_spaces text front rest old new is past none rule cs spelt =
 
 -- and others after it
 pub take_apart : (text front rest : List ℕ) (old mid new : TreeBuilder) → front ≡ front_spaces text → rest ≡ past_spaces text → TakesPiece Run.Spaces front old mid → RemembersLimits mid new →
-    ((d : ℕ) (ds : List ℕ) → is_space d ≡ false → has_no_null (d ∷ ds) ≡ true → rest ≡ encode_utf8_all (d ∷ ds) → TakesCharacters (d ∷ ds) mid new) → is_empty rest ≡ false → TakesText text old new
-take_apart text front rest old mid new is past rule limits others some cs spelt =
+    ((d : ℕ) (ds : List ℕ) → is_space d ≡ false → has_no_null (d ∷ ds) ≡ true → rest ≡ encode_utf8_all (d ∷ ds) → TakesCharacters (d ∷ ds) mid new) → is_empty rest ≡ false → TakesNoNulls text old new
+take_apart text front rest old mid new is past rule limits others some cs spelt all =
     subst (λ (xs : List ℕ). TakesCharacters xs old new) (joined cs)
     (take_both (front_spaces cs) (past_spaces cs) old mid new limits (take_front text front old mid is rule cs spelt)
-    (unless_null (past_spaces cs) mid new (λ all. behind (past_spaces cs) refl all (rest_of text rest cs past spelt))))
+    (behind (past_spaces cs) refl (past_plain cs all) (rest_of text rest cs past spelt)))
   where
     behind : (ds : List ℕ) → past_spaces cs ≡ ds → has_no_null ds ≡ true → rest ≡ encode_utf8_all ds → TakesCharacters ds mid new
     behind [] e all f = absurd (true≢false (sym (ap (λ (xs : List ℕ). is_empty xs) f) ∙ some))
@@ -266,9 +240,9 @@ take_letters rest mid new keeps rule d ds letter all spelt =
     rule (d ∷ ds) spelt (ap (λ (x : Bool). x && fits_mode mid.mode Run.Letters (d ∷ ds))
     (is_letters (d ∷ ds) all (ap (λ (x : Bool). x && list_all is_space ds) letter)) ∙ fits_letter mid.mode d ds letter keeps)
 
-pub take_words : (rest : List ℕ) (mid new : TreeBuilder) → drops_letters mid.mode ≡ true → (d : ℕ) (ds : List ℕ) → is_space d ≡ false →
+pub take_words : (rest : List ℕ) (mid new : TreeBuilder) → TakesNoNulls rest mid new → (d : ℕ) (ds : List ℕ) → is_space d ≡ false →
     has_no_null (d ∷ ds) ≡ true → rest ≡ encode_utf8_all (d ∷ ds) → TakesCharacters (d ∷ ds) mid new
-take_words rest mid new drops d ds letter all spelt = take_dropped d ds mid new letter drops
+take_words rest mid new rule d ds letter all spelt = rule (d ∷ ds) spelt all
 
 -- ---- the characters between two tokens
 

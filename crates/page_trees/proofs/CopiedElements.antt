@@ -68,12 +68,20 @@ formatting_html o is = by o.ns refl
 in_html : (o : Open) (names : List (List ℕ)) → is_one formatting_names o ≡ true → is_one names o ≡ is_one_in names ElementNamespace.Html o.name
 in_html o names is = ap (λ (ns : ElementNamespace). is_one_in names ns o.name) (formatting_html o is)
 
-no_template : (o : Open) → is_one formatting_names o ≡ true → is_one (codes "template" ∷ []) o ≡ false
+pub no_template : (o : Open) → is_one formatting_names o ≡ true → is_one (codes "template" ∷ []) o ≡ false
 unfolding html_rows rare_rows
 no_template o is =
     in_html o (codes "template" ∷ []) is
     ∙ never_both (is_one_in formatting_names ElementNamespace.Html o.name) (is_one_in (codes "template" ∷ []) ElementNamespace.Html o.name)
     (for_all (λ n. not (is_one_in formatting_names ElementNamespace.Html n && is_one_in (codes "template" ∷ []) ElementNamespace.Html n)) refl o.name)
+    (sym (in_html o formatting_names is) ∙ is)
+
+pub no_table : (o : Open) → is_one formatting_names o ≡ true → is_one (codes "table" ∷ []) o ≡ false
+unfolding html_rows rare_rows
+no_table o is =
+    in_html o (codes "table" ∷ []) is
+    ∙ never_both (is_one_in formatting_names ElementNamespace.Html o.name) (is_one_in (codes "table" ∷ []) ElementNamespace.Html o.name)
+    (for_all (λ n. not (is_one_in formatting_names ElementNamespace.Html n && is_one_in (codes "table" ∷ []) ElementNamespace.Html n)) refl o.name)
     (sym (in_html o formatting_names is) ∙ is)
 
 not_late : (o : Open) → is_one formatting_names o ≡ true → is_one late_names o ≡ false

@@ -5,9 +5,9 @@ use Rattle.standard_trees.specs.Formatting.{adoption, is_entry, last_listed, unl
 use Rattle.standard_trees.specs.GrowingTree.{GrowingTree, unstacked}
 use Rattle.standard_trees.specs.RuleWords.{AdoptionAgency, DropFound, FindListed, InScope, Listed, Scope, These}
 use Rattle.page_tokens.specs.declared.token.Tag.{Tag}
-use Rattle.page_trees.specs.BodyTags.{ActsWhere, acted}
-use Rattle.page_trees.specs.Constructs.{Constructs, IsCurrentTag}
-use Rattle.page_trees.specs.Listing.{AdoptsFor, FindsEntry, FindsListed, Unlists, Unstacks, agency_ends, closes_nobr, closing_nobr, dropping_a, drops_a, ends_adoption, has_few}
+use Rattle.page_trees.specs.BodyTags.{ActsWhere, LeavesFew, acted}
+use Rattle.page_trees.specs.Constructs.{Constructs, IsCurrentTag, WithinLimits}
+use Rattle.page_trees.specs.Listing.{AdoptsFor, FindsEntry, FindsListed, LeadsTo, Unlists, Unstacks, allows_agency, closes_nobr, closing_nobr, dropping_a, drops_a, has_few}
 use Rattle.page_trees.specs.Listing.{lists_few, lists_once}
 use Rattle.page_trees.specs.Stands.{Builds, EntryStands}
 use Rattle.page_trees.specs.TreeState.{TreeState}
@@ -18,7 +18,7 @@ use Rattle.page_trees.specs.declared.stack.Open.{Open}
 use Rattle.page_trees.proofs.AgencyRounds.{Named, found_stands}
 use Rattle.page_trees.proofs.BuilderSteps.{moved}
 use Rattle.page_trees.proofs.NamesAgree.{both}
-use Rattle.page_trees.proofs.SimpleEnds.{left_few, simply_less}
+use Rattle.page_trees.proofs.ShorterLists.{left_few}
 use Rattle.page_trees.proofs.TableRules.{own_is}
 use Rattle.page_trees.proofs.TableTags.{current_kept}
 
@@ -64,52 +64,63 @@ both_removed mid tree left o b unlists unstacks c few once stands found =
     subst (λ (n : Option ℕ). Constructs (record mid { tree = left }) (with_tree b (without_found n b.tree))) (sym found)
     (moved mid (record mid { tree = left }) left mid.fault mid.too_deep refl b t c built refl)
 
+-- the algorithm is run
+record IsAgencyRun (mid : TreeBuilder) (b : Building) : Type 0 where
+  pub constructs : Constructs mid (with_tree b (adoption (own_name b.token) (with_found b)))
+  pub leads : LeadsTo (with_found b) (adoption (own_name b.token) (with_found b)) mid.tree
+
+agency_run : (tag : Tag) (old mid new : TreeBuilder) (left : TreeState) (b : Building) → new ≡ record mid { tree = left } → AdoptsFor Name.A old mid → WithinLimits new → drops_a b ≡ true → IsCurrentTag Name.A tag b →
+    Constructs old b → IsAgencyRun mid b
+unfolding perform
+agency_run tag old mid new left b e adopts within test current c =
+    let parts = both (holds (Listed (These (codes "a" ∷ []))) b) _ test in
+    let own : own_name b.token ≡ codes "a" = own_is Name.A tag b refl current in
+    let c_found : Constructs old (with_tree b (with_found b)) = moved old old old.tree old.fault old.too_deep refl b (with_found b) c (found_built old.tree b.tree (listed_a b) c.tree) refl in
+    let fault = ap (λ (s : TreeBuilder). s.fault) e in
+    let deep = ap (λ (s : TreeBuilder). s.too_deep) e in
+    let both_ways = adopts (record { fault = sym fault ∙ within.fault; depth = sym deep ∙ within.depth }) (with_tree b (with_found b)) parts.1 own c_found in
+    record { constructs = both_ways.0; leads = both_ways.1 }
+
 pub a_dropped : (tag : Tag) (old mid new : TreeBuilder) (tree left : TreeState) (o : Open) → new ≡ record mid { tree = left } → FindsListed Name.A old.tree (Some o) → FindsEntry old.tree (Some o) →
     AdoptsFor Name.A old mid → Unlists o.id mid.tree tree → Unstacks o tree left → ActsWhere drops_a Name.A tag dropping_a old new
 unfolding perform
 a_dropped tag old mid new tree left o e finds entry adopts unlists unstacks starts within b test current c =
     let parts = both (holds (Listed (These (codes "a" ∷ []))) b) _ test in
-    let own : own_name b.token ≡ codes "a" = own_is Name.A tag b refl current in
-    let t : GrowingTree = with_found b in
-    let ends : agency_ends (codes "a") t ≡ true = subst (λ w. agency_ends w t ≡ true) own parts.1 in
-    let few : has_few b.tree ≡ true = (both (has_few t) _ ends).0 in
-    let less = simply_less (own_name b.token) t parts.1 in
-    let c_found : Constructs old (with_tree b t) = moved old old old.tree old.fault old.too_deep refl b t c (found_built old.tree b.tree (listed_a b) c.tree) refl in
-    let fault = ap (λ (s : TreeBuilder). s.fault) e in
-    let deep = ap (λ (s : TreeBuilder). s.too_deep) e in
-    let adopted : Constructs mid (with_tree b (adoption (own_name b.token) t)) =
-    adopts (record { fault = sym fault ∙ within.fault; depth = sym deep ∙ within.depth }) (with_tree b t) ends own c_found in
-    let stands : EntryStands (adoption (own_name b.token) t).nodes (Entry.Element o) = subst (λ ns. EntryStands ns (Entry.Element o)) (sym less.nodes) (entry b.tree few c.tree) in
+    let few : has_few b.tree ≡ true = (both (has_few b.tree) (lists_once b.tree.listed) parts.1).0 in
+    let run = agency_run tag old mid new left b e adopts within test current c in
+    let after : GrowingTree = adoption (own_name b.token) (with_found b) in
+    let well = both (has_few after) (lists_once after.listed) run.leads.well in
+    let stands : EntryStands after.nodes (Entry.Element o) = run.leads.alike.stands o (entry b.tree few c.tree) in
     subst (λ (s : TreeBuilder). Constructs s (acted dropping_a b)) (sym e)
-    (both_removed mid tree left o (with_tree b (adoption (own_name b.token) t)) unlists unstacks adopted less.few less.once stands
-    (less.found ∙ sym (finds b.tree few c.tree)))
+    (both_removed mid tree left o (with_tree b after) unlists unstacks run.constructs well.0 well.1 stands (run.leads.alike.found ∙ sym (finds b.tree few c.tree)))
+
+found_few : (t : GrowingTree) (n : Option ℕ) → has_few t ≡ true → has_few (without_found n t) ≡ true
+found_few t None few = few
+found_few t (Some n) few = left_few (λ entry. not (is_entry n entry)) t.listed few
+
+-- afterwards the list is still short
+pub a_left_few : (tag : Tag) (old mid new : TreeBuilder) (left : TreeState) → new ≡ record mid { tree = left } → AdoptsFor Name.A old mid → LeavesFew drops_a Name.A tag dropping_a old new
+unfolding perform
+a_left_few tag old mid new left e adopts starts within b test current c =
+    let run = agency_run tag old mid new left b e adopts within test current c in
+    let after : GrowingTree = adoption (own_name b.token) (with_found b) in
+    found_few after after.found (both (has_few after) (lists_once after.listed) run.leads.well).0
 
 no_a : (o : Option ℕ) → None ≡ o → is_present o ≡ true → ⊥
 no_a None e h = true≢false (sym h)
 no_a (Some n) e h = cc
 
--- the search leaves the list as it is
-found_short : (b : Building) → ends_adoption (perform (FindListed (These (codes "a" ∷ []))) b) ≡ true → has_few b.tree ≡ true
-unfolding perform
-found_short b h = (both (has_few b.tree) _ h).0
-
 -- none is found
-pub none_dropped : (tag : Tag) (old : TreeBuilder) → FindsListed Name.A old.tree None → ActsWhere drops_a Name.A tag dropping_a old old
-none_dropped tag old finds starts within b test current c =
+none_there : {A : Type 0} (old : TreeBuilder) (b : Building) → FindsListed Name.A old.tree None → drops_a b ≡ true → Constructs old b → A
+none_there old b finds test c =
     let parts = both (holds (Listed (These (codes "a" ∷ []))) b) _ test in
-    absurd (no_a (listed_a b) (finds b.tree (found_short b parts.1) c.tree) parts.0)
+    absurd (no_a (listed_a b) (finds b.tree (both (has_few b.tree) (lists_once b.tree.listed) parts.1).0 c.tree) parts.0)
 
--- afterwards the list is still short
-pub dropped_few : (b : Building) → drops_a b ≡ true → lists_few (acted dropping_a b) ≡ true
-unfolding perform
-dropped_few b test =
-    let parts = both (holds (Listed (These (codes "a" ∷ []))) b) _ test in
-    let less = simply_less (own_name b.token) (with_found b) parts.1 in
-    found_few (adoption (own_name b.token) (with_found b)) (adoption (own_name b.token) (with_found b)).found less.few
-  where
-    found_few : (t : GrowingTree) (n : Option ℕ) → has_few t ≡ true → has_few (without_found n t) ≡ true
-    found_few t None few = few
-    found_few t (Some n) few = left_few (λ entry. not (is_entry n entry)) t.listed few
+pub none_dropped : (tag : Tag) (old : TreeBuilder) → FindsListed Name.A old.tree None → ActsWhere drops_a Name.A tag dropping_a old old
+none_dropped tag old finds starts within b test current c = none_there old b finds test c
+
+pub none_left_few : (tag : Tag) (old : TreeBuilder) → FindsListed Name.A old.tree None → LeavesFew drops_a Name.A tag dropping_a old old
+none_left_few tag old finds starts within b test current c = none_there old b finds test c
 
 pub dropped_current : (tag : Tag) (b : Building) → IsCurrentTag Name.A tag b → IsCurrentTag Name.A tag (acted dropping_a b)
 dropped_current tag b c =
@@ -129,27 +140,31 @@ or_right : (a b : Bool) → a ≡ true → (not a || b) ≡ true → b ≡ true
 or_right true b e h = h
 or_right false b e h = absurd (true≢false (sym e))
 
+nobr_run : (tag : Tag) (old new : TreeBuilder) (b : Building) → scoped_nobr b ≡ true → AdoptsFor Name.Nobr old new → WithinLimits new → closes_nobr b ≡ true → IsCurrentTag Name.Nobr tag b → Constructs old b →
+    Constructs new (perform AdoptionAgency b) × LeadsTo b.tree (perform AdoptionAgency b).tree new.tree
+nobr_run tag old new b scoped adopts within test current c =
+    let parts = both (lists_few b) _ test in
+    adopts within b (or_right (scoped_nobr b) (allows_agency b) scoped parts.1) (own_is Name.Nobr tag b refl current) c
+
 pub nobr_closed : (tag : Tag) (old new : TreeBuilder) → ((b : Building) → Constructs old b → scoped_nobr b ≡ true) → AdoptsFor Name.Nobr old new →
     ActsWhere closes_nobr Name.Nobr tag closing_nobr old new
 nobr_closed tag old new tells adopts starts within b test current c =
-    let parts = both (lists_few b) _ test in
     let scoped = tells b c in
-    let own : own_name b.token ≡ codes "nobr" = own_is Name.Nobr tag b refl current in
-    let ends : ends_adoption b ≡ true = or_right (scoped_nobr b) (ends_adoption b) scoped parts.1 in
-    subst (λ x. Constructs new (if_scoped x b)) (sym scoped) (adopts within b (subst (λ w. agency_ends w b.tree ≡ true) own ends) own c)
+    subst (λ x. Constructs new (if_scoped x b)) (sym scoped) (nobr_run tag old new b scoped adopts within test current c).0
+
+pub nobr_closed_few : (tag : Tag) (old new : TreeBuilder) → ((b : Building) → Constructs old b → scoped_nobr b ≡ true) → AdoptsFor Name.Nobr old new →
+    LeavesFew closes_nobr Name.Nobr tag closing_nobr old new
+nobr_closed_few tag old new tells adopts starts within b test current c =
+    let scoped = tells b c in
+    let after : GrowingTree = (perform AdoptionAgency b).tree in
+    subst (λ x. lists_few (if_scoped x b) ≡ true) (sym scoped)
+    (both (has_few after) (lists_once after.listed) (nobr_run tag old new b scoped adopts within test current c).1.well).0
 
 pub nobr_left : (tag : Tag) (old : TreeBuilder) → ((b : Building) → Constructs old b → scoped_nobr b ≡ false) → ActsWhere closes_nobr Name.Nobr tag closing_nobr old old
 nobr_left tag old tells starts within b test current c = subst (λ x. Constructs old (if_scoped x b)) (sym (tells b c)) c
 
-pub closed_few : (b : Building) → closes_nobr b ≡ true → lists_few (acted closing_nobr b) ≡ true
-unfolding perform
-closed_few b test =
-    let parts = both (lists_few b) _ test in
-    by (scoped_nobr b) parts.1 parts.0
-  where
-    by : (x : Bool) → (not x || ends_adoption b) ≡ true → lists_few b ≡ true → lists_few (if_scoped x b) ≡ true
-    by true h few = (simply_less (own_name b.token) b.tree h).few
-    by false h few = few
+pub nobr_left_few : (tag : Tag) (old : TreeBuilder) → ((b : Building) → Constructs old b → scoped_nobr b ≡ false) → LeavesFew closes_nobr Name.Nobr tag closing_nobr old old
+nobr_left_few tag old tells starts within b test current c = subst (λ x. lists_few (if_scoped x b) ≡ true) (sym (tells b c)) (both (lists_few b) _ test).0
 
 pub closed_current : (tag : Tag) (b : Building) → IsCurrentTag Name.Nobr tag b → IsCurrentTag Name.Nobr tag (acted closing_nobr b)
 closed_current tag b c = by (scoped_nobr b) (current_kept AdoptionAgency refl Name.Nobr tag b c)

@@ -9,14 +9,14 @@ use Rattle.standard_tokens.specs.Tokens.{Attr}
 use Rattle.standard_trees.specs.Building.{Building, is_empty, perform, performed, run, taken}
 use Rattle.standard_trees.specs.GrowingTree.{GrowingTree, adjusted_current, in_foreign, is_among}
 use Rattle.standard_trees.specs.NameLists.{breakouts}
-use Rattle.standard_trees.specs.RuleWords.{Act, Dispatcher, ForeignContent, InTableText, Mode as StandardMode, PopForeignElements, Use, UseCurrentMode, goes}
+use Rattle.standard_trees.specs.RuleWords.{Act, Dispatcher, ForeignContent, Mode as StandardMode, PopForeignElements, Use, UseCurrentMode, goes}
 use Rattle.standard_trees.specs.TreeRules.{rules}
 use Rattle.standard_trees.specs.TreeStore.{Kind, NodeAttr, Space, is_html, is_mathml, space_in}
 use Rattle.page_tokens.specs.Standard.{AreAttrs}
 use Rattle.page_tokens.specs.declared.attribute.TagAttr.{TagAttr}
 use Rattle.page_tokens.specs.declared.token.Tag.{Tag}
 use Rattle.page_trees.specs.Constructs.{ComesTo, Constructs, HaveOneToken, IsCurrentTag, Outcome, Runs, TakesTurn, WithinLimits}
-use Rattle.page_trees.specs.CoveredTurns.{LeavesForeign, ProcessesForeign, covers_acts, covers_foreign_in, covers_foreign_tag, covers_tag, covers_tag_in, is_start_tag, leaving_foreign, ProcessesCovered, uses_current_mode}
+use Rattle.page_trees.specs.CoveredTurns.{LeavesForeign, ProcessesForeign, covers_acts, covers_foreign_tag, covers_tag, covers_tag_in, is_start_tag, leaving_foreign, ProcessesCovered, uses_current_mode}
 use Rattle.standard_order.specs.Order.{has_html}
 use Rattle.page_trees.specs.Foreign.{ends_foreign, has_attr_named, names_font}
 use Rattle.page_trees.specs.ForeignSteps.{InsertsForeign}
@@ -196,14 +196,9 @@ left_foreign name tag old tree new next pops rule within b current row covers st
     (rule within c (still name tag b c refl refl current) (subst (λ (x : StandardMode). covers_tag_in x c ≡ true) here covers)
     (stepped old tree without_foreign pops b refl stands)))
 
-covered_in : (m : StandardMode) (b : Building) → covers_foreign_in m b ≡ true →
-    ((is_start_tag b.token || has_html b) && covers_acts (taken b (rules ForeignContent)) b) ≡ true
-covered_in InTableText b covered = absurd (true≢false (sym covered))
-covered_in _ b covered = covered
-
 pub covered_parts : (b : Building) → covers_foreign_tag b ≡ true →
     ((is_start_tag b.token || has_html b) ≡ true) × (covers_acts (taken b (rules ForeignContent)) b ≡ true)
-covered_parts b covered = both (is_start_tag b.token || has_html b) (covers_acts (taken b (rules ForeignContent)) b) (covered_in b.mode b covered)
+covered_parts b covered = both (is_start_tag b.token || has_html b) (covers_acts (taken b (rules ForeignContent)) b) covered
 
 pub start_left : (name : Name) (tag : Tag) (old new : TreeBuilder) (next : Next) → ends_foreign name tag.attrs.items ≡ true → LeavesForeign name tag old new next →
     is_start_kind tag.kind ≡ true → ProcessesForeign name tag old new next

@@ -15,7 +15,8 @@ use Rattle.page_tokens.specs.declared.token.Tag.{Tag}
 use Rattle.page_tokens.specs.declared.token.TagKind.{TagKind}
 use Rattle.page_trees.specs.BodyTags.{ProcessesInBody, acted, covers_body, covers_end, covers_in_body, covers_start, ends_in, starts_in, suits_body}
 use Rattle.page_trees.specs.Constructs.{Constructs, IsCurrentTag, Outcome, TakesTurn}
-use Rattle.page_trees.specs.FosteredTags.{FostersTag, acts_alone, acts_in_body, ends_there, fosters_tag, is_action, is_fostering, suits_in_body, uses_head}
+use Rattle.page_trees.specs.CharacterSteps.{goes_to_mode}
+use Rattle.page_trees.specs.FosteredTags.{FostersTag, acts_alone, acts_in_body, comes_to_table, ends_there, fosters_tag, is_action, is_fostering, is_image, is_image_start, is_table_mode, names_image, suits_in_body, uses_head}
 use Rattle.page_trees.specs.Groups.{group_named}
 use Rattle.page_trees.specs.Names.{name_of}
 use Rattle.page_trees.specs.TableTexts.{with_fostering}
@@ -29,10 +30,10 @@ use Rattle.page_trees.proofs.TurnsPassed.{turn_passes}
 
 -- ---- the rules that are taken
 
-abbrev fostering_acts : List Act
+abbrev pub fostering_acts : List Act
 fostering_acts = does FosterOn [] ∷ goes (Use InBody) ∷ does FosterOff [] ∷ []
 
-fostering_is : (acts : List Act) → is_fostering acts ≡ true → acts ≡ fostering_acts
+pub fostering_is : (acts : List Act) → is_fostering acts ≡ true → acts ≡ fostering_acts
 fostering_is (does FosterOn [] ∷ goes (Use InBody) ∷ does FosterOff [] ∷ []) e = refl
 fostering_is _ e = absurd (true≢false (sym e))
 
@@ -121,11 +122,31 @@ record IsFostered (name : Name) (tag : Tag) (b : Building) : Type 0 where
   pub covered : covers_body tag.kind name ≡ true
   pub suits : suits_body tag.kind name (with_fostering true b) ≡ true
 
-fostered_by : (name : Name) (tag : Tag) (b : Building) → IsCurrentTag name tag b → fosters_tag b ≡ true → IsFostered name tag b
-fostered_by name tag b current e =
+and_true : (x : Bool) → (x && true) ≡ x
+and_true true = refl
+and_true false = refl
+
+and_false : (x : Bool) → (x && false) ≡ false
+and_false true = refl
+and_false false = refl
+
+-- whether it is the start tag `image`
+image_is : (kind : TagKind) (standard : StandardTag) (name : Name) → kind_of kind ≡ standard.kind → name ≡ name_of standard.name → is_image (token_of standard) ≡ is_image_start name kind
+image_is TagKind.Start standard name e f =
+    ap (λ (k : StandardKind). is_image (token_by k standard)) (sym e) ∙ ap (λ (n : Name). names_image n) (sym f) ∙ sym (and_true (names_image name))
+image_is TagKind.End standard name e f = ap (λ (k : StandardKind). is_image (token_by k standard)) (sym e) ∙ sym (and_false (names_image name))
+
+left_of : (x y : Bool) → y ≡ false → (x || y) ≡ true → x ≡ true
+left_of true y e h = refl
+left_of false y e h = absurd (true≢false (sym h ∙ e))
+
+fostered_by : (name : Name) (tag : Tag) (b : Building) → is_image_start name tag.kind ≡ false → IsCurrentTag name tag b → fosters_tag b ≡ true → IsFostered name tag b
+fostered_by name tag b other current e =
     let on : Building = with_fostering true b in
-    let two = both (is_fostering (taken b (rules InTable))) (acts_in_body on) e in
-    let three = both (ends_there on) (covers_in_body on.token && suits_in_body on.token on) two.1 in
+    let two = both (is_fostering (taken b (rules InTable))) (acts_in_body on || comes_to_table b) e in
+    let no_image : comes_to_table b ≡ false = ap (λ (x : Bool). x && (is_table_mode b.mode && goes_to_mode b.tree))
+    (ap is_image current.token ∙ image_is tag.kind current.standard name current.is.kind current.named ∙ other) in
+    let three = both (ends_there on) (covers_in_body on.token && suits_in_body on.token on) (left_of (acts_in_body on) (comes_to_table b) no_image two.1) in
     let four = both (covers_in_body on.token) (suits_in_body on.token on) three.1 in
     record {
       acts = fostering_is (taken b (rules InTable)) two.0;
@@ -135,9 +156,10 @@ fostered_by name tag b current e =
     }
 
 pub tag_fostered : (name : Name) (tag : Tag) (old first mid new : TreeBuilder) (next : Next) → first ≡ record old { placing = record old.placing { foster = true } } →
-    new ≡ record mid { placing = record mid.placing { foster = false } } → ProcessesInBody name tag first mid next → FostersTag name tag old new next
-tag_fostered name tag old first mid new next e f by within b current html fosters stands =
-    let is = fostered_by name tag b current fosters in
+    new ≡ record mid { placing = record mid.placing { foster = false } } → is_image_start name tag.kind ≡ false → ProcessesInBody name tag first mid next →
+    FostersTag name tag old new next
+tag_fostered name tag old first mid new next e f other by within b current html fosters stands =
+    let is = fostered_by name tag b other current fosters in
     let on : Building = with_fostering true b in
     let here : IsCurrentTag name tag on = record {
       standard = current.standard;

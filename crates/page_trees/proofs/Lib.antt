@@ -45,6 +45,9 @@ pub mod LikeElements
 pub mod ListedEntries
 pub mod ClosedEntries
 pub mod TagKinds
+pub mod TagRules
+pub mod TagsCovered
+pub mod FewListed
 pub mod BuiltRoots
 pub mod BuiltCalls
 pub mod BuiltPlaces
@@ -118,9 +121,15 @@ pub mod TableRules
 pub mod TableRows
 pub mod TableTags
 pub mod TakenOut
-pub mod SimpleEnds
+pub mod ShorterLists
+pub mod FurthestBlocks
 pub mod DroppedElements
 pub mod SplitLists
+pub mod EntryPlaces
+pub mod StackRungs
+pub mod InnerLoop
+pub mod Bookmarks
+pub mod InnerCalls
 pub mod WrappedElements
 pub mod AdoptedChildren
 pub mod ResetLemmas
@@ -144,13 +153,19 @@ pub mod BodyEnds
 pub mod CoveredRuns
 pub mod KeptByCharacters
 pub mod SpacesApart
+pub mod WordsApart
+pub mod NullsFound
 pub mod CharacterTurns
+pub mod TextPieces
+pub mod GroupRuns
+pub mod FosteredImages
 pub mod FinishedPages
 pub mod BodyFormatting
 pub mod EndedForms
 pub mod BodyForms
 pub mod BodyInputs
 pub mod ReturnModes
+pub mod OrderlyTokens
 pub mod OrderlyPages
 pub mod TableInputs
 pub mod ForeignNames
@@ -159,3 +174,6 @@ pub mod ForeignStarts
 pub mod BodyImages
 pub mod ForeignEnds
 pub mod ForeignEndTags
+mod RankLemmas
+mod KeyLemmas
+mod IndexedLists

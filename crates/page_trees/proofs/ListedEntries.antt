@@ -180,7 +180,7 @@ enlisted_built s t p b at stands is there elements =
       elements = All-push (EntryStands t.nodes) room (Entry.Element p) (all_left (EntryStands t.nodes) s.formatting (third_alike s.forest p.id s.formatting) b.listed.elements) (stands, is);
     })
 
-formatting_known : are_known formatting_names ≡ true
+pub formatting_known : are_known formatting_names ≡ true
 unfolding html_rows rare_rows
 formatting_known = refl
 

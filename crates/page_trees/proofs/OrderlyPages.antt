@@ -1,14 +1,23 @@
 -- Of a covered page nothing is asked that is so wherever a turn begins.
-use Rattle.std.specs.Prelude.{◌≡◌, ◌||◌, refl, ℕ, zero, suc, Bool, true, false, not, ◌&&◌, List, [], ◌∷◌, Option, None, Some}
+use Rattle.std.specs.Prelude.{◌≡◌, refl, ℕ, zero, suc, Bool, true, false, not, ◌&&◌, List, [], ◌∷◌, Option, None, Some}
 use Rattle.standard_tokens.specs.Tokens.{Token}
 use Rattle.standard_trees.specs.Building.{Building, is_line_feed, performed, start, taken, with_next}
 use Rattle.standard_trees.specs.RuleWords.{Dispatcher}
 use Rattle.standard_trees.specs.TreeRules.{rules}
+use Rattle.standard_order.specs.Begun.{begun_too, is_begun}
+use Rattle.standard_order.specs.CurrentNodes.{current_too, has_current}
+use Rattle.standard_order.specs.FormattingListed.{formatting_too, lists_formatting}
+use Rattle.standard_order.specs.ListedOnce.{listed_too, lists_each_once}
 use Rattle.standard_order.specs.Order.{in_order_too, is_in_order}
+use Rattle.standard_order.specs.Pending.{without_nulls, without_nulls_too}
+use Rattle.standard_order.proofs.BegunTurns.{turns_are_begun}
+use Rattle.standard_order.proofs.CurrentNodes.{current_nodes_are_known}
+use Rattle.standard_order.proofs.FormattingTurns.{only_formatting_is_listed}
+use Rattle.standard_order.proofs.PendingNulls.{no_null_is_pending}
+use Rattle.standard_order.proofs.ListedTurns.{listing_needs_no_test}
 use Rattle.standard_order.proofs.TurnsRun.{order_needs_no_test}
-use Rattle.page_trees.specs.CoveredTurns.{covered_turn, returns_plainly}
-use Rattle.page_trees.specs.OrderlyTurns.{TurnsAreOrderly, covered_if_orderly, is_orderly, orderly_too}
-use Rattle.page_trees.specs.PagesRead.{page_steps}
+use Rattle.page_trees.specs.CoveredTurns.{returns_plainly}
+use Rattle.page_trees.specs.OrderlyTurns.{TurnsAreOrderly, orderly_too}
 use Rattle.standard_order.specs.Turns.{is_dispatcher, run_while, tree_step_while, tree_steps_while}
 use Rattle.page_trees.proofs.ReturnModes.{returning_too, turns_return}
 use Rattle.page_trees.proofs.DeeperRuns.{BelowIn, performed_below, then_below}
@@ -50,29 +59,34 @@ narrower_steps test other narrow d (token ∷ more) b c h =
     (λ x y k. narrower_steps test other narrow d more x y k) (tree_step_while test d b token) (tree_step_while other d b token)
     (λ x k. narrower_step test other narrow d token b x k) c h
 
-both_orderly : (test : Building → Bool) → IsNarrower (in_order_too (returning_too test)) (orderly_too test)
-both_orderly test b h = by (test b) (returns_plainly b) (is_in_order b) h
+-- what is so wherever a turn begins, one after another
+abbrev pub all_too : (Building → Bool) → Building → Bool
+all_too test = formatting_too (current_too (begun_too (listed_too (without_nulls_too (in_order_too (returning_too test))))))
+
+all_orderly : (test : Building → Bool) → IsNarrower (all_too test) (orderly_too test)
+all_orderly test b h =
+    by (test b) (returns_plainly b) (is_in_order b) (without_nulls b.pending) (lists_each_once b) (is_begun b) (has_current b)
+    (lists_formatting b) h
   where
-    by : (x y z : Bool) → (x && y) && z ≡ true → x && (y && z) ≡ true
-    by true y z k = k
-    by false y z k = k
+    by : (x y z w v u s r : Bool) → ((((((x && y) && z) && w) && v) && u) && s) && r ≡ true →
+        x && (y && (z && (w && (v && (u && (s && r)))))) ≡ true
+    by true true true true true true s r k = k
+    by true true true true true false s r k = k
+    by true true true true false u s r k = k
+    by true true true false v u s r k = k
+    by true true false w v u s r k = k
+    by true false z w v u s r k = k
+    by false y z w v u s r k = k
 
 pub turns_are_orderly : TurnsAreOrderly
 turns_are_orderly test depth scripting tokens end h =
-    narrower_steps (in_order_too (returning_too test)) (orderly_too test) (both_orderly test) depth tokens (start scripting) end
-    (order_needs_no_test (returning_too test) depth scripting tokens end (turns_return test depth scripting tokens end h))
-
-covered_then : IsNarrower (orderly_too covered_if_orderly) covered_turn
-covered_then b h = by (is_orderly b) (covered_turn b) h
+    narrower_steps (all_too test) (orderly_too test) (all_orderly test) depth tokens (start scripting) end
+    (only_formatting_is_listed (current_too (begun_too listed)) depth scripting tokens end
+    (current_nodes_are_known (begun_too listed) depth scripting tokens end
+    (turns_are_begun listed depth scripting tokens end
+    (listing_needs_no_test (without_nulls_too (in_order_too (returning_too test))) depth scripting tokens end
+    (no_null_is_pending (in_order_too (returning_too test)) depth scripting tokens end
+    (order_needs_no_test (returning_too test) depth scripting tokens end (turns_return test depth scripting tokens end h)))))))
   where
-    by : (x y : Bool) → (not x || y) && x ≡ true → y ≡ true
-    by true true k = refl
-    by true false k = cc
-    by false y k = cc
-
--- the turns of a page are covered
-pub turns_covered : (depth : ℕ) (scripting : Bool) (all : List Token) (end : Building) →
-    tree_steps_while covered_if_orderly depth (start scripting) all ≡ Some end → page_steps depth scripting all ≡ Some end
-turns_covered depth scripting all end h =
-    narrower_steps (orderly_too covered_if_orderly) covered_turn covered_then depth all (start scripting) end
-    (turns_are_orderly covered_if_orderly depth scripting all end h)
+    listed : Building → Bool
+    listed = listed_too (without_nulls_too (in_order_too (returning_too test)))

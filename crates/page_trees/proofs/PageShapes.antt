@@ -16,8 +16,8 @@ use Rattle.dom_links.specs.Forest.{Forest, children_of}
 use Rattle.dom_trees.specs.Views.{node_is}
 use Rattle.standard_trees.specs.GrowingTree.{GrowingTree}
 use Rattle.standard_trees.specs.TreeStore.{CommentNode, ContentsNode, DoctypeNode, DocumentNode, ElementNode, Html, Kind, MathMl, Node, Svg, TextNode, node_at}
-use Rattle.page_trees.specs.PageShape.{are_page_parts, child_elements, has_page_parts, is_body_or_frameset, is_comment_kind, is_doctype_kind, is_element_kind}
-use Rattle.page_trees.specs.PageShape.{is_html_at, is_html_kind, is_page_of, is_page_top, uncommented}
+use Rattle.standard_order.specs.PageShape.{are_page_parts, child_elements, has_page_parts, is_body_or_frameset, is_comment_kind, is_doctype_kind, is_element_kind}
+use Rattle.standard_order.specs.PageShape.{is_html_at, is_html_kind, is_page_of, is_page_top, uncommented}
 use Rattle.page_trees.specs.SameNodes.{AreNodes, IsKind}
 use Rattle.page_trees.specs.Shape.{IsPage, are_parts, besides_comments, elements_of, has_parts, is_contents, is_html, is_top as is_whole_top}
 use Rattle.page_trees.proofs.KeptElements.{past_kind}

@@ -1,8 +1,8 @@
 -- How the reader goes on: the tokenizer reads on, and tree construction is told what it read.
-use Rattle.std.proofs.Common.{◌≡◌, ◌∙◌, ◌∷◌, ◌++◌, Bool, List, [], ap, length, map, refl, subst, sym, true, ℕ}
+use Rattle.std.proofs.Common.{◌≡◌, ◌∙◌, ◌∷◌, ◌++◌, ◌&&◌, Bool, List, [], ap, false, length, map, not, refl, subst, sym, true, ℕ}
 use Rattle.std.specs.List.{list_all}
 use Rattle.std.specs.Option.{option_and_then}
-use Rattle.std.specs.Prelude.{◌≢◌, Err, None, Ok, OnOk, Option, Result, Some, encode_utf8_all, nat_eq, option_map, unwrap_or}
+use Rattle.std.specs.Prelude.{◌≢◌, ◌==◌, Err, None, Ok, OnOk, Option, Result, Some, encode_utf8_all, nat_eq, option_map, unwrap_or}
 use Rattle.std.proofs.lemmas.Bool.{and_parts, eqb-true}
 use Rattle.std.proofs.lemmas.List.{append-nil, append_assoc, nil_from_length}
 use Rattle.std.proofs.lemmas.List.Folds.{list_all-append}
@@ -21,22 +21,23 @@ use Rattle.page_tokens.specs.PageLaws.{CharactersAreTold, IsAnswered, PagesBegin
 use Rattle.page_tokens.specs.PlainNames.{NamesArePlain, has_plain_names}
 use Rattle.page_tokens.specs.Reading.{text_of}
 use Rattle.page_tokens.specs.Standard.{Told}
-use Rattle.page_tokens.specs.StandardPages.{BeginsPage, HasRead, IsOfPage, IsTextState, ReadsText, ReadsUpTo, told_or}
-use Rattle.page_tokens.specs.StandardStates.{state_of}
+use Rattle.page_tokens.specs.StandardPages.{BeginsPage, HasRead, IsTextState, ReadsText, ReadsUpTo, told_or}
+use Rattle.page_tokens.specs.StandardStates.{may_begin_cdata, state_of}
+use Rattle.page_tokens.specs.TextStates.{wants_characters_of}
 use Rattle.page_tokens.specs.declared.token.TokenKind.{TokenKind}
 use Rattle.page_tokens.specs.declared.token.TokenKind.TheVariants as kind
 use Rattle.page_tokens.specs.declared.tokenizer.Tokenizer.{Tokenizer}
 use Rattle.page_tokens.specs.declared.tokenizer.state.State.{State}
 use Rattle.page_trees.specs.Constructs.{Constructs, RemembersLimits, WithinLimits, state_for}
 use Rattle.page_trees.specs.CoveredTurns.{FewTurns, TakesTokens, covered_turn}
-use Rattle.page_trees.proofs.OrderlyPages.{turns_covered}
-use Rattle.page_trees.specs.PagesRead.{HasBuilt, HasBuiltUpTo, HasEnded, IsBehind, IsCovered, ReadsEnd, ReadsPiece, ReadsRest, ReadsSome, TellsAll, TellsLast}
+use Rattle.page_trees.proofs.FewListed.{turns_covered}
+use Rattle.page_trees.specs.PagesRead.{HasBuilt, HasBuiltUpTo, HasEnded, IsAtEnd, IsBehind, IsCovered, ReadsEnd, ReadsPiece, ReadsRest, ReadsSome, TellsAll, TellsLast}
 use Rattle.page_trees.specs.PagesRead.{TellsRead, answered, page_feedback, page_steps}
 use Rattle.page_trees.specs.Stands.{Tells}
 use Rattle.standard_order.specs.Turns.{tree_step_while, tree_steps_while}
 use Rattle.page_trees.specs.declared.builder.TreeBuilder.{TreeBuilder}
 use Rattle.page_trees.specs.declared.reading.PageReader.{PageReader}
-use Rattle.page_trees.proofs.PageFlags.{flag_told, foreign_now, of_page}
+use Rattle.page_trees.proofs.PageFlags.{flag_told}
 use Rattle.page_trees.proofs.PageFronts.{Later, front_of_all, one_list}
 use Rattle.page_trees.proofs.TokenAnswers.{honest, step_quiet}
 use Rattle.page_trees.proofs.TurnsPassed.{first_steps, while_all_steps, while_steps}
@@ -151,18 +152,16 @@ some_answer depth scripting told = by (tree_steps depth (start scripting) told)
     by (Some c) = (c.tokenizer, refl)
 
 -- the tokens that were told are a front of all
-told_front : (cdata : Bool) (f : Feedback) (read rest : List ℕ) (told all : List Token) (t : Tokenizer) → HasRead cdata f Data read told t →
-    IsOfPage cdata f Data (normalized (read ++ rest)) → ReadsPage f (read ++ rest) all → Later told all
-told_front cdata f read rest told all t has of whole =
-    let at = has rest of in
+told_front : (f : Feedback) (read rest : List ℕ) (told all : List Token) (t : Tokenizer) → HasRead f Data read told t → ReadsPage f (read ++ rest) all → Later told all
+told_front f read rest told all t has whole =
+    let at = has rest in
     let l : Later (told ++ map AChar at.kept) all = front_of_all f (read ++ rest) all _ whole at.reads in
     record { more = map AChar at.kept ++ l.more; is = l.is ∙ append_assoc told (map AChar at.kept) l.more }
 
 -- and their names are plain
-told_plain : NamesArePlain → (cdata : Bool) (f : Feedback) (read rest : List ℕ) (told : List Token) (t : Tokenizer) → HasRead cdata f Data read told t →
-    IsOfPage cdata f Data (normalized (read ++ rest)) → list_all has_plain_names told ≡ true
-told_plain names cdata f read rest told t has of =
-    let at = has rest of in
+told_plain : NamesArePlain → (f : Feedback) (read rest : List ℕ) (told : List Token) (t : Tokenizer) → HasRead f Data read told t → list_all has_plain_names told ≡ true
+told_plain names f read rest told t has =
+    let at = has rest in
     (and_parts (list_all has_plain_names told) (list_all has_plain_names (map AChar at.kept))
     (sym (list_all-append has_plain_names told (map AChar at.kept)) ∙ names f Data (normalized (read ++ rest)) _ at.reads)).0
 
@@ -212,26 +211,33 @@ within_before n new e within = record {
   depth = sym (ap (λ (s : TreeBuilder). s.too_deep) e) ∙ within.depth;
 }
 
+-- where no characters are kept, none have to be told
+wants_nothing : (t : Tokenizer) → text_of t ≡ [] → wants_characters_of t ≡ false
+wants_nothing t empty = ap (λ (text : List ℕ). may_begin_cdata t.state && not (length text == 0)) empty ∙ by (may_begin_cdata t.state)
+  where
+    by : (b : Bool) → (b && false) ≡ false
+    by true = refl
+    by false = refl
+
 -- ---- a token is told
 
 pub token_told : (kind : TokenKind) (old mid new : PageReader) → NamesArePlain → RemembersLimits old.builder mid.builder → TellsAll (Some kind) old mid → Answers old mid new →
     TellsRead (Some kind) old new
-token_told kind old mid new names remembers tells answers scripting read ended within rest cdata depth all end covered =
+token_told kind old mid new names remembers tells answers scripting read ended within = (wants_nothing new.tokens answers.empty, λ rest depth all end covered.
     let within_mid : WithinLimits mid.builder = within_before mid.builder new.builder answers.builder within in
-    let e : HasEnded cdata depth scripting read kind old = ended (remembers within_mid) rest cdata depth all end covered in
-    let of = of_page cdata depth scripting (read ++ rest) all end covered in
+    let e : HasEnded depth scripting read kind old = ended (remembers within_mid) rest depth all end covered in
     let f : Feedback = page_feedback depth scripting in
     let more : List Token = map AChar e.tokens.characters ++ e.tokens.token ∷ [] in
     let told : List Token = e.told ++ map AChar e.tokens.characters ++ e.tokens.token ∷ [] in
     let any = some_answer depth scripting told in
     let other : Tokenizer = record old.tokens { state = unwrap_or (option_map state_for any.0) old.tokens.state; text = new.tokens.text } in
-    let has : HasRead cdata f Data read told other = e.tokens.goes_on other (record {
+    let has : HasRead f Data read told other = e.tokens.goes_on other (record {
       only = refl;
       empty = answers.empty;
       state = subst (λ answer. IsAnswered answer old.tokens other) (sym any.1) (is_answered any.0 old.tokens other refl);
     }) in
-    let c = front_steps depth scripting told all end (turns_covered depth scripting all end covered.builds) (told_front cdata f read rest told all other has of covered.reads) in
-    let plain = last_of e.told (map AChar e.tokens.characters) e.tokens.token (told_plain names cdata f read rest told other has of) in
+    let c = front_steps depth scripting told all end (turns_covered depth scripting all end covered.builds) (told_front f read rest told all other has covered.reads) in
+    let plain = last_of e.told (map AChar e.tokens.characters) e.tokens.token (told_plain names f read rest told other has) in
     let takes : TakesTokens more old.builder mid.builder = tells e.tokens.characters e.tokens.text (e.tokens.token ∷ []) e.tokens.is plain in
     let steps = next_steps depth scripting e.told more e.now c.0 e.builds
     (ap (page_steps depth scripting) (sym (append_assoc e.told (map AChar e.tokens.characters) (e.tokens.token ∷ []))) ∙ c.1) in
@@ -251,7 +257,7 @@ token_told kind old mid new names remembers tells answers scripting read ended w
       builds = c.1;
       stands = subst (λ (s : TreeBuilder). Constructs s (answered c.0)) (sym answers.builder) stood;
       switch = ap (λ (s : TreeBuilder). s.switch) answers.builder;
-    }
+    })
 
 -- the characters before it, and then the token
 one_told : (kind : TokenKind) (t : Tokenizer) (tokens : List Token) → Told (Some kind) t tokens → (token : Token) × (tokens ≡ token ∷ [])
@@ -279,11 +285,11 @@ token_and_text kind old mid new only chars remembers builds cs text tokens told 
 
 pub characters_told : (old mid new : PageReader) → CharactersAreTold → RemembersLimits old.builder mid.builder →
     ((cs : List ℕ) → text_of old.tokens ≡ encode_utf8_all cs → TakesTokens (map AChar cs) old.builder mid.builder) → Answers old mid new → TellsRead None old new
-characters_told old mid new law remembers tells answers scripting read has within rest cdata depth all end covered =
+characters_told old mid new law remembers tells answers scripting read has within = (wants_nothing new.tokens answers.empty, λ rest depth all end covered.
     let within_mid : WithinLimits mid.builder = within_before mid.builder new.builder answers.builder within in
-    let e : IsBehind cdata depth scripting read old = has (remembers within_mid) rest cdata depth all end covered in
+    let e : IsBehind depth scripting read old = has (remembers within_mid) rest depth all end covered in
     let f : Feedback = page_feedback depth scripting in
-    let at = e.tokens rest (of_page cdata depth scripting (read ++ rest) all end covered) in
+    let at = e.tokens rest in
     let cs : List ℕ = at.kept in
     let told : List Token = e.told ++ map AChar cs in
     let c = front_steps depth scripting told all end (turns_covered depth scripting all end covered.builds) (front_of_all f (read ++ rest) all _ covered.reads at.reads) in
@@ -295,7 +301,7 @@ characters_told old mid new law remembers tells answers scripting read has withi
     record {
       told = told;
       now = c.0;
-      tokens = law cdata f Data read e.told old.tokens new.tokens e.tokens (record {
+      tokens = law f Data read e.told old.tokens new.tokens e.tokens (record {
         only = answers.tokens ∙ ap (λ s. record old.tokens { state = unwrap_or s old.tokens.state; text = new.tokens.text; in_foreign = new.tokens.in_foreign }) none;
         empty = answers.empty;
       }) cs at.text;
@@ -303,7 +309,11 @@ characters_told old mid new law remembers tells answers scripting read has withi
       builds = c.1;
       stands = subst (λ (s : TreeBuilder). Constructs s (answered c.0)) (sym answers.builder) stood;
       switch = ap (λ (s : TreeBuilder). s.switch) answers.builder;
-    }
+    })
+
+-- characters don't have to be told
+pub none_told : (r : PageReader) → wants_characters_of r.tokens ≡ false → TellsRead None r r
+none_told r wants scripting read has within = (wants, has within)
 
 -- ---- the tokenizer reads on
 
@@ -311,35 +321,36 @@ ended_as : (told kind : Option TokenKind) → kind ≡ told_or told None → tol
 ended_as None kind e = sym e
 ended_as (Some one) kind e = sym e
 
-covered_on : (cdata : Bool) (depth : ℕ) (scripting : Bool) (read more rest : List ℕ) (all : List Token) (end : Building) →
-    IsCovered cdata depth scripting ((read ++ more) ++ rest) all end → IsCovered cdata depth scripting (read ++ (more ++ rest)) all end
-covered_on cdata depth scripting read more rest all end covered = subst (λ text. IsCovered cdata depth scripting text all end) (append_assoc read more rest) covered
+covered_on : (depth : ℕ) (scripting : Bool) (read more rest : List ℕ) (all : List Token) (end : Building) →
+    IsCovered depth scripting ((read ++ more) ++ rest) all end → IsCovered depth scripting (read ++ (more ++ rest)) all end
+covered_on depth scripting read more rest all end covered = subst (λ text. IsCovered depth scripting text all end) (append_assoc read more rest) covered
 
 read_on : (kind : Option TokenKind) (old new : PageReader) → TextsAreRead → TokensAreRead → new.builder ≡ old.builder →
     (more : List ℕ) → ReadsText old.tokens new.tokens more kind →
     (scripting : Bool) (read : List ℕ) → HasBuilt scripting read old → HasBuiltUpTo kind scripting (read ++ more) new
-read_on None old new texts tokens builder more reads scripting read has = λ within rest cdata depth all end covered.
-    let whole = covered_on cdata depth scripting read more rest all end covered in
-    let e : IsBehind cdata depth scripting read old = has (subst WithinLimits builder within) (more ++ rest) cdata depth all end whole in
+read_on None old new texts tokens builder more reads scripting read has = λ within rest depth all end covered.
+    let whole = covered_on depth scripting read more rest all end covered in
+    let built = has (subst WithinLimits builder within) in
+    let e : IsBehind depth scripting read old = built.1 (more ++ rest) depth all end whole in
     record {
       told = e.told;
       now = e.now;
-      tokens = texts cdata (page_feedback depth scripting) Data read more e.told old.tokens new.tokens (honest depth (start scripting))
-          (foreign_now cdata (page_feedback depth scripting) e.told old.tokens.in_foreign e.flag) e.tokens reads;
+      tokens = texts (page_feedback depth scripting) Data read more e.told old.tokens new.tokens (honest depth (start scripting))
+          (record { flag = e.flag; wants = built.0 }) e.tokens reads;
       flag = e.flag ∙ sym reads.in_foreign;
       builds = e.builds;
       stands = subst (λ (s : TreeBuilder). Constructs s (answered e.now)) (sym builder) e.stands;
       switch = ap (λ (s : TreeBuilder). s.switch) builder ∙ e.switch;
     }
-read_on (Some kind) old new texts tokens builder more reads scripting read has = λ within rest cdata depth all end covered.
-    let whole = covered_on cdata depth scripting read more rest all end covered in
-    let e : IsBehind cdata depth scripting read old = has (subst WithinLimits builder within) (more ++ rest) cdata depth all end whole in
+read_on (Some kind) old new texts tokens builder more reads scripting read has = λ within rest depth all end covered.
+    let whole = covered_on depth scripting read more rest all end covered in
+    let built = has (subst WithinLimits builder within) in
+    let e : IsBehind depth scripting read old = built.1 (more ++ rest) depth all end whole in
     record {
       told = e.told;
       now = e.now;
-      tokens = tokens cdata (page_feedback depth scripting) Data read more e.told old.tokens new.tokens kind (honest depth (start scripting))
-          (foreign_now cdata (page_feedback depth scripting) e.told old.tokens.in_foreign e.flag) e.tokens reads
-          rest (of_page cdata depth scripting ((read ++ more) ++ rest) all end covered);
+      tokens = tokens (page_feedback depth scripting) Data read more e.told old.tokens new.tokens kind (honest depth (start scripting))
+          (record { flag = e.flag; wants = built.0 }) e.tokens reads;
       builds = e.builds;
       stands = subst (λ (s : TreeBuilder). Constructs s (answered e.now)) (sym builder) e.stands;
       switch = ap (λ (s : TreeBuilder). s.switch) builder ∙ e.switch;
@@ -379,10 +390,10 @@ none_left text rest a b e = subst (λ left. ReadsSome text left a b) (nil_from_l
 
 pub piece_fed : (piece cs : List ℕ) (old new : PageReader) (scripting : Bool) (read : List ℕ) → ReadsSome piece [] old new → RemembersLimits old.builder new.builder →
     piece ≡ encode_utf8_all cs → HasBuilt scripting read old → HasBuilt scripting (read ++ cs) new
-piece_fed piece cs old new scripting read reads remembers spelt has within rest cdata depth all end covered =
+piece_fed piece cs old new scripting read reads remembers spelt has within =
     let p : ReadsPiece piece [] old new = reads within in
     let same : p.more ≡ cs = encodes_same p.more cs (sym (append-nil (encode_utf8_all p.more)) ∙ sym p.cut ∙ spelt) in
-    subst (λ more. HasBuilt scripting (read ++ more) new) same (p.reads scripting read has) within rest cdata depth all end covered
+    subst (λ more. HasBuilt scripting (read ++ more) new) same (p.reads scripting read has) within
 
 pub on_ok : {T E : Type 0} → (r : Result T E) (A : Type 0) → A → OnOk r A
 on_ok (Ok x) A a = a
@@ -407,14 +418,13 @@ token_last kind.Tag old new other tells = absurd (other refl)
 
 pub rest_told : (kind : Option TokenKind) (old mid last new : PageReader) → PagesEnd → mid ≡ record old { tokens = mid.tokens } → EndsPage old.tokens mid.tokens kind →
     RemembersLimits mid.builder last.builder → TellsLast kind mid last → new.builder ≡ record last.builder { switch = None } → ReadsRest old new
-rest_told kind old mid last new law only ends remembers tells builder scripting read has within cdata depth all end covered =
+rest_told kind old mid last new law only ends remembers tells builder scripting read has within depth all end covered =
     let within_last : WithinLimits last.builder = within_before last.builder new.builder builder within in
     let same : mid.builder ≡ old.builder = ap (λ (r : PageReader). r.builder) only in
-    let whole : IsCovered cdata depth scripting (read ++ []) all end = subst (λ text. IsCovered cdata depth scripting text all end) (sym (append-nil read)) covered in
-    let e : IsBehind cdata depth scripting read old = has (subst WithinLimits same (remembers within_last)) [] cdata depth all end whole in
+    let whole : IsCovered depth scripting (read ++ []) all end = subst (λ text. IsCovered depth scripting text all end) (sym (append-nil read)) covered in
+    let e : IsBehind depth scripting read old = (has (subst WithinLimits same (remembers within_last))).1 [] depth all end whole in
     let f : Feedback = page_feedback depth scripting in
-    let last_told = law cdata f Data read e.told old.tokens mid.tokens kind (honest depth (start scripting)) (foreign_now cdata f e.told old.tokens.in_foreign e.flag) e.tokens
-    (of_page cdata depth scripting read all end covered) ends in
+    let last_told = law f Data read e.told old.tokens mid.tokens kind (honest depth (start scripting)) e.tokens ends in
     let more : List Token = map AChar last_told.characters ++ last_told.tokens in
     let told : List Token = e.told ++ map AChar last_told.characters ++ last_told.tokens in
     let are : all ≡ told ++ AnEof ∷ [] = one_list f read (told ++ AnEof ∷ []) all last_told.whole covered.reads in
@@ -434,26 +444,30 @@ rest_told kind old mid last new law only ends remembers tells builder scripting 
 
 -- and then the end of the file
 pub end_told : (old mid new : PageReader) → ReadsRest old mid → RemembersLimits mid.builder new.builder → TakesTokens (AnEof ∷ []) mid.builder new.builder → ReadsEnd old new
-end_told old mid new rest remembers takes scripting read has within cdata depth all end covered =
-    let b = rest scripting read has (remembers within) cdata depth all end covered in
+end_told old mid new rest remembers takes scripting read has within depth all end covered =
+    let b = rest scripting read has (remembers within) depth all end covered in
     let steps = next_steps depth scripting b.told (AnEof ∷ []) b.now end b.builds (sym (ap (page_steps depth scripting) b.are) ∙ turns_covered depth scripting all end covered.builds) in
-    takes b.switch within (answered b.now) b.stands depth covered.few end (first_answered depth b.now AnEof [] ∙ steps)
+    record {
+      told = b.told;
+      are = b.are;
+      stands = takes b.switch within (answered b.now) b.stands depth covered.few end (first_answered depth b.now AnEof [] ∙ steps);
+    }
 
 -- and then parse errors are noted, which change nothing within the limits
 pub ended_noted : (old mid new : PageReader) → (WithinLimits new.builder → new.builder ≡ mid.builder) → ReadsEnd old mid → ReadsEnd old new
-ended_noted old mid new same ends scripting read has within cdata depth all end covered =
-    subst (λ (s : TreeBuilder). Constructs s end) (sym (same within)) (ends scripting read has (subst WithinLimits (same within) within) cdata depth all end covered)
+ended_noted old mid new same ends scripting read has within depth all end covered =
+    subst (λ (s : TreeBuilder). IsAtEnd all end s) (sym (same within)) (ends scripting read has (subst WithinLimits (same within) within) depth all end covered)
 
 -- ---- the beginning
 
 pub page_begun : (scripting : Bool) (r : PageReader) → PagesBegin → BeginsPage r.tokens → text_of r.tokens ≡ [] → r.builder.switch ≡ None →
     Constructs r.builder (start scripting) → HasBuilt scripting [] r
-page_begun scripting r law begins empty switch stands within rest cdata depth all end covered = record {
+page_begun scripting r law begins empty switch stands within = (wants_nothing r.tokens empty, λ rest depth all end covered. record {
   told = [];
   now = start scripting;
-  tokens = law cdata (page_feedback depth scripting) Data r.tokens begins.after_return empty begins.holds;
+  tokens = law (page_feedback depth scripting) Data r.tokens begins.after_return empty begins.holds;
   flag = sym begins.in_foreign;
   builds = refl;
   stands = stands;
   switch = switch;
-}
+})

@@ -74,7 +74,7 @@ runs mode b actions Next.Again same e = (
   λ test d c h. turn_again test actions b d c (turn_of test d mode b c (plainly actions Next.Again) e h),
 )
 
-comes_by : (mode other : StandardMode) (b c : Building) → taken b (rules mode) ≡ goes (Use other) ∷ [] → ComesTo other b c → ComesTo mode b c
+pub comes_by : (mode other : StandardMode) (b c : Building) → taken b (rules mode) ≡ goes (Use other) ∷ [] → ComesTo other b c → ComesTo mode b c
 unfolding run
 comes_by mode other b c e h = (suc h.0, ap (λ acts. performed (run h.0) acts b) e ∙ ap (option_and_then (λ x. Some x)) h.1)
 

@@ -1,6 +1,6 @@
 -- What comes of a run of characters, by what the code does with it.
 use Rattle.std.proofs.Common.{◌≡◌, ℕ, Bool, true, false, ◌&&◌, ◌||◌, not, List, [], ◌∷◌, refl, sym, ap, subst, ◌∙◌, true≢false, inl, inr, if◌then◌else◌}
-use Rattle.std.proofs.lemmas.Bool.{cases_Bool, eqb-true}
+use Rattle.std.proofs.lemmas.Bool.{cases_Bool}
 use Rattle.std.specs.List.{list_all}
 use Rattle.std.specs.Prelude.{IfSome}
 use Rattle.standard_tokens.specs.Tokens.{AChar}
@@ -11,7 +11,7 @@ use Rattle.standard_trees.specs.RuleWords.{Action, Dispatcher, Mode as StandardM
 use Rattle.standard_trees.specs.TreeRules.{rules}
 use Rattle.standard_trees.specs.TreeStore.{NodeAttr}
 use Rattle.page_trees.specs.CharacterSteps.{Completes, RunOutcome, covers_between, covers_characters, covers_closed, covers_in_mode, covers_open, fits_mode}
-use Rattle.page_trees.specs.CharacterSteps.{goes_to_mode, has_begun, has_no_null, inserted_in_body, is_dropping, is_null, is_run, is_white, ok_behind, ok_behind_all, way_of, way_of_letters, way_of_nulls, way_of_spaces}
+use Rattle.page_trees.specs.CharacterSteps.{goes_to_mode, has_begun, has_no_null, inserted_in_body, is_dropping, is_null, is_run, ok_behind, ok_behind_all, way_of, way_of_letters, way_of_nulls, way_of_spaces}
 use Rattle.page_trees.specs.Constructs.{Constructs, HaveOneToken, LeavesBy, WithinLimits, all_performed, leaving}
 use Rattle.page_trees.specs.Modes.{drops_letters, joins_spaces, mode_of}
 use Rattle.page_trees.specs.declared.builder.Mode.{Mode}
@@ -95,10 +95,10 @@ no_nulls cs e = (both (has_no_null cs) (not (list_all is_space cs)) e).0
 pub some_letter : (cs : List ℕ) → is_run Run.Letters cs ≡ true → list_all is_space cs ≡ false
 some_letter cs e = negated (list_all is_space cs) (both (has_no_null cs) (not (list_all is_space cs)) e).1
 
-first_no_null : (c : ℕ) (cs : List ℕ) → is_run Run.Letters (c ∷ cs) ≡ true → is_null c ≡ false
+pub first_no_null : (c : ℕ) (cs : List ℕ) → is_run Run.Letters (c ∷ cs) ≡ true → is_null c ≡ false
 first_no_null c cs e = negated (is_null c) (both (not (is_null c)) (has_no_null cs) (no_nulls (c ∷ cs) e)).0
 
-rest_no_null : (c : ℕ) (cs : List ℕ) → is_run Run.Letters (c ∷ cs) ≡ true → has_no_null cs ≡ true
+pub rest_no_null : (c : ℕ) (cs : List ℕ) → is_run Run.Letters (c ∷ cs) ≡ true → has_no_null cs ≡ true
 rest_no_null c cs e = (both (not (is_null c)) (has_no_null cs) (no_nulls (c ∷ cs) e)).1
 
 all_pass : (cs : List ℕ) → list_all (λ c. true) cs ≡ true
@@ -110,7 +110,7 @@ all_pass (c ∷ cs) = all_pass cs
 abbrev Goes : GrowingTree → Type 0
 Goes t = goes_to_mode t ≡ true
 
-nothing_more : (b : Building) → Treats b (λ c. false) (λ t. Unit {0}) (λ c t. t) (λ c ok. ok)
+pub nothing_more : (b : Building) → Treats b (λ c. false) (λ t. Unit {0}) (λ c t. t) (λ c ok. ok)
 nothing_more b = record { once = λ t ok c attrs good pass. absurd (true≢false (sym pass)); good = λ t c good. good }
 
 ignoring : (m : Mode) (b : Building) → b.mode ≡ mode_of m → way_of_spaces m ≡ RunWay.Ignore → Treats b is_space Goes (λ c t. t) (λ c ok. ok)
@@ -177,10 +177,10 @@ letters_dropped Mode.AfterFrameset e = (refl, refl)
 letters_dropped Mode.AfterAfterFrameset e = (refl, refl)
 letters_dropped _ e = absurd (cc)
 
-abbrev is_letter : ℕ → Bool
+abbrev pub is_letter : ℕ → Bool
 is_letter c = not (is_null c) && not (is_space c)
 
-all_letters : (cs : List ℕ) → has_no_null cs ≡ true → list_all (λ c. not (is_space c)) cs ≡ true → list_all is_letter cs ≡ true
+pub all_letters : (cs : List ℕ) → has_no_null cs ≡ true → list_all (λ c. not (is_space c)) cs ≡ true → list_all is_letter cs ≡ true
 all_letters [] one other = refl
 all_letters (c ∷ cs) one other =
     let two = both (not (is_null c)) (has_no_null cs) one in
@@ -188,7 +188,7 @@ all_letters (c ∷ cs) one other =
     ap (λ (x : Bool). (x && not (is_space c)) && list_all is_letter cs) two.0 ∙ ap (λ (x : Bool). x && list_all is_letter cs) three.0 ∙ all_letters cs two.1 three.1
 
 -- no white space is in a run that fits a mode which drops letters
-rest_of_letters : (m : Mode) (c : ℕ) (cs : List ℕ) → fits_mode m Run.Letters (c ∷ cs) ≡ true → drops_letters m ≡ true → list_all (λ c. not (is_space c)) cs ≡ true
+pub rest_of_letters : (m : Mode) (c : ℕ) (cs : List ℕ) → fits_mode m Run.Letters (c ∷ cs) ≡ true → drops_letters m ≡ true → list_all (λ c. not (is_space c)) cs ≡ true
 rest_of_letters m c cs fits drops =
     sym (ap (λ (x : Bool). not x || list_all (λ c. not (is_space c)) cs) drops)
     ∙ (both (joins_spaces m || not (is_space c)) (not (drops_letters m) || list_all (λ c. not (is_space c)) cs) fits).1
@@ -422,30 +422,22 @@ nulls_leave Mode.AfterFrameset e = absurd (cc)
 nulls_leave Mode.AfterAfterFrameset e = absurd (cc)
 nulls_leave _ e = refl
 
-no_spaces_leave : (m : Mode) → way_of_spaces m ≡ RunWay.Leave → ⊥
+pub no_spaces_leave : (m : Mode) → way_of_spaces m ≡ RunWay.Leave → ⊥
 no_spaces_leave Mode.InBody e = cc
 no_spaces_leave _ e = cc
 
-null_no_space : (c : ℕ) → is_null c ≡ true → is_space c ≡ false
-null_no_space c e = ap is_space (eqb-true c 0 e)
-
-plainly_left : (m : Mode) (b : Building) (c : ℕ) → b.token ≡ AChar c → is_space c ≡ false → way_of_letters m ≡ RunWay.Leave → covers_characters b ≡ true → goes_to_mode b.tree ≡ true →
-    b.mode ≡ mode_of m → left_plainly m ≡ true
-plainly_left m b c token other way covered goes mode = by (left_plainly m) refl
-  where
-    by : (x : Bool) → left_plainly m ≡ x → x ≡ true
-    by true e = refl
-    by false e = absurd (true≢false (sym (covered_here Mode.InColumnGroup b covered goes (mode ∙ ap mode_of (left_otherwise m way e)) refl) ∙ ap is_white token ∙ other))
-
 pub run_left : (kind : Run) (old new : TreeBuilder) (next : Next) (c : ℕ) (cs : List ℕ) → way_of kind old.mode ≡ RunWay.Leave → is_run kind (c ∷ cs) ≡ true →
     fits_mode old.mode kind (c ∷ cs) ≡ true → IfSome (leaving old.mode) (λ actions. LeavesBy actions old new next) → WithinLimits new → (b : Building) → b.token ≡ AChar c →
-    goes_to_mode b.tree ≡ true → covers_characters b ≡ true → Constructs old b → RunOutcome kind c cs b new next
-run_left Run.Letters old new next c cs way is fits by within b token goes covered stands =
-    let letter = begins_with_letter old.mode c cs fits (letters_leave old.mode way) in
-    letter_leaves Run.Letters old.mode (plainly_left old.mode b c token letter way covered goes stands.mode) old new next c cs (letter_alike c (first_no_null c cs is) letter)
-    (λ keeps. fits_plainly new.mode c cs letter keeps) by refl within b token goes stands
-run_left Run.Nulls old new next c [] way is fits by within b token goes covered stands =
-    null_leaves Run.Nulls old.mode (plainly_left old.mode b c token (null_no_space c is) (nulls_leave old.mode way) covered goes stands.mode) old new next c [] (null_alike c is)
-    (λ keeps. refl) by refl within b token goes stands
-run_left Run.Nulls old new next c (d ∷ cs) way is fits by within b token goes covered stands = absurd (true≢false (sym is))
-run_left Run.Spaces old new next c cs way is fits by within b token goes covered stands = absurd (no_spaces_leave old.mode way)
+    goes_to_mode b.tree ≡ true → Constructs old b → (old.mode ≡ Mode.InColumnGroup → RunOutcome kind c cs b new next) → RunOutcome kind c cs b new next
+run_left Run.Letters old new next c cs way is fits by within b token goes stands group = elim (cases_Bool (left_plainly old.mode)) [
+  | inl plain ↦ (let letter = begins_with_letter old.mode c cs fits (letters_leave old.mode way) in
+      letter_leaves Run.Letters old.mode plain old new next c cs (letter_alike c (first_no_null c cs is) letter)
+      (λ keeps. fits_plainly new.mode c cs letter keeps) by refl within b token goes stands)
+  | inr other ↦ group (left_otherwise old.mode way other)
+]
+run_left Run.Nulls old new next c [] way is fits by within b token goes stands group = elim (cases_Bool (left_plainly old.mode)) [
+  | inl plain ↦ null_leaves Run.Nulls old.mode plain old new next c [] (null_alike c is) (λ keeps. refl) by refl within b token goes stands
+  | inr other ↦ group (left_otherwise old.mode (nulls_leave old.mode way) other)
+]
+run_left Run.Nulls old new next c (d ∷ cs) way is fits by within b token goes stands group = absurd (true≢false (sym is))
+run_left Run.Spaces old new next c cs way is fits by within b token goes stands group = absurd (no_spaces_leave old.mode way)

@@ -179,7 +179,7 @@ all_apart (x ∷ xs) ys = ap (λ (y : Bool). not (is_null x) && y) (all_apart xs
 no_null : (n : ℕ) → 1 ≤ n → not (is_null n) ≡ true
 no_null n low = ap not (ne_eqb n 0 (λ e. absurd (omega (arith, low, e))))
 
-high_no_null : (c : ℕ) → 128 ≤ c → has_no_null (encode c) ≡ true
+pub high_no_null : (c : ℕ) → 128 ≤ c → has_no_null (encode c) ≡ true
 unfolding encode
 high_no_null c h = rw (not_low c h) (each (nat_lt c 2048) (nat_lt c 65536))
   where

@@ -140,7 +140,7 @@ last_apart f ys y order = All-from_get_or (λ (o : Open). y.id ≡ o.id → ⊥)
     let high : get_or (ys ++ y ∷ []) (length ys) y ≡ y = get_or-append_seam ys y [] y in
     order i (length ys) y within (omega (arith, long)) (inl (ap (λ (o : Open). o.id) high ∙ e ∙ ap (λ (o : Open). o.id) (sym low))))
 
-order_once : (f : Forest) (xs : List Open) → IsInOrder f xs → opens_once (map (λ o. o.id) (reverse xs)) ≡ true
+pub order_once : (f : Forest) (xs : List Open) → IsInOrder f xs → opens_once (map (λ o. o.id) (reverse xs)) ≡ true
 order_once f = by_ends (λ xs. IsInOrder f xs → opens_once (map (λ o. o.id) (reverse xs)) ≡ true) (λ order. refl) (λ ys y more order.
     ap (λ (os : List Open). opens_once (map (λ o. o.id) os)) (turned ys y)
     ∙ true_both (not (is_member y.id (map (λ o. o.id) (reverse ys)))) (opens_once (map (λ o. o.id) (reverse ys))) (ap not (not_member y.id ys (last_apart f ys y order)))

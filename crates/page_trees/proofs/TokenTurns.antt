@@ -140,7 +140,7 @@ run_turn kind text old new next rule within others b current covered stands =
       run = current.run;
       fits = sym (ap (λ (m : StandardMode). fits_in m kind (current.first ∷ current.rest)) stands.mode ∙ fits_is old.mode kind (current.first ∷ current.rest)) ∙ current.fits;
     })
-    within b current.token (is_covered current.first b (sym (ap (λ (t : StandardToken). covers t b) current.token) ∙ covered)).covered stands)
+    within b current.token (is_covered b (sym (ap (λ (t : StandardToken). covers t b) current.token) ∙ covered)).covered stands)
 
 -- ---- several turns
 
@@ -186,7 +186,7 @@ under_way_ends token others depth turns last old new once within way c steps =
     once within others way.b way.current (turn_passes covered_turn way.left way.b last way.runs) way.stands depth c
     (ap (option_and_then (λ after. tree_steps_while covered_turn depth after others)) (deeper turns way.left depth way.b last way.count way.runs) ∙ steps)
 
-pub under_way_over : (token : Token) (others : List StandardToken) (depth turns : ℕ) (last : Building) (now : TreeBuilder) → FewTurns depth → 64 ≤ turns →
+pub under_way_over : (token : Token) (others : List StandardToken) (depth turns : ℕ) (last : Building) (now : TreeBuilder) → FewTurns depth → 18446744073709551615 ≤ turns →
     IsUnderWay token others depth turns last now → ⊥
 under_way_over token others depth turns last now few many way =
     no_turn covered_turn Dispatcher way.b last
@@ -249,7 +249,11 @@ goes_done token first old new turns next e limits once way within others b curre
     under_way_ends token others depth turns parts.0 old new (subst (λ (n : Next). ProcessesOnce token old new n) e once) within
     (way (limits within) others b current stands depth parts.0 parts.1) c parts.2
 
-pub goes_over : (token : Token) (first now new : TreeBuilder) (turns : ℕ) → 64 ≤ turns → RemembersLimits now new → GoesOn token first now turns → ProcessesToken token first new
-goes_over token first now new turns many limits way within others b current stands depth few c h =
+pub goes_over : (token : Token) (first now : TreeBuilder) (turns : ℕ) → 18446744073709551615 ≤ turns → GoesOn token first now turns → ProcessesToken token first now
+goes_over token first now turns many way within others b current stands depth few c h =
     let parts = in_turn (run_while covered_turn depth Dispatcher b) (λ after. tree_steps_while covered_turn depth after others) c h in
-    absurd (under_way_over token others depth turns parts.0 now few many (way (limits within) others b current stands depth parts.0 parts.1))
+    absurd (under_way_over token others depth turns parts.0 now few many (way within others b current stands depth parts.0 parts.1))
+
+-- past a limit nothing is said of the token
+pub goes_beyond : (token : Token) (first now new : TreeBuilder) → (WithinLimits now → ⊥) → RemembersLimits now new → ProcessesToken token first new
+goes_beyond token first now new beyond limits within others b current stands depth few c h = absurd (beyond (limits within))

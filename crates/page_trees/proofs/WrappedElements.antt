@@ -20,10 +20,10 @@ use Rattle.standard_trees.specs.TreeStore.{EndOf, Node, Place, node_at, put_at}
 use Rattle.page_trees.specs.Adopting.{ArePassed, PutsBelow, ids_of}
 use Rattle.page_trees.specs.Elements.{AreOpen, IsElement, IsInOrder, LiesIn}
 use Rattle.page_trees.specs.Insertions.{MakesNext, copied}
-use Rattle.page_trees.specs.Insertions.{with_copy as copy_made, with_copy_inside as copied_inside}
+use Rattle.page_trees.specs.Insertions.{with_copy as copy_made, with_copy_around as copied_around, with_copy_inside as copied_inside}
 use Rattle.page_trees.specs.Placing.{place_of, point_of}
 use Rattle.page_trees.specs.Reopening.{copy_open}
-use Rattle.page_trees.specs.SameNodes.{AreNodes, IsPointOf, copy_of, with_copy, with_copy_inside, with_kind_at, wrapped_by}
+use Rattle.page_trees.specs.SameNodes.{AreNodes, IsPointOf, copy_of, with_copy, with_copy_around, with_copy_inside, with_kind_at, wrapped_by}
 use Rattle.page_trees.specs.Stands.{AllStand, Builds, EntryStands, IsOfKind, IsStackOf, StandsFor}
 use Rattle.page_trees.specs.TreeState.{Late, TreeState, added_to, completed}
 use Rattle.page_trees.specs.declared.formatting.Entry.{Entry}
@@ -38,7 +38,7 @@ use Rattle.page_trees.proofs.KeptElements.{Keeps, built_grown, keeps_both, keeps
 use Rattle.page_trees.proofs.LateNodes.{late_contents, late_elements, late_forest, late_long, late_moved, late_node}
 use Rattle.page_trees.proofs.MadeNodes.{element_known}
 use Rattle.page_trees.proofs.StackOrder.{none_before, open_at}
-use Rattle.page_trees.proofs.StandingEdits.{alone_good, inside_stands}
+use Rattle.page_trees.proofs.StandingEdits.{alone_good, around_stands, inside_stands}
 use Rattle.page_trees.proofs.StandingNodes.{nodes_moved, same_length}
 use Rattle.page_trees.proofs.StoreLemmas.{kind_from, kinds, kinds_kept, kinds_put}
 
@@ -67,6 +67,7 @@ pub record IsCopied (s : TreeState) (t : GrowingTree) (nodes : List Node) (copy 
   pub built : Builds s (record t { nodes = nodes })
   pub id : copy.id ≡ length t.nodes
   pub stands : EntryStands nodes (Entry.Element copy)
+  pub keeps : Keeps t.nodes nodes
 
 pub inside_built : (s : TreeState) (t : GrowingTree) (h : Forest) (o copy : Open) (p : ℕ) → Builds s t → IsForest s.forest → IsElement s.forest o.id → IsElement s.forest p → contents_at s.forest p ≡ None →
     EntryStands t.nodes (Entry.Element o) → MakesNext copy.id s.forest h (copied_inside o.id p s.forest) → copy ≡ copy_open o copy.id →
@@ -97,6 +98,52 @@ inside_built s t h o copy p b good element parent plain entry next shape =
       built = built_grown s t h nodes b kept are;
       id = id;
       stands = subst (λ (q : Open). EntryStands nodes (Entry.Element q)) (sym it) (stands, entry.1);
+      keeps = kept;
+    }
+  where
+    element_is : (g : Forest) (n : ℕ) (c : NodeData) → slice_get g.content n ≡ Some c → IsElement g n → is_element c ≡ true
+    element_is g n c got is = ap (λ (o : Option NodeData). option_map_or is_element o false) (sym got) ∙ is
+
+-- ---- a copy that takes an element
+
+late_around : (late : List Late) (n x : ℕ) (f : Forest) (c : NodeData) → slice_get f.content n ≡ Some c → added_to late n ≡ [] → added_to late (length f.content) ≡ [] →
+    completed late (copied_around n x f) ≡ copied_around n x (completed late f)
+late_around late n x f c got none next =
+    late_moved late (x ∷ []) (TheEndOf (length f.content)) (copy_made n f)
+    ∙ ap (moved_to (x ∷ []) (TheEndOf (length f.content)))
+    (ap (completed late) (copy_is f n c got) ∙ late_node late (copied c) f next ∙ sym (copy_is (completed late f) n c (late_found late f n c got none)))
+    ∙ ap (λ (m : ℕ). moved_to (x ∷ []) (TheEndOf m) (copy_made n (completed late f))) (sym (late_long late f))
+
+pub around_built : (s : TreeState) (t : GrowingTree) (h : Forest) (o copy : Open) (x : ℕ) → Builds s t → IsForest s.forest → IsElement s.forest o.id → IsElement s.forest x →
+    EntryStands t.nodes (Entry.Element o) → MakesNext copy.id s.forest h (copied_around o.id x s.forest) → copy ≡ copy_open o copy.id →
+    IsCopied (record s { forest = h }) t (with_copy_around o.id x t.nodes) copy
+around_built s t h o copy x b good element moved entry next shape =
+    let f : Forest = completed s.late s.forest in
+    let nodes : List Node = with_copy_around o.id x t.nodes in
+    let one = there s.forest.content o.id element in
+    let none : added_to s.late o.id ≡ [] = none_later t.nodes s.late o b.late entry.0 entry.1 in
+    let got = late_found s.late s.forest o.id one.0 one.1 none in
+    let is_there : IsElement f o.id = late_elements s.late s.forest o.id ∙ element in
+    let after : IsForest (copy_made o.id f) =
+    subst IsForest (sym (copy_is f o.id one.0 got)) (alone_good f (copied one.0) (late_forest s.late s.forest good) (no_contents one.0 (element_is f o.id one.0 got is_there))) in
+    let known = element_known f x (late_elements s.late s.forest x ∙ moved) in
+    let are : AreNodes nodes (completed s.late h) =
+    subst (AreNodes nodes) (sym (ap (completed s.late) next.forest ∙ late_around s.late o.id x s.forest one.0 one.1 none (no_later s t b)))
+    (around_stands t.nodes f o.id x after b.nodes is_there known) in
+    let same : kinds nodes ≡ kinds (with_copy o.id t.nodes) = kinds_put x (EndOf (length t.nodes)) (with_copy o.id t.nodes) in
+    let kept : Keeps t.nodes nodes = keeps_both t.nodes (with_copy o.id t.nodes) nodes (keeps_kind (copy_of (kind_of t o.id)) t.nodes refl) (keeps_same (with_copy o.id t.nodes) nodes same) in
+    let id : copy.id ≡ length t.nodes = next.number ∙ sym (same_length t.nodes f b.nodes ∙ late_long s.late s.forest) in
+    let it : copy ≡ copy_open o (length t.nodes) = shape ∙ ap (copy_open o) id in
+    let made : (node_at nodes (length t.nodes)).kind ≡ copy_of (kind_of t o.id) =
+    kind_from nodes (with_kind_at (copy_of (kind_of t o.id)) (EndOf 0) t.nodes) (length t.nodes) (same ∙ sym (kinds_put (length t.nodes) (EndOf 0) (with_copy o.id t.nodes)))
+    ∙ made_kind (copy_of (kind_of t o.id)) (EndOf 0) t.nodes in
+    let stands : StandsFor nodes (copy_open o (length t.nodes)) =
+    subst (IsOfKind (copy_open o (length t.nodes))) (sym made) (copy_stands_for o (kind_of t o.id) (length t.nodes) entry.0 entry.1) in
+    record {
+      built = built_grown s t h nodes b kept are;
+      id = id;
+      stands = subst (λ (q : Open). EntryStands nodes (Entry.Element q)) (sym it) (stands, entry.1);
+      keeps = kept;
     }
   where
     element_is : (g : Forest) (n : ℕ) (c : NodeData) → slice_get g.content n ≡ Some c → IsElement g n → is_element c ≡ true

@@ -3,19 +3,19 @@ use Rattle.std.specs.Prelude.{◌≡◌, ◌&&◌, Bool, List, [], ◌∷◌, co
 use Rattle.std.specs.List.{list_all}
 use Rattle.standard_tokens.specs.Tokens.{AStart, AnEnd, Token as StandardToken}
 use Rattle.standard_trees.specs.Building.{Building, is_met, perform, with_tree}
-use Rattle.standard_trees.specs.GrowingTree.{GrowingTree, adjusted_current, has_in_scope, implied_of}
+use Rattle.standard_trees.specs.GrowingTree.{GrowingTree, has_in_scope, implied_of}
 use Rattle.standard_trees.specs.GrowingTree.{popped_until}
 use Rattle.standard_trees.specs.RuleWords.{Act, Action, ButtonScope, CloseP, FramesetNotOk}
 use Rattle.standard_trees.specs.NameLists.{implied}
-use Rattle.standard_trees.specs.RuleWords.{InBody, InScope, InsertNamed, Mode as StandardMode, ReconstructFormatting}
+use Rattle.standard_trees.specs.RuleWords.{InBody, InCaption, InCell, InScope, InsertNamed, Mode as StandardMode, ReconstructFormatting}
 use Rattle.standard_trees.specs.RuleWords.{Scope as DefaultScope, These, does, goes, isnt}
-use Rattle.standard_trees.specs.TreeStore.{is_html, space_in}
 use Rattle.page_tokens.specs.declared.token.Tag.{Tag}
 use Rattle.page_tokens.specs.declared.token.TagKind.{TagKind}
+use Rattle.page_trees.specs.CharacterSteps.{goes_to_mode}
 use Rattle.page_trees.specs.Constructs.{Constructs, IsCurrentTag, Outcome, RemembersLimits, WithinLimits, all_performed}
 use Rattle.page_trees.specs.Groups.{closes_p, group_named, reconstructs, spoils_frameset}
 use Rattle.page_trees.specs.LateMerges.{HasHtml}
-use Rattle.page_trees.specs.Listing.{ends_adoption, lists_few, starts_a, starts_nobr}
+use Rattle.page_trees.specs.Listing.{allows_agency, lists_few, starts_a, starts_nobr}
 use Rattle.page_trees.specs.Modes.{is_start_kind}
 use Rattle.page_trees.specs.Names.{name_of}
 use Rattle.page_trees.specs.Stands.{popped_if, without_marker}
@@ -120,13 +120,16 @@ covers_in_body (AStart name attrs closing) = covers_start (group_named (name_of 
 covers_in_body (AnEnd name) = covers_end (name_of name)
 covers_in_body _ = false
 
+-- the modes whose rules for `img` are those for "in body"
 abbrev pub is_body_mode : StandardMode → Bool
 is_body_mode InBody = true
+is_body_mode InCaption = true
+is_body_mode InCell = true
 is_body_mode _ = false
 
 -- "Change the token's tag name to 'img' and reprocess it": it comes to the rules for "in body" again
 abbrev pub comes_back : Building → Bool
-comes_back b = is_body_mode b.mode && is_html (space_in (adjusted_current b.tree))
+comes_back b = is_body_mode b.mode && goes_to_mode b.tree
 
 -- what is asked of the state in which the start tag of a group is processed: for formatting elements, of their list; for `image`, of the
 -- insertion mode
@@ -137,11 +140,11 @@ starts_in Group.Nobr b = starts_nobr b
 starts_in Group.Image b = comes_back b
 starts_in _ b = true
 
--- and for end tags: for formatting elements, the adoption agency algorithm ends in its first round
+-- and for end tags: for formatting elements, of their list, too
 abbrev pub ends_in : Group → Building → Bool
-ends_in Group.A b = ends_adoption b
-ends_in Group.Formatting b = ends_adoption b
-ends_in Group.Nobr b = ends_adoption b
+ends_in Group.A b = allows_agency b
+ends_in Group.Formatting b = allows_agency b
+ends_in Group.Nobr b = allows_agency b
 ends_in _ b = true
 
 abbrev pub suits_body : TagKind → Name → Building → Bool
@@ -178,6 +181,12 @@ abbrev pub ActsWhere : (Building → Bool) → Name → Tag → List Act → Tre
 ActsWhere test name tag acts old new =
     is_start_kind tag.kind ≡ true → WithinLimits new → (b : Building) → test b ≡ true → IsCurrentTag name tag b → Constructs old b →
     Constructs new (acted acts b)
+
+-- within the limits, the list is short once these are performed
+abbrev pub LeavesFew : (Building → Bool) → Name → Tag → List Act → TreeBuilder → TreeBuilder → Type 0
+LeavesFew test name tag acts old new =
+    is_start_kind tag.kind ≡ true → WithinLimits new → (b : Building) → test b ≡ true → IsCurrentTag name tag b → Constructs old b →
+    lists_few (acted acts b) ≡ true
 
 -- ---- start tags
 

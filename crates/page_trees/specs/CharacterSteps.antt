@@ -4,7 +4,7 @@ use Rattle.std.specs.Prelude.{◌≡◌, ◌==◌, ◌&&◌, ◌||◌, ◌∷◌
 use Rattle.std.specs.Prelude.{map, not, true, ℕ}
 use Rattle.std.specs.List.{list_all}
 use Rattle.std.specs.Option.{option_and_then}
-use Rattle.standard_tokens.specs.Tokens.{AChar, Token}
+use Rattle.standard_tokens.specs.Tokens.{AChar}
 use Rattle.standard_trees.specs.Building.{Building, is_empty, is_space, run, tree_steps, with_tree}
 use Rattle.standard_trees.specs.Formatting.{reconstructed}
 use Rattle.standard_trees.specs.GrowingTree.{GrowingTree, adjusted_current, current, is_html_point, is_named, is_one, with_chars}
@@ -219,6 +219,7 @@ covers_closed InHeadNoscript = true
 covers_closed AfterHead = true
 covers_closed Text = true
 covers_closed InTableText = true
+covers_closed InColumnGroup = true
 covers_closed InFrameset = true
 covers_closed AfterFrameset = true
 covers_closed _ = false
@@ -233,11 +234,7 @@ covers_open AfterAfterBody = true
 covers_open AfterAfterFrameset = true
 covers_open _ = false
 
-abbrev pub is_white : Token → Bool
-is_white (AChar c) = is_space c
-is_white _ = false
-
--- in tables, where characters become pending table character tokens or are moved out of the table; in column groups, white space
+-- in tables, where characters become pending table character tokens or are moved out of the table
 abbrev pub covers_in_table : GrowingTree → Bool
 covers_in_table t = keeps_text t || fosters_text t
 
@@ -245,7 +242,6 @@ abbrev pub covers_between : StandardMode → Building → Bool
 covers_between InTable b = covers_in_table b.tree
 covers_between InTableBody b = covers_in_table b.tree
 covers_between InRow b = covers_in_table b.tree
-covers_between InColumnGroup b = is_white b.token
 covers_between _ b = false
 
 abbrev pub covers_in_mode : Building → Bool

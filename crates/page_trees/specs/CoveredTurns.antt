@@ -3,7 +3,7 @@ use Rattle.std.specs.Prelude.{◌≡◌, ◌≤◌, ◌∷◌, ◌&&◌, ◌||�
 use Rattle.std.specs.Prelude.{ℕ}
 use Rattle.std.specs.Option.{option_and_then}
 use Rattle.standard_tokens.specs.Tokens.{AChar, AComment, ADoctype, AStart, AnEnd, AnEof, Token as StandardToken}
-use Rattle.standard_trees.specs.Building.{Building, is_space, own_name, perform, taken}
+use Rattle.standard_trees.specs.Building.{Building, own_name, perform, taken}
 use Rattle.standard_trees.specs.GrowingTree.{in_foreign}
 use Rattle.standard_trees.specs.RuleWords.{Act, AfterAfterBody, AfterAfterFrameset, AfterBody, AfterFrameset, AfterHead, BeforeHead}
 use Rattle.standard_trees.specs.RuleWords.{BeforeHtml, Dispatcher, ForeignContent, InBody, InCaption, InCell, InColumnGroup, InFrameset}
@@ -11,7 +11,7 @@ use Rattle.standard_trees.specs.RuleWords.{InHead, InHeadNoscript, InRow, InTabl
 use Rattle.standard_trees.specs.RuleWords.{Mode as StandardMode, PopForeignElements, Text, UseCurrentMode, does, goes}
 use Rattle.standard_trees.specs.TreeRules.{rules}
 use Rattle.standard_order.specs.Turns.{run_while, tree_steps_while}
-use Rattle.page_trees.specs.CharacterSteps.{covers_characters, fits_in, goes_to_mode, has_no_null, is_dropping, is_null, is_run}
+use Rattle.page_trees.specs.CharacterSteps.{covers_characters, fits_in, goes_to_mode, has_no_null, is_run}
 use Rattle.standard_order.specs.Order.{has_html, head_is_closed}
 use Rattle.page_trees.specs.Constructs.{Constructs, IsCurrentTag, Outcome, Runs, WithinLimits}
 use Rattle.page_tokens.specs.declared.token.Tag.{Tag}
@@ -118,13 +118,9 @@ covers_acts (does PopForeignElements [] ∷ acts) b = covers_acts acts (perform 
 covers_acts (goes UseCurrentMode ∷ []) b = covers_tag_in b.mode b
 covers_acts acts b = true
 
--- tags in foreign content, in every mode but "in table text"; end tags where the outermost open element is `html`
-abbrev pub covers_foreign_in : StandardMode → Building → Bool
-covers_foreign_in InTableText b = false
-covers_foreign_in mode b = (is_start_tag b.token || has_html b) && covers_acts (taken b (rules ForeignContent)) b
-
+-- tags in foreign content; end tags where the outermost open element is `html`
 abbrev pub covers_foreign_tag : Building → Bool
-covers_foreign_tag b = covers_foreign_in b.mode b
+covers_foreign_tag b = (is_start_tag b.token || has_html b) && covers_acts (taken b (rules ForeignContent)) b
 
 abbrev pub covers_tag : Building → Bool
 covers_tag b = elim (is_in_mode b) [ true ↦ covers_tag_in b.mode b | false ↦ covers_foreign_tag b ]
@@ -144,16 +140,13 @@ abbrev pub covers_end : StandardMode → Building → Bool
 covers_end InTableText b = suits_settling b
 covers_end mode b = returns_plainly b
 
--- characters; no nulls, and where a mode may ignore other characters than white space, no others; in "text" where the dispatcher leaves
--- them to that mode
+-- characters; in "text" where the dispatcher leaves them to that mode
 abbrev pub is_text_mode : StandardMode → Bool
 is_text_mode Text = true
 is_text_mode _ = false
 
-abbrev pub covers_character : ℕ → Building → Bool
-covers_character c b =
-    not (is_null c) &&
-    ((is_space c || not (is_dropping b.mode)) && ((not (is_text_mode b.mode) || goes_to_mode b.tree) && covers_characters b))
+abbrev pub covers_character : Building → Bool
+covers_character b = (not (is_text_mode b.mode) || goes_to_mode b.tree) && covers_characters b
 
 abbrev pub covers : StandardToken → Building → Bool
 covers (AStart name attrs closing) b = covers_tag b
@@ -161,7 +154,7 @@ covers (AnEnd name) b = covers_tag b
 covers (AComment text) b = covers_comment b.mode b
 covers (ADoctype doctype) b = covers_doctype b.mode b
 covers AnEof b = covers_end b.mode b
-covers (AChar c) b = covers_character c b
+covers (AChar c) b = covers_character b
 
 -- the code is proved to process the current token by the rules
 abbrev pub covered_turn : Building → Bool
@@ -235,9 +228,9 @@ ProcessesOnce token old new next =
     WithinLimits new → (others : List StandardToken) (b : Building) → IsCurrent token others b → covered_turn b ≡ true → Constructs old b →
     TurnEnds token others b new next
 
--- The code reprocesses a token at least so often, and rules use rules at most so deep.
+-- The code reprocesses a token at least so often, and rules use rules at most so deep: 2^64 - 1 times.
 abbrev pub FewTurns : ℕ → Type 0
-FewTurns depth = depth ≤ 64
+FewTurns depth = depth ≤ 18446744073709551615
 
 -- within the limits, the token is processed to its end
 abbrev pub ProcessesToken : Token → TreeBuilder → TreeBuilder → Type 0

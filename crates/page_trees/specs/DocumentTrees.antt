@@ -9,7 +9,7 @@ use Rattle.standard_trees.specs.TreeStore.{doctype_tree, element_tree, no_trees,
 use Rattle.dom_nodes.specs.declared.node_data.NodeData.{NodeData}
 use Rattle.dom_links.specs.Forest.{Forest, children_of}
 use Rattle.dom_trees.specs.declared.quirks.QuirksMode.{QuirksMode}
-use Rattle.page_trees.specs.PageShape.{is_page_of}
+use Rattle.standard_order.specs.PageShape.{is_page_of}
 use Rattle.page_trees.specs.Quirks.{mode_of}
 use Rattle.page_trees.specs.SameNodes.{IsKind, part_for}
 use Rattle.page_trees.specs.Shape.{IsPage}

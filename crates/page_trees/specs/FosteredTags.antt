@@ -3,13 +3,17 @@ use Rattle.std.specs.Prelude.{◌≡◌, ◌∷◌, ◌&&◌, ◌||◌, Bool, Li
 use Rattle.std.specs.List.{list_all}
 use Rattle.standard_tokens.specs.Tokens.{AStart, AnEnd, Token as StandardToken}
 use Rattle.standard_trees.specs.Building.{Building, taken}
-use Rattle.standard_trees.specs.RuleWords.{Act, FosterOff, FosterOn, InBody, InHead, InTable, Use, does, goes}
+use Rattle.standard_trees.specs.RuleWords.{Act, FosterOff, FosterOn, InBody, InHead, InRow, InTable, InTableBody}
+use Rattle.standard_trees.specs.RuleWords.{Mode as StandardMode, Use, does, goes}
 use Rattle.standard_trees.specs.TreeRules.{rules}
 use Rattle.page_tokens.specs.declared.token.Tag.{Tag}
+use Rattle.page_tokens.specs.declared.token.TagKind.{TagKind}
 use Rattle.page_trees.specs.BodyTags.{covers_in_body, ends_in, starts_in}
+use Rattle.page_trees.specs.CharacterSteps.{goes_to_mode}
 use Rattle.page_trees.specs.Constructs.{Constructs, IsCurrentTag, Outcome, WithinLimits}
 use Rattle.page_trees.specs.Groups.{group_named}
 use Rattle.page_trees.specs.LateMerges.{HasHtml}
+use Rattle.page_trees.specs.Modes.{is_start_kind}
 use Rattle.page_trees.specs.Names.{name_of}
 use Rattle.page_trees.specs.TableTexts.{with_fostering}
 use Rattle.page_trees.specs.declared.builder.Next.{Next}
@@ -49,9 +53,32 @@ suits_in_body _ b = false
 abbrev pub acts_in_body : Building → Bool
 acts_in_body b = ends_there b && (covers_in_body b.token && suits_in_body b.token b)
 
+-- the start tag `image`
+abbrev pub names_image : Name → Bool
+names_image Name.Image = true
+names_image _ = false
+
+abbrev pub is_image_start : Name → TagKind → Bool
+is_image_start name kind = names_image name && is_start_kind kind
+
+abbrev pub is_image : StandardToken → Bool
+is_image (AStart name attrs closing) = names_image (name_of name)
+is_image _ = false
+
+-- the modes whose rules for `img` are those for "in table"
+abbrev pub is_table_mode : StandardMode → Bool
+is_table_mode InTable = true
+is_table_mode InTableBody = true
+is_table_mode InRow = true
+is_table_mode _ = false
+
+-- "Change the token's tag name to 'img' and reprocess it": it comes to the rules for "in table" again
+abbrev pub comes_to_table : Building → Bool
+comes_to_table b = is_image b.token && (is_table_mode b.mode && goes_to_mode b.tree)
+
 -- the tag is moved out of the table, and covered
 abbrev pub fosters_tag : Building → Bool
-fosters_tag b = is_fostering (taken b (rules InTable)) && acts_in_body (with_fostering true b)
+fosters_tag b = is_fostering (taken b (rules InTable)) && (acts_in_body (with_fostering true b) || comes_to_table b)
 
 -- Within the limits, and where the outermost open element is `html`, a tag that is moved out of the table is processed "in table".
 abbrev pub FostersTag : Name → Tag → TreeBuilder → TreeBuilder → Next → Type 0

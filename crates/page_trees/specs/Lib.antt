@@ -35,6 +35,8 @@ pub mod TextPlaces
 pub mod Listing
 pub mod Adopting
 pub mod TableSteps
+pub mod LeftGroups
+pub mod Images
 pub mod HeadSteps
 pub mod Framesets
 pub mod BodyTags
@@ -44,7 +46,8 @@ pub mod CoveredTurns
 pub mod CharacterTexts
 pub mod OrderlyTurns
 pub mod PagesRead
-pub mod PageShape
 pub mod DocumentTrees
 pub mod ShapeExamples
 pub mod StandardDocuments
+pub mod KeyPlaces
+pub mod ListIndex

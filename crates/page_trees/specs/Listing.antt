@@ -1,18 +1,14 @@
 -- What is done to the list of active formatting elements (13.2.4.3) as the definition does it, where the list has fewer entries than are
 -- searched by an index.
 use Rattle.std.specs.Prelude.{◌≡◌, Bool, IfSome, None, Option, Some, [], ◌∷◌, List, codes, false, not, true, ℕ, ◌&&◌, ◌||◌, if◌then◌else◌}
-use Rattle.std.specs.Prelude.{nat_eq}
-use Rattle.std.specs.List.{list_any}
 use Rattle.std.specs.Option.{option_map}
-use Rattle.standard_trees.specs.Building.{Building, holds, is_present, own_name, perform}
-use Rattle.standard_trees.specs.Formatting.{adopted_for, adoption, any_other_end, before_in, enlisted, is_entry, is_listed, last_listed}
-use Rattle.standard_trees.specs.Formatting.{last_special, unlisted}
-use Rattle.standard_trees.specs.GrowingTree.{Entry as StandardEntry, Formatting, GrowingTree, Marker, current, ends_scope, in_scope}
-use Rattle.standard_trees.specs.GrowingTree.{is_among, unstacked}
+use Rattle.standard_trees.specs.Building.{Building, holds, own_name, perform}
+use Rattle.standard_trees.specs.Formatting.{adopted_for, any_other_end, enlisted, is_listed, last_listed, unlisted}
+use Rattle.standard_trees.specs.GrowingTree.{GrowingTree, current, is_among, unstacked}
 use Rattle.standard_trees.specs.GrowingTree.{is_one as is_one_of}
 use Rattle.standard_trees.specs.RuleWords.{Act, Action, AdoptionAgency, DropFound, FindListed, InScope, Listed, Mode as StandardMode}
 use Rattle.standard_trees.specs.RuleWords.{ReconstructFormatting, Scope, These, does, is}
-use Rattle.standard_trees.specs.TreeStore.{is_member}
+pub use Rattle.standard_order.specs.ListedOnce.{lists_once}
 use Rattle.page_tokens.specs.declared.token.Tag.{Tag}
 use Rattle.page_trees.specs.Constructs.{Constructs, IsCurrentTag, Outcome, WithinLimits, all_performed}
 use Rattle.page_trees.specs.Formatting.{are_few}
@@ -44,12 +40,6 @@ FindsListed name state found =
     (t : GrowingTree) → has_few t ≡ true → Builds state t →
     option_map (λ o. o.id) found ≡ last_listed t (text_of name ∷ []) t.listed
 
--- no element is in the list twice
-abbrev pub lists_once : List StandardEntry → Bool
-lists_once [] = true
-lists_once (Marker ∷ es) = lists_once es
-lists_once (Formatting n ∷ es) = not (list_any (is_entry n) es) && lists_once es
-
 -- "remove the element from the list of active formatting elements"
 abbrev pub Unlists : ℕ → TreeState → TreeState → Type 0
 Unlists n old new =
@@ -67,49 +57,58 @@ Unstacks o old new =
 
 -- ---- the adoption agency algorithm
 
--- the algorithm ends without a furthest block; where there is no formatting element, the tag is processed like any other end tag
-abbrev pub ends_simply : Option ℕ → GrowingTree → Bool
-ends_simply None t = true
-ends_simply (Some n) t =
-    not (is_member n t.stack) || (not (in_scope (nat_eq n) (ends_scope Scope t) t.stack)
-    || not (is_present (last_special t None (before_in n t.stack))))
+-- the list is short, and no element is in it twice
+abbrev pub lists_well : GrowingTree → Bool
+lists_well t = has_few t && lists_once t.listed
 
 abbrev pub listed_named : List ℕ → GrowingTree → Option ℕ
 listed_named name t = last_listed t (name ∷ []) t.listed
 
+-- elements are moved, and copies of some are made; this stays
+pub record StaysAlike (t after : GrowingTree) : Type 0 where
+  pub fosters : after.fostering ≡ t.fostering
+  pub found : after.found ≡ t.found
+  pub stands : (o : Open) → EntryStands t.nodes (Entry.Element o) → EntryStands after.nodes (Entry.Element o)
+
+-- the state is that of the definition, which comes from another one
+pub record LeadsTo (t after : GrowingTree) (new : TreeState) : Type 0 where
+  pub built : Builds new after
+  pub well : lists_well after ≡ true
+  pub alike : StaysAlike t after
+
 -- the outer loop comes to its end in this round, whatever another round would do
 pub record IsRoundDone (name : List ℕ) (t : GrowingTree) (new : TreeState) : Type 0 where
   pub after : GrowingTree
-  pub built : Builds new after
-  pub fosters : after.fostering ≡ t.fostering
+  pub leads : LeadsTo t after new
   pub result : (again : GrowingTree → GrowingTree) → adopted_for (listed_named name t) name again t ≡ after
 
--- what the outer loop does once: the algorithm is done, or the tag is to be processed like any other end tag, or there is a furthest block
+-- the outer loop goes on after this round
+pub record IsRoundRun (name : List ℕ) (t : GrowingTree) (new : TreeState) : Type 0 where
+  pub after : GrowingTree
+  pub leads : LeadsTo t after new
+  pub result : (again : GrowingTree → GrowingTree) → adopted_for (listed_named name t) name again t ≡ again after
+
+-- what the outer loop does once: the algorithm is done, or the tag is to be processed like any other end tag, or the loop goes on
 abbrev pub RoundEnd : List ℕ → GrowingTree → TreeState → Option Bool → Type 0
 RoundEnd name t new (Some true) = IsRoundDone name t new
-RoundEnd name t new (Some false) = (listed_named name t ≡ None) × Builds new t
-RoundEnd name t new None = ends_simply (listed_named name t) t ≡ false
+RoundEnd name t new (Some false) = (listed_named name t ≡ None) × LeadsTo t t new
+RoundEnd name t new None = IsRoundRun name t new
 
-abbrev pub RoundEnds : Name → TreeState → TreeState → Option Bool → Type 0
-RoundEnds name old new end =
-    (t : GrowingTree) → has_few t ≡ true → lists_once t.listed ≡ true → Builds old t → RoundEnd (text_of name) t new end
+abbrev pub RoundEnds : Name → Bool → TreeState → TreeState → Option Bool → Type 0
+RoundEnds name foster old new end =
+    (t : GrowingTree) → lists_well t ≡ true → t.fostering ≡ foster → Builds old t → RoundEnd (text_of name) t new end
 
--- the algorithm ends in its first round
-abbrev pub agency_ends : List ℕ → GrowingTree → Bool
-agency_ends name t =
-    has_few t && (lists_once t.listed && ((is_one_of t (name ∷ []) (current t) && not (is_listed t (current t))) ||
-    ends_simply (listed_named name t) t))
-
--- the algorithm was run for an element of that name; where the tag is not handled yet, it is to be processed like any other end tag
-pub record IsAdopted (name : List ℕ) (t : GrowingTree) (new : TreeState) (handled : Bool) : Type 0 where
+-- an algorithm was run for an element of that name; where the tag is not handled yet, it is to be processed like any other end tag
+pub record IsAdopted (name : List ℕ) (t made : GrowingTree) (new : TreeState) (handled : Bool) : Type 0 where
   pub after : GrowingTree
-  pub built : Builds new after
-  pub fosters : after.fostering ≡ t.fostering
-  pub result : adoption name t ≡ (if handled then after else any_other_end name after)
+  pub leads : LeadsTo t after new
+  pub result : made ≡ (if handled then after else any_other_end name after)
 
-abbrev pub Adopts : Name → TreeState → TreeState → Bool → Type 0
-Adopts name old new handled =
-    (t : GrowingTree) → agency_ends (text_of name) t ≡ true → Builds old t → IsAdopted (text_of name) t new handled
+-- this of an algorithm
+abbrev pub AdoptsBy : (List ℕ → GrowingTree → GrowingTree) → Name → Bool → TreeState → TreeState → Bool → Type 0
+AdoptsBy algorithm name foster old new handled =
+    (t : GrowingTree) → lists_well t ≡ true → t.fostering ≡ foster → Builds old t →
+    IsAdopted (text_of name) t (algorithm (text_of name) t) new handled
 
 -- the current node has the name, and is not in the list
 abbrev pub TellsBare : Name → TreeState → Bool → Type 0
@@ -140,15 +139,15 @@ PerformsWhere test name tag actions old new =
     is_start_kind tag.kind ≡ true → WithinLimits new → (b : Building) → test b ≡ true → IsCurrentTag name tag b → Constructs old b →
     Constructs new (all_performed actions b)
 
--- the adoption agency algorithm ends in its first round for the current token
-abbrev pub ends_adoption : Building → Bool
-ends_adoption b = agency_ends (own_name b.token) b.tree
+-- the list of active formatting elements is one that the adoption agency algorithm is proved for
+abbrev pub allows_agency : Building → Bool
+allows_agency b = lists_well b.tree
 
--- within the limits, the adoption agency algorithm is run for a tag, where it ends in its first round
+-- within the limits, the adoption agency algorithm is run for a tag
 abbrev pub AdoptsFor : Name → TreeBuilder → TreeBuilder → Type 0
 AdoptsFor name old new =
-    WithinLimits new → (b : Building) → agency_ends (text_of name) b.tree ≡ true → own_name b.token ≡ text_of name → Constructs old b →
-    Constructs new (perform AdoptionAgency b)
+    WithinLimits new → (b : Building) → allows_agency b ≡ true → own_name b.token ≡ text_of name → Constructs old b →
+    Constructs new (perform AdoptionAgency b) × LeadsTo b.tree (perform AdoptionAgency b).tree new.tree
 
 -- within the limits, a start tag is processed by the rules for a mode, if the old state passes a test
 abbrev pub ProcessesStartWhere : (Building → Bool) → StandardMode → Name → Tag → TreeBuilder → TreeBuilder → Next → Type 0
@@ -166,9 +165,9 @@ ProcessesEndWhere test mode name tag old new next =
 abbrev pub dropping_a : List Act
 dropping_a = does (FindListed (These (codes "a" ∷ []))) [] ∷ does AdoptionAgency [] ∷ does DropFound [] ∷ []
 
--- an `a` is in the list, and the adoption agency algorithm ends in its first round
+-- an `a` is in the list
 abbrev pub drops_a : Building → Bool
-drops_a b = holds (Listed (These (codes "a" ∷ []))) b && ends_adoption (perform (FindListed (These (codes "a" ∷ []))) b)
+drops_a b = holds (Listed (These (codes "a" ∷ []))) b && allows_agency b
 
 abbrev pub starts_a : Building → Bool
 starts_a b = lists_no_a b || drops_a b
@@ -177,9 +176,9 @@ starts_a b = lists_no_a b || drops_a b
 abbrev pub closing_nobr : List Act
 closing_nobr = does AdoptionAgency (is (InScope Scope (These (codes "nobr" ∷ []))) ∷ []) ∷ []
 
--- if a `nobr` is in scope, the algorithm ends in its first round
+-- if a `nobr` is in scope, the algorithm is run
 abbrev pub closes_nobr : Building → Bool
-closes_nobr b = lists_few b && (not (holds (InScope Scope (These (codes "nobr" ∷ []))) b) || ends_adoption b)
+closes_nobr b = lists_few b && (not (holds (InScope Scope (These (codes "nobr" ∷ []))) b) || allows_agency b)
 
 -- The start tag `nobr` first reconstructs the active formatting elements.
 abbrev pub starts_nobr : Building → Bool

@@ -1,15 +1,26 @@
 -- What is so wherever a turn of tree construction (13.2.6) begins, whatever tokens come, and so need not be asked of a page.
-use Rattle.std.specs.Prelude.{◌≡◌, ◌&&◌, ◌||◌, Bool, List, Some, not, ℕ}
-use Rattle.standard_tokens.specs.Tokens.{Token}
-use Rattle.standard_trees.specs.Building.{Building, start}
-use Rattle.page_trees.specs.CoveredTurns.{covered_turn, returns_plainly}
-use Rattle.standard_order.specs.Order.{is_in_order}
+use Rattle.std.specs.Prelude.{◌≡◌, ◌&&◌, ◌||◌, Bool, List, Some, false, not, true, ℕ}
+use Rattle.standard_tokens.specs.Tokens.{AStart, AnEnd, Token}
+use Rattle.standard_trees.specs.Building.{Building, is_empty, start}
+use Rattle.page_trees.specs.CoveredTurns.{covered_turn, covers_tag, returns_plainly}
+use Rattle.page_trees.specs.Listing.{has_few}
+use Rattle.standard_order.specs.Begun.{is_begun}
+use Rattle.standard_order.specs.CurrentNodes.{has_current}
+use Rattle.standard_order.specs.FormattingListed.{lists_formatting}
+use Rattle.standard_order.specs.ListedOnce.{lists_each_once}
+use Rattle.standard_order.specs.Order.{is_before_html, is_in_order}
+use Rattle.standard_order.specs.Pending.{without_nulls}
 use Rattle.standard_order.specs.Turns.{tree_steps_while}
 
 -- A mode that returns to the original insertion mode returns to one to which rules switch. The outermost open element is `html` in every
--- mode after "before html", and in "after head" the head element is not open.
+-- mode after "before html", and in "after head" the head element is not open. No pending table character token is a null. Each element is
+-- in the list of active formatting elements once at most, and only formatting elements are. No line feed is to be skipped, and the
+-- tokenizer is not switched. An element is open in every mode after "before html", and in "text" and "in table text" the adjusted current
+-- node is an HTML element.
 abbrev pub is_orderly : Building → Bool
-is_orderly b = returns_plainly b && is_in_order b
+is_orderly b =
+    returns_plainly b &&
+    (is_in_order b && (without_nulls b.pending && (lists_each_once b && (is_begun b && (has_current b && lists_formatting b)))))
 
 -- the state passes a test, and is orderly
 abbrev pub orderly_too : (Building → Bool) → Building → Bool
@@ -21,6 +32,31 @@ TurnsAreOrderly = (test : Building → Bool) (depth : ℕ) (scripting : Bool) (t
     tree_steps_while test depth (start scripting) tokens ≡ Some end →
     tree_steps_while (orderly_too test) depth (start scripting) tokens ≡ Some end
 
--- if the state is orderly, the code is proved to process the current token by the rules
-abbrev pub covered_if_orderly : Building → Bool
-covered_if_orderly b = not (is_orderly b) || covered_turn b
+abbrev pub is_tag : Token → Bool
+is_tag (AStart name attrs closing) = true
+is_tag (AnEnd name) = true
+is_tag _ = false
+
+-- In an orderly state every token is covered but tags: each character, comment and doctype, and the end of the page.
+abbrev pub OthersAreCovered : Type 0
+OthersAreCovered = (b : Building) → is_orderly b ≡ true → is_tag b.token ≡ false → covered_turn b ≡ true
+
+-- no element is open before "html" is made
+abbrev pub opens_none_early : Building → Bool
+opens_none_early b = not (is_before_html b.mode) || is_empty b.tree.stack
+
+-- In an orderly state in which no element is open before "html", each tag is covered, if the list of active formatting elements has fewer
+-- than 16 entries.
+abbrev pub TagsAreCovered : Type 0
+TagsAreCovered = (b : Building) → is_orderly b ≡ true → opens_none_early b ≡ true → is_tag b.token ≡ true → has_few b.tree ≡ true →
+    covers_tag b ≡ true
+
+-- if the current token is a tag, the list of active formatting elements has fewer than 16 entries
+abbrev pub lists_few_at_tags : Building → Bool
+lists_few_at_tags b = not (is_tag b.token) || has_few b.tree
+
+-- So a page is covered, if fewer than 16 active formatting elements are listed where turns begin with tags.
+abbrev pub TurnsWithFewAreCovered : Type 0
+TurnsWithFewAreCovered = (depth : ℕ) (scripting : Bool) (tokens : List Token) (end : Building) →
+    tree_steps_while lists_few_at_tags depth (start scripting) tokens ≡ Some end →
+    tree_steps_while covered_turn depth (start scripting) tokens ≡ Some end

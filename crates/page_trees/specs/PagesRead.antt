@@ -2,7 +2,6 @@
 -- Standard come.
 use Rattle.std.specs.Prelude.{◌≡◌, ◌++◌, ◌∷◌, Bool, List, None, Option, Some, [], encode_utf8_all, false, map, true, ℕ}
 use Rattle.std.specs.List.{list_all}
-use Rattle.standard_tokens.specs.Machine.{normalized}
 use Rattle.standard_tokens.specs.Reading.{Feedback, ReadsPage}
 use Rattle.standard_tokens.specs.States.{Data}
 use Rattle.standard_tokens.specs.Tokens.{AChar, AnEof, Token}
@@ -12,12 +11,14 @@ use Rattle.page_tokens.specs.PageLaws.{TellsToken}
 use Rattle.page_tokens.specs.PlainNames.{has_plain_names}
 use Rattle.page_tokens.specs.Reading.{text_of}
 use Rattle.page_tokens.specs.Standard.{Told}
-use Rattle.page_tokens.specs.StandardPages.{HasRead, lacks_cdata}
+use Rattle.page_tokens.specs.StandardPages.{HasRead}
+use Rattle.page_tokens.specs.TextStates.{wants_characters_of}
 use Rattle.page_tokens.specs.declared.token.TokenKind.{TokenKind}
 use Rattle.page_trees.specs.Constructs.{Constructs, WithinLimits}
 use Rattle.page_trees.specs.CoveredTurns.{FewTurns, TakesTokens, covered_turn}
-use Rattle.page_trees.specs.OrderlyTurns.{covered_if_orderly}
+use Rattle.page_trees.specs.OrderlyTurns.{lists_few_at_tags}
 use Rattle.standard_order.specs.Turns.{tree_steps_while}
+use Rattle.page_trees.specs.declared.builder.TreeBuilder.{TreeBuilder}
 use Rattle.page_trees.specs.declared.reading.PageReader.{PageReader}
 
 -- the answers of tree construction, where a page begins
@@ -28,44 +29,36 @@ page_feedback depth scripting = feedback_of depth (start scripting)
 abbrev pub page_steps : ℕ → Bool → List Token → Option Building
 page_steps depth scripting tokens = tree_steps_while covered_turn depth (start scripting) tokens
 
--- behind each character of a page, tree construction's flag for foreign content is what it was before it
-abbrev pub CharactersKeepFlag : Feedback → List Token → Type 0
-CharactersKeepFlag f all =
-    (seen more : List Token) (c : ℕ) → all ≡ seen ++ AChar c ∷ more → f.in_foreign (seen ++ AChar c ∷ []) ≡ f.in_foreign seen
-
--- The tokenizer asks for that flag only in front of `[CDATA[`. So characters keep it, or else that occurs nowhere in the text.
-abbrev pub AsksInTime : Bool → Feedback → List ℕ → List Token → Type 0
-AsksInTime true f text all = CharactersKeepFlag f all
-AsksInTime false f text all = lacks_cdata (normalized text) ≡ true
-
--- By the definitions, these are the tokens of the whole text of a page, and this is the state of tree construction behind them. Each turn
--- of tree construction is one that is covered (as far as that is not so in every orderly state), and rules use rules at most so deep. The
--- flag `cdata` says whether `[CDATA[` may occur.
-pub record IsCovered (cdata : Bool) (depth : ℕ) (scripting : Bool) (text : List ℕ) (all : List Token) (end : Building) : Type 0 where
+-- By the definitions, these are the tokens of the whole text of a page, and this is the state of tree construction behind them. Where a
+-- turn of tree construction begins with a tag, fewer than 16 active formatting elements are listed, and rules use rules at most so deep.
+pub record IsCovered (depth : ℕ) (scripting : Bool) (text : List ℕ) (all : List Token) (end : Building) : Type 0 where
   pub few : FewTurns depth
-  pub in_time : AsksInTime cdata (page_feedback depth scripting) text all
   pub reads : ReadsPage (page_feedback depth scripting) text all
-  pub builds : tree_steps_while covered_if_orderly depth (start scripting) all ≡ Some end
+  pub builds : tree_steps_while lists_few_at_tags depth (start scripting) all ≡ Some end
 
 -- tree construction has given its answer to the tokenizer
 abbrev pub answered : Building → Building
 answered b = record b { tokenizer = None }
 
 -- Where the reader has come after the beginning of a page: tree construction has taken these tokens, and this is its state.
-pub record IsBehind (cdata : Bool) (depth : ℕ) (scripting : Bool) (read : List ℕ) (r : PageReader) : Type 0 where
+pub record IsBehind (depth : ℕ) (scripting : Bool) (read : List ℕ) (r : PageReader) : Type 0 where
   pub told : List Token
   pub now : Building
-  pub tokens : HasRead cdata (page_feedback depth scripting) Data read told r.tokens
+  pub tokens : HasRead (page_feedback depth scripting) Data read told r.tokens
   pub flag : (page_feedback depth scripting).in_foreign told ≡ r.tokens.in_foreign
   pub builds : page_steps depth scripting told ≡ Some now
   pub stands : Constructs r.builder (answered now)
   pub switch : r.builder.switch ≡ None
 
--- within the limits, and whatever follows in the page, if the whole of it is covered
+-- whatever follows in the page, if the whole of it is covered
+abbrev pub StandsBehind : Bool → List ℕ → PageReader → Type 0
+StandsBehind scripting read r =
+    (rest : List ℕ) (depth : ℕ) (all : List Token) (end : Building) → IsCovered depth scripting (read ++ rest) all end →
+    IsBehind depth scripting read r
+
+-- within the limits, and tree construction doesn't have to be told characters before the tokenizer reads on
 abbrev pub HasBuilt : Bool → List ℕ → PageReader → Type 0
-HasBuilt scripting read r =
-    WithinLimits r.builder → (rest : List ℕ) (cdata : Bool) (depth : ℕ) (all : List Token) (end : Building) →
-    IsCovered cdata depth scripting (read ++ rest) all end → IsBehind cdata depth scripting read r
+HasBuilt scripting read r = WithinLimits r.builder → (wants_characters_of r.tokens ≡ false) × StandsBehind scripting read r
 
 -- the reader has read on so far
 abbrev pub ReadsOn : List ℕ → PageReader → PageReader → Type 0
@@ -90,19 +83,19 @@ TellsAll kind old new =
     list_all has_plain_names tokens ≡ true → TakesTokens (map AChar cs ++ tokens) old.builder new.builder
 
 -- Where the reader has come when a token has ended that tree construction has not taken yet, nor the characters before it.
-pub record HasEnded (cdata : Bool) (depth : ℕ) (scripting : Bool) (read : List ℕ) (kind : TokenKind) (r : PageReader) : Type 0 where
+pub record HasEnded (depth : ℕ) (scripting : Bool) (read : List ℕ) (kind : TokenKind) (r : PageReader) : Type 0 where
   pub told : List Token
   pub now : Building
-  pub tokens : TellsToken cdata (page_feedback depth scripting) Data read told kind r.tokens
+  pub tokens : TellsToken (page_feedback depth scripting) Data read told kind r.tokens
   pub builds : page_steps depth scripting told ≡ Some now
   pub stands : Constructs r.builder (answered now)
   pub switch : r.builder.switch ≡ None
 
 abbrev pub HasBuiltUpTo : Option TokenKind → Bool → List ℕ → PageReader → Type 0
-HasBuiltUpTo None scripting read r = HasBuilt scripting read r
+HasBuiltUpTo None scripting read r = WithinLimits r.builder → StandsBehind scripting read r
 HasBuiltUpTo (Some kind) scripting read r =
-    WithinLimits r.builder → (rest : List ℕ) (cdata : Bool) (depth : ℕ) (all : List Token) (end : Building) →
-    IsCovered cdata depth scripting (read ++ rest) all end → HasEnded cdata depth scripting read kind r
+    WithinLimits r.builder → (rest : List ℕ) (depth : ℕ) (all : List Token) (end : Building) →
+    IsCovered depth scripting (read ++ rest) all end → HasEnded depth scripting read kind r
 
 -- tree construction takes the characters and the token that were read
 abbrev pub TellsRead : Option TokenKind → PageReader → PageReader → Type 0
@@ -129,12 +122,18 @@ pub record IsBeforeEnd (depth : ℕ) (scripting : Bool) (all : List Token) (r : 
 abbrev pub ReadsRest : PageReader → PageReader → Type 0
 ReadsRest old new =
     (scripting : Bool) (read : List ℕ) → HasBuilt scripting read old → WithinLimits new.builder →
-    (cdata : Bool) (depth : ℕ) (all : List Token) (end : Building) → IsCovered cdata depth scripting read all end →
+    (depth : ℕ) (all : List Token) (end : Building) → IsCovered depth scripting read all end →
     IsBeforeEnd depth scripting all new
+
+-- these tokens end with the end of the file, and the new state stands for the one behind them
+pub record IsAtEnd (all : List Token) (end : Building) (new : TreeBuilder) : Type 0 where
+  pub told : List Token
+  pub are : all ≡ told ++ AnEof ∷ []
+  pub stands : Constructs new end
 
 -- The page is read to its end: the reader stands for the state to which the definition leads.
 abbrev pub ReadsEnd : PageReader → PageReader → Type 0
 ReadsEnd old new =
     (scripting : Bool) (read : List ℕ) → HasBuilt scripting read old → WithinLimits new.builder →
-    (cdata : Bool) (depth : ℕ) (all : List Token) (end : Building) → IsCovered cdata depth scripting read all end →
-    Constructs new.builder end
+    (depth : ℕ) (all : List Token) (end : Building) → IsCovered depth scripting read all end →
+    IsAtEnd all end new.builder

@@ -2,7 +2,7 @@
 use Rattle.std.specs.Prelude.{◌≡◌, Bool, List, Option, Some, [], codes, false, option_map, true, ℕ}
 use Rattle.standard_trees.specs.Building.{Building}
 use Rattle.standard_trees.specs.Parsing.{depth_for, page_parser, parsed, steps_for}
-use Rattle.page_trees.specs.PageShape.{is_page_of}
+use Rattle.standard_order.specs.PageShape.{is_page_of}
 
 -- whether the tree has it as which the text is parsed
 abbrev pub is_shaped : List ℕ → Option Bool

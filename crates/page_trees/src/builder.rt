@@ -1,9 +1,9 @@
 //! The state of tree construction (13.2.4), besides the tree and the stack.
 
-ghost use Rattle.std.specs.Prelude.{◌≡◌, ◌≤◌, ◌||◌, None, OnOk, length, nat_lt};
+ghost use Rattle.std.specs.Prelude.{◌≡◌, ◌||◌, None, OnOk, length, nat_lt, true};
 ghost use Rattle.std.specs.Option.{option_or};
 ghost use Rattle.standard_trees.specs.Building.{empty_tree, start};
-ghost use Rattle.page_trees.specs.Constructs.{first_fault};
+ghost use Rattle.page_trees.specs.Constructs.{WithinLimits, first_fault};
 ghost use Rattle.page_trees.specs.declared.builder.Next.TheVariants.{Again, Done as IsDone};
 
 use crate::fault::PageFault;
@@ -181,10 +181,15 @@ impl TreeBuilder {
         Next::Again
     }
 
-    /// Returns how often a token may be reprocessed; after that the rules for "in body" process it.
-    pub fn turns(&self) -> usize
-        ensures { 64 ≤ result }
+    /// Returns whether a limit was met: a fault, or more open elements than may be nested.
+    pub fn is_past_limits(&self) -> bool
+        ensures { result ≡ true → WithinLimits self.now → ⊥ }
     {
+        self.fault.is_some() || self.too_deep
+    }
+
+    /// Returns how often a token may be reprocessed past a limit.
+    pub fn turns(&self) -> usize {
         self.tree.open().len().saturating_mul(4).saturating_add(64)
     }
 }

@@ -1,26 +1,28 @@
 //! Character tokens, which come as runs.
 
 ghost use Rattle.std.specs.Prelude.{List, encode_utf8_all, false, length, map, not, true, ℕ, ◌∷◌};
-ghost use Rattle.std.specs.Prelude.{[], ◌++◌, ◌≡◌, OnOk, string_bytes};
-ghost use Rattle.std.specs.List.{list_any};
+ghost use Rattle.std.specs.Prelude.{[], ◌++◌, ◌-◌, ◌≡◌, ◌≤◌, OnOk, string_bytes};
 ghost use Rattle.standard_tokens.specs.Tokens.{AChar};
 ghost use Rattle.standard_trees.specs.Building.{is_space};
 ghost use Rattle.standard_trees.specs.RuleWords.{EmptyPending, InTableText, KeepMode, SwitchTo};
-ghost use Rattle.page_trees.specs.CharacterTexts.{TakesPiece, TakesText, front_spaces, is_text};
-ghost use Rattle.page_trees.specs.CharacterTexts.{past_spaces, unskipped};
+ghost use Rattle.page_trees.specs.CharacterTexts.{LeavesRest, TakesNoNulls, TakesPiece, TakesText};
+ghost use Rattle.page_trees.specs.CharacterTexts.{front_spaces, front_word, is_text};
+ghost use Rattle.page_trees.specs.CharacterTexts.{past_spaces, past_word, unskipped};
 ghost use Rattle.page_trees.specs.CoveredTurns.{TakesTokens};
 ghost use Rattle.page_trees.specs.CharacterSteps.{Inserts, InsertsInBody, InsertsLetters, IsRun};
 ghost use Rattle.page_trees.specs.CharacterSteps.{ProcessesForeignRun, ProcessesRun};
-ghost use Rattle.page_trees.specs.CharacterSteps.{ProcessesRunInMode, goes_to_mode, is_null};
+ghost use Rattle.page_trees.specs.CharacterSteps.{ProcessesRunInMode, goes_to_mode};
 ghost use Rattle.page_trees.specs.CharacterSteps.{has_no_null, is_run, keeps_text};
 ghost use Rattle.page_trees.specs.CharacterSteps.{way_of, way_of_letters, way_of_nulls};
 ghost use Rattle.page_trees.specs.CharacterSteps.{way_of_spaces};
 ghost use Rattle.page_trees.specs.Constructs.{Leaves, Performs, RemembersLimits};
 ghost use Rattle.page_trees.specs.Modes.{drops_letters, holds_table_text, joins_spaces};
 ghost use Rattle.page_trees.specs.Stands.{Tells};
+ghost use Rattle.page_trees.specs.LeftGroups.{LeavesGroup};
 ghost use Rattle.page_trees.specs.TableTexts.{AddsToPending, FostersRun, PlacesText, SettlesText};
 ghost use Rattle.page_trees.specs.TableTexts.{holds_letters};
 ghost use Rattle.page_trees.specs.TokenSteps.{keeps_characters};
+ghost use Rattle.page_trees.specs.declared.builder.Mode.TheVariants.{InColumnGroup as IsColumnGroup};
 ghost use Rattle.page_trees.specs.declared.builder.Mode.TheVariants.{InTableText as IsTableText};
 ghost use Rattle.page_trees.specs.declared.builder.Next.TheVariants.{Again, Done as IsDone};
 ghost use Rattle.page_trees.specs.declared.chars.Run.TheVariants.{Spaces};
@@ -31,37 +33,14 @@ use crate::fault::PageFault;
 use crate::growing::{is_foster_target, is_template};
 use crate::modes::Token;
 use crate::stack::Open;
+use memchr::memchr;
 use std::mem;
-use std::simd::prelude::*;
-
-/// The characters that tree construction treats as whitespace.
-const SPACES: [char; 5] = ['\t', '\n', '\u{c}', '\r', ' '];
 
 /// Returns whether the text contains a null.
-fn has_null(text: &str) -> bool {
-    let (blocks, rest) = text.as_bytes().as_chunks::<16>();
-    for block in blocks {
-        if u8x16::from_array(*block)
-            .simd_eq(u8x16::splat(0))
-            .to_bitmask()
-            != 0
-        {
-            return true;
-        }
-    }
-    for byte in rest {
-        if *byte == 0 {
-            return true;
-        }
-    }
-    false
-}
-
-/// Returns whether the text contains a null, byte by byte.
-fn contains_null(text: &str) -> bool
-    ensures { result ≡ list_any is_null text.now }
+fn has_null(text: &str) -> bool
+    ensures { result ≡ not (has_no_null text.now) }
 {
-    text.as_bytes().contains(&0)
+    memchr(0, text.as_bytes()).is_some()
 }
 
 /// Returns whether tree construction treats the byte as whitespace.
@@ -93,6 +72,29 @@ fn split_spaces(text: &str) -> (&str, &str)
     ensures rest { result.1.now ≡ past_spaces text.now }
 {
     text.split_at(spaces_len(text))
+}
+
+/// Returns how many bytes come before the first whitespace.
+fn word_len(text: &str) -> usize
+    ensures { result ≡ length (front_word text.now) }
+{
+    let bytes = text.as_bytes();
+    let mut count = 0;
+    while count < bytes.len() {
+        if is_space(bytes[count]) {
+            return count;
+        }
+        count += 1;
+    }
+    count
+}
+
+/// Returns the text up to the first whitespace, and what comes from there on.
+fn split_word(text: &str) -> (&str, &str)
+    ensures word { result.0.now ≡ front_word text.now }
+    ensures rest { result.1.now ≡ past_word text.now }
+{
+    text.split_at(word_len(text))
 }
 
 /// Returns the text without a line feed at its beginning.
@@ -287,30 +289,20 @@ impl TreeBuilder {
         ensures limits { RemembersLimits self.old self.new }
         ensures rule { TakesText text.now self.old self.new }
     {
-        if !contains_null(text) {
-            return self.stretch(text);
+        let mut rest = text;
+        while let Some((front, after)) = rest.split_once('\0') {
+            self.stretch(front);
+            self.run(Run::Nulls, "\0");
+            rest = after;
         }
-        for stretch in text.split_inclusive('\0') {
-            self.stretch_to_null(stretch);
-        }
-    }
-
-    /// Processes characters of which only the last may be a null.
-    fn stretch_to_null(&mut self, text: &str)
-        ensures limits { RemembersLimits self.old self.new }
-    {
-        let Some(front) = text.strip_suffix('\0') else {
-            return self.stretch(text);
-        };
-        self.stretch(front);
-        self.run(Run::Nulls, "\0")
+        self.stretch(rest)
     }
 
     /// Processes characters without nulls: leading whitespace and then the rest, or all as one run
     /// if the mode treats them alike.
     fn stretch(&mut self, text: &str)
         ensures limits { RemembersLimits self.old self.new }
-        ensures rule { TakesText text.now self.old self.new }
+        ensures rule { TakesNoNulls text.now self.old self.new }
     {
         let (spaces, rest) = split_spaces(text);
         if !rest.is_empty() && joins_spaces(self.mode) {
@@ -329,19 +321,25 @@ impl TreeBuilder {
     /// Processes words, and the whitespace between them, one by one.
     fn words(&mut self, text: &str)
         ensures limits { RemembersLimits self.old self.new }
+        ensures rule { TakesNoNulls text.now self.old self.new }
     {
-        for piece in text.split_inclusive(SPACES) {
-            self.word(piece);
+        let mut rest = text;
+        while !rest.is_empty() {
+            rest = self.word(rest);
         }
     }
 
-    /// Processes a word and the whitespace after it.
-    fn word(&mut self, piece: &str)
+    /// Processes a word and the whitespace after it, and returns the rest.
+    fn word<'a>(&mut self, text: &'a str) -> &'a str
         ensures limits { RemembersLimits self.old self.new }
+        ensures rule { LeavesRest text.now result.now self.old self.new }
+        ensures less { length result.now ≤ length text.now - 1 }
     {
-        let word = piece.trim_end_matches(SPACES);
+        let (word, after) = split_word(text);
+        let (spaces, rest) = split_spaces(after);
         self.run(Run::Letters, word);
-        self.run(Run::Spaces, piece.get(word.len()..).unwrap_or(""))
+        self.run(Run::Spaces, spaces);
+        rest
     }
 
     /// Processes a run of characters, unless it is empty.
@@ -418,6 +416,7 @@ impl TreeBuilder {
     /// Leaves a mode that can't process the token, by the steps for "anything else".
     pub fn leave_mode(&mut self) -> Next
         ensures rule { Leaves self.old self.new result }
+        ensures group { self.old.mode ≡ IsColumnGroup → LeavesGroup self.old self.new result }
     {
         match self.mode {
             Mode::Initial => self.leave_initial(),

@@ -1,7 +1,7 @@
 //! The list of active formatting elements (13.2.4.3).
 
-ghost use Rattle.std.specs.Prelude.{◌≡◌, [], ◌∷◌, ◌++◌, Contains, IfNone, IfSome, OnErr, OnOk};
-ghost use Rattle.std.specs.Prelude.{MatchOption, length, true};
+ghost use Rattle.std.specs.Prelude.{◌≡◌, ◌<◌, ◌≤◌, [], ◌∷◌, ◌++◌, Contains, IfNone, IfOk, IfSome};
+ghost use Rattle.std.specs.Prelude.{List, MatchOption, OnErr, OnOk, length, true};
 ghost use Rattle.std.specs.Prelude.{insert, remove, slice_get, slice_set};
 ghost use Rattle.std.specs.List.{list_all};
 ghost use Rattle.std.specs.Option.{option_and_then, option_copied, option_to_list};
@@ -10,10 +10,13 @@ ghost use Rattle.page_trees.specs.Formatting.{IsFirst, IsNamed, IsWithout, NoneH
 ghost use Rattle.page_trees.specs.Formatting.{are_alike, are_few, element_in, has_attr, is_of};
 ghost use Rattle.page_trees.specs.Formatting.{last_place, same_attr, same_element, third_alike};
 ghost use Rattle.page_trees.specs.Formatting.{with_room};
+ghost use Rattle.page_trees.specs.ListIndex.{AreIndexed, IsEntryIn, IsIndexOf, IsPlaceIn};
 ghost use Rattle.page_trees.specs.Popping.{before_last, is_a_marker};
+ghost use Rattle.page_trees.specs.declared.formatting.Entry.{Entry as AnyEntry};
 ghost use Rattle.page_trees.specs.declared.formatting.Entry.TheVariants.{Element as AnEntry};
 
 mod index;
+mod places;
 
 use crate::fault::PageFault;
 use crate::name::Name;
@@ -25,6 +28,7 @@ use dom_trees::node_ref::NodeRef;
 use dom_trees::tree::Tree;
 use index::FormattingIndex;
 use std::alloc::Global;
+use std::marker::Model;
 
 /// A list of this many entries gets an index, by which it is searched; a list of half as many loses
 /// it. In a shorter list, each search looks at every entry.
@@ -197,9 +201,87 @@ fn third_like(entries: &[Entry], tree: &Tree, id: NodeId) -> Option<usize>
     None
 }
 
+/// Returns an index of a list. Fails when memory runs out.
+fn made_index(entries: &[Entry], tree: &Tree) -> Result<FormattingIndex, PageFault>
+    ensures { IfOk result (AreIndexed entries.now) }
+{
+    let mut index = FormattingIndex::new(tree.allocator());
+    for place in 0..entries.len() {
+        let Some(entry) = entries.get(place) else {
+            unreachable!();
+        };
+        let likeness = index.likeness_in(tree, entry)?;
+        index.add(place, entry, likeness)?;
+    }
+    Ok(index)
+}
+
+/// Returns the index of a list into which an entry was inserted at a place, if there is one and
+/// memory suffices.
+fn with_entry(
+    index: Option<FormattingIndex>,
+    place: usize,
+    entry: &Entry,
+    likeness: u32,
+) -> Option<FormattingIndex>
+    requires { IfSome index (λ index. IsPlaceIn index place) }
+    ensures { (entries : List AnyEntry) → place ≤ length entries →
+        IsIndexOf entries index → IsIndexOf (insert entries place entry.now) result }
+{
+    let mut known = index?;
+    match known.add(place, entry, likeness) {
+        Ok(()) => Some(known),
+        Err(_) => None,
+    }
+}
+
+/// Returns the index of a list from a place of which an entry was removed, if there is one and
+/// enough entries are left.
+fn without_entry(
+    index: Option<FormattingIndex>,
+    place: usize,
+    left: usize,
+) -> Option<FormattingIndex>
+    requires { IfSome index (λ index. IsEntryIn index place) }
+    ensures { (entries : List AnyEntry) → place < length entries →
+        IsIndexOf entries index → IsIndexOf (remove entries place) result }
+{
+    let mut known = index?;
+    if left < MANY / 2 {
+        return None;
+    }
+    known.remove(place);
+    Some(known)
+}
+
+/// Returns the index of a list in which an entry replaced the one at a place, if there is one and
+/// memory suffices.
+fn with_copy(index: Option<FormattingIndex>, place: usize, entry: &Entry) -> Option<FormattingIndex>
+    ensures { (entries : List AnyEntry) →
+        IsIndexOf entries index → IsIndexOf (slice_set entries place entry.now) result }
+{
+    let mut known = index?;
+    match known.replace(place, entry) {
+        Ok(()) => Some(known),
+        Err(_) => None,
+    }
+}
+
+impl Model for ActiveFormatting {
+    ghost use Rattle.std.specs.Prelude.{List};
+    ghost use Rattle.page_trees.specs.ListIndex.{IsIndexOf};
+    ghost use Rattle.page_trees.specs.declared.formatting.Entry.{Entry};
+
+    ghost Value = { List Entry };
+
+    ghost view = { λ list. list.entries.items };
+
+    ghost invariant = { λ list. IsIndexOf list.entries.items list.index };
+}
+
 impl ActiveFormatting {
     pub fn new(alloc: Global) -> ActiveFormatting
-        ensures { result.entries.items ≡ [] }
+        ensures { result ≡ [] }
     {
         ActiveFormatting {
             entries: Vec::new(alloc),
@@ -208,27 +290,27 @@ impl ActiveFormatting {
     }
 
     pub fn len(&self) -> usize
-        ensures { result ≡ length self.now.entries.items }
+        ensures { result ≡ length self.now }
     {
         self.entries.len()
     }
 
     /// Returns whether the list has fewer entries than are searched by an index.
     fn is_short(&self) -> bool
-        ensures { result ≡ are_few self.now.entries.items }
+        ensures { result ≡ are_few self.now }
     {
         self.entries.len() < MANY
     }
 
     pub fn as_slice(&self) -> &[Entry]
-        ensures { result.now ≡ self.now.entries.items }
+        ensures { result.now ≡ self.now }
     {
         self.entries.as_slice()
     }
 
     pub fn get(&self, index: usize) -> Option<Entry>
-        ensures found { IfSome result (Contains self.now.entries.items) }
-        ensures value { result ≡ slice_get self.now.entries.items index }
+        ensures found { IfSome result (Contains self.now) }
+        ensures value { result ≡ slice_get self.now index }
     {
         self.entries.get(index).copied()
     }
@@ -236,80 +318,41 @@ impl ActiveFormatting {
     /// Appends an entry. `likeness` is what `likeness_of` returned for its element. Fails only when
     /// memory runs out.
     pub fn push(&mut self, entry: Entry, likeness: u32) -> Result<(), PageFault>
-        ensures ok { let old = self.old.entries.items in
-            OnOk result (self.new.entries.items ≡ old ++ entry ∷ []) }
-        ensures err { OnErr result (self.new.entries.items ≡ self.old.entries.items) }
+        ensures ok { OnOk result (self.new ≡ self.old ++ entry ∷ []) }
+        ensures err { OnErr result (self.new ≡ self.old) }
     {
+        let place = self.entries.len();
         self.entries.push(entry)?;
-        self.index_entry(usize::MAX, &entry, likeness);
+        self.index = with_entry(self.index.take(), place, &entry, likeness);
         Ok(())
-    }
-
-    /// Indexes an entry that was put at a position; the last one for a position past the end.
-    fn index_entry(&mut self, position: usize, entry: &Entry, likeness: u32)
-        ensures { self.new.entries ≡ self.old.entries }
-    {
-        let is_indexed = match &mut self.index {
-            Some(index) => index.add(position, entry, likeness).is_ok(),
-            None => true,
-        };
-        if !is_indexed {
-            self.index = None;
-        }
-    }
-
-    /// Removes an entry from the index, before it is removed from the list.
-    fn forget_entry(&mut self, position: usize)
-        ensures { self.new.entries ≡ self.old.entries }
-    {
-        if self.entries.len() <= MANY / 2 {
-            self.index = None;
-        }
-        if let Some(index) = &mut self.index
-            && let Some(entry) = self.entries.get(position)
-        {
-            index.remove(position, entry);
-        }
     }
 
     /// Returns the likeness of an element that is to be added: elements with the same name and the
     /// same attributes have the same. A list that grew long is indexed first. Without an index it
     /// returns 0, and `third_same` compares the elements themselves.
     pub fn likeness_of(&mut self, tree: &Tree, id: NodeId) -> u32
-        ensures { self.new.entries ≡ self.old.entries }
+        ensures { self.new ≡ self.old }
     {
         if self.index.is_none() && self.entries.len() >= MANY {
-            self.index = self.made_index(tree).ok();
+            self.index = made_index(self.entries.as_slice(), tree).ok();
         }
-        let likeness = match &mut self.index {
-            Some(index) => index.likeness_of(tree, id).ok(),
-            None => Some(0),
+        let Some(mut known) = self.index.take() else {
+            return 0;
         };
-        if likeness.is_none() {
-            self.index = None;
+        match known.likeness_of(tree, id) {
+            Ok(likeness) => {
+                self.index = Some(known);
+                likeness
+            }
+            Err(_) => 0,
         }
-        likeness.unwrap_or(0)
-    }
-
-    /// Returns an index of the whole list. Fails when memory runs out.
-    fn made_index(&self, tree: &Tree) -> Result<FormattingIndex, PageFault> {
-        let mut index = FormattingIndex::new(tree.allocator());
-        for entry in self.entries.as_slice() {
-            let likeness = match entry {
-                Entry::Marker => 0,
-                Entry::Element(open) => index.likeness_of(tree, open.id)?,
-            };
-            index.add(usize::MAX, entry, likeness)?;
-        }
-        Ok(index)
     }
 
     /// Returns the index of the third entry, from the end and after the last marker, with the same
     /// name and attributes (the Noah's Ark clause). `likeness` is that of the element. The index of
     /// a long list answers by the likeness alone; the contract says nothing of that answer.
     pub fn third_same(&self, tree: &Tree, id: NodeId, likeness: u32) -> Option<usize>
-        ensures { let entries = self.now.entries.items in
-            are_few entries ≡ true → result ≡ third_alike tree.now id entries }
+        ensures { are_few self.now ≡ true → result ≡ third_alike tree.now id self.now }
     {
         if self.is_short() {
             return third_like(self.entries.as_slice(), tree, id);
@@ -324,10 +367,8 @@ impl ActiveFormatting {
     /// its name and attributes, the earliest is removed (the Noah's Ark clause). At most one entry
     /// is removed; the contract says which one for a short list.
     pub fn make_room(&mut self, tree: &Tree, id: NodeId, likeness: u32)
-        ensures ark { let old = self.old.entries.items in
-            are_few old ≡ true → self.new.entries.items ≡ with_room tree.now id old }
-        ensures one { let old = self.old.entries.items in
-            IsWithout old self.new.entries.items }
+        ensures ark { are_few self.old ≡ true → self.new ≡ with_room tree.now id self.old }
+        ensures one { IsWithout self.old self.new }
     {
         if let Some(place) = self.third_same(tree, id, likeness) {
             self.remove_at(place);
@@ -336,18 +377,19 @@ impl ActiveFormatting {
 
     /// Removes the last entry and returns it.
     pub fn take(&mut self) -> Option<Entry>
-        ensures items { self.old.entries.items ≡ self.new.entries.items ++ option_to_list result }
-        ensures none { IfNone result (self.old.entries.items ≡ []) }
+        ensures items { self.old ≡ self.new ++ option_to_list result }
+        ensures none { IfNone result (self.old ≡ []) }
     {
-        let last = self.entries.len().saturating_sub(1);
-        self.forget_entry(last);
-        self.entries.pop()
+        let last = self.entries.pop()?;
+        let left = self.entries.as_slice().len();
+        self.index = without_entry(self.index.take(), left, left);
+        Some(last)
     }
 
     /// Clears the list up to the last marker: removes the entries after it, and the marker. A list
     /// without a marker is empty afterwards.
     pub fn clear_to_marker(&mut self)
-        ensures { self.new.entries.items ≡ before_last is_a_marker self.old.entries.items }
+        ensures { self.new ≡ before_last is_a_marker self.old }
     {
         while let Some(entry) = self.take() {
             if entry.is_marker() {
@@ -358,78 +400,52 @@ impl ActiveFormatting {
 
     /// Replaces the element at an index of the list by a copy of it.
     pub fn replace(&mut self, index: usize, element: &Open)
-        ensures { let old = self.old.entries.items in
-            self.new.entries.items ≡ slice_set old index (AnEntry element.now) }
+        ensures { self.new ≡ slice_set self.old index (AnEntry element.now) }
     {
-        self.index_copy(index, element.id);
         if let Some(entry) = self.entries.get_mut(index) {
             *entry = Entry::Element(*element);
-        }
-    }
-
-    /// Brings the index up to date before a copy replaces the element at a position.
-    fn index_copy(&mut self, position: usize, copy: NodeId)
-        ensures { self.new.entries ≡ self.old.entries }
-    {
-        let Some(Entry::Element(old)) = self.get(position) else {
-            return;
-        };
-        let is_indexed = match &mut self.index {
-            Some(index) => index.replace(position, old.id, copy).is_ok(),
-            None => true,
-        };
-        if !is_indexed {
-            self.index = None;
+            self.index = with_copy(self.index.take(), index, &Entry::Element(*element));
         }
     }
 
     /// Inserts an element of that likeness at an index of the list. Fails only when memory runs
     /// out.
     pub fn insert(&mut self, index: usize, element: &Open, likeness: u32) -> Result<(), PageFault>
-        ensures ok { let old = self.old.entries.items in
-            OnOk result (self.new.entries.items ≡ insert old index (AnEntry element.now)) }
-        ensures err { OnErr result (self.new.entries.items ≡ self.old.entries.items) }
+        ensures ok { OnOk result (self.new ≡ insert self.old index (AnEntry element.now)) }
+        ensures err { OnErr result (self.new ≡ self.old) }
     {
-        let index = index.min(self.entries.len());
-        self.entries.insert(index, Entry::Element(*element))?;
-        self.index_entry(index, &Entry::Element(*element), likeness);
+        let place = index.min(self.entries.len());
+        let entry = Entry::Element(*element);
+        self.entries.insert(place, entry)?;
+        self.index = with_entry(self.index.take(), place, &entry, likeness);
         Ok(())
     }
 
     pub fn remove_at(&mut self, index: usize)
-        ensures { self.new.entries.items ≡ remove self.old.entries.items index }
+        ensures { self.new ≡ remove self.old index }
     {
         if index < self.entries.len() {
-            self.forget_entry(index);
             let _ = self.entries.remove(index);
+            let left = self.entries.len();
+            self.index = without_entry(self.index.take(), index, left);
         }
     }
 
-    /// Returns the index of an element's entry: the last one, if it had several. The index of a
-    /// long list answers by itself; the contract says nothing of that answer.
+    /// Returns the index of an element's entry: the last one, if it had several.
     pub fn index_of(&self, id: NodeId) -> Option<usize>
-        ensures { let entries = self.now.entries.items in
-            are_few entries ≡ true → result ≡ last_place (is_of id) entries }
+        ensures { result ≡ last_place (is_of id) self.now }
     {
-        if self.is_short() {
-            return last_entry_of(self.entries.as_slice(), id);
-        }
         match &self.index {
             Some(index) => index.position_of(id),
             None => last_entry_of(self.entries.as_slice(), id),
         }
     }
 
-    /// Returns the last element with that name after the last marker. The index of a long list
-    /// finds it by itself; the contract says nothing of that answer.
+    /// Returns the last element with that name after the last marker.
     pub fn named(&self, name: Name) -> Option<Open>
-        ensures { let elements = after_marker self.now.entries.items in
-            are_few self.now.entries.items ≡ true →
+        ensures { let elements = after_marker self.now in
             MatchOption result (NoneHas (IsNamed name) elements) (IsFirst (IsNamed name) elements) }
     {
-        if self.is_short() {
-            return last_named(self.entries.as_slice(), name);
-        }
         let Some(index) = &self.index else {
             return last_named(self.entries.as_slice(), name);
         };
@@ -438,7 +454,7 @@ impl ActiveFormatting {
 
     /// Returns the element of the entry at an index, if it is no marker.
     pub fn element_at(&self, index: usize) -> Option<Open>
-        ensures { result ≡ option_and_then element_in (slice_get self.now.entries.items index) }
+        ensures { result ≡ option_and_then element_in (slice_get self.now index) }
     {
         self.get(index)?.element()
     }

@@ -113,7 +113,7 @@ impl Model for GrowingTree {
       forest = t.tree;
       stack = t.stack.elements.items;
       numbers = numbers_of t.others.numbers.entries;
-      formatting = t.formatting.entries.items;
+      formatting = t.formatting;
       head = t.head;
       form = t.form;
       context = t.context;
@@ -122,7 +122,7 @@ impl Model for GrowingTree {
     } };
 
     ghost invariant = { λ t. AreElements t.tree t.stack.elements.items
-        t.formatting.entries.items t.head t.form t.context × IsIndexed t.stack };
+        t.formatting t.head t.form t.context × IsIndexed t.stack };
 }
 
 impl GrowingTree {

@@ -2,7 +2,8 @@
 //! theorems.
 
 ghost use Rattle.page_trees.specs.DocumentTrees.{StandsForOneDocument};
-ghost use Rattle.page_trees.specs.OrderlyTurns.{TurnsAreOrderly};
+ghost use Rattle.page_trees.specs.OrderlyTurns.{OthersAreCovered, TagsAreCovered, TurnsAreOrderly};
+ghost use Rattle.page_trees.specs.OrderlyTurns.{TurnsWithFewAreCovered};
 ghost use Rattle.page_trees.specs.ShapeExamples.{PagesAreShaped};
 ghost use Rattle.page_trees.specs.StandardDocuments.{CoveredPagesAreParsed};
 
@@ -35,4 +36,25 @@ pub fn covered_pages_are_parsed()
 #[tactic(auto, using(crate::proofs::OrderlyPages::turns_are_orderly))]
 pub fn turns_are_orderly()
     ensures { TurnsAreOrderly }
+{}
+
+/// In an orderly state every token is covered but tags: each character, comment and doctype, and
+/// the end of the page.
+#[tactic(auto, using(crate::proofs::OrderlyTokens::others_are_covered))]
+pub fn others_are_covered()
+    ensures { OthersAreCovered }
+{}
+
+/// In an orderly state in which no element is open before `html`, every tag is covered, if the list
+/// of active formatting elements has fewer than 16 entries.
+#[tactic(auto, using(crate::proofs::TagsCovered::tags_are_covered))]
+pub fn tags_are_covered()
+    ensures { TagsAreCovered }
+{}
+
+/// So each turn of a page is covered, if the list of active formatting elements has fewer than 16
+/// entries where turns begin with tags.
+#[tactic(auto, using(crate::proofs::FewListed::turns_with_few_are_covered))]
+pub fn turns_with_few_are_covered()
+    ensures { TurnsWithFewAreCovered }
 {}

@@ -72,16 +72,32 @@ impl TreeBuilder {
         }
     }
 
-    /// Processes a token, and reprocesses it as often as the rules ask for. There is a limit that
-    /// no stack of open elements reaches; past it, the rules for "in body" process the token.
+    /// Processes a token, and reprocesses it as often as the rules ask for. Within the limits the
+    /// rules are done with each token at some time.
     pub fn process(&mut self, token: Token<'_>)
         ensures limits { RemembersLimits self.old self.new }
         ensures rule { ProcessesToken token.entry self.old self.new }
     {
-        for turn in 0..self.turns() {
+        for turn in 0..u64::MAX {
             match self.step(token) {
                 Next::Done => return,
-                Next::Again => {}
+                Next::Again => {
+                    if self.is_past_limits() {
+                        return self.process_past_limits(token);
+                    }
+                }
+            }
+        }
+    }
+
+    /// Processes a token past a limit, where the state may be one to which no rules lead. It is
+    /// reprocessed so often at most; after that the rules for "in body" process it.
+    fn process_past_limits(&mut self, token: Token<'_>)
+        ensures { RemembersLimits self.old self.new }
+    {
+        for turn in 0..self.turns() {
+            if let Next::Done = self.step(token) {
+                return;
             }
         }
         self.mode = Mode::InBody;

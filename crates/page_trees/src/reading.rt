@@ -277,7 +277,7 @@ impl PageReader {
     }
 
     /// Tells tree construction what was read: the token that ended, if one did, or else the
-    /// characters before `<![` in foreign content.
+    /// characters before `<![`.
     fn tell(&mut self, kind: Option<TokenKind>)
         ensures options { self.new.options ≡ self.old.options }
         ensures limits { RemembersLimits self.old.builder self.new.builder }
@@ -289,7 +289,7 @@ impl PageReader {
         }
     }
 
-    /// Processes the characters before `<![` in foreign content, if that was read.
+    /// Processes the characters before `<![`, if that was read.
     fn before_cdata(&mut self)
         ensures options { self.new.options ≡ self.old.options }
         ensures limits { RemembersLimits self.old.builder self.new.builder }

@@ -1,4 +1,4 @@
-"""Of how many pages tree construction is proved, turn by turn: the pages in which each turn passes `covered_turn` (crates/page_trees/specs/CoveredTurns.antt;
+"""Of how many pages tree construction is proved, turn by turn: the pages in which each turn passes `lists_few_at_tags` (crates/page_trees/specs/OrderlyTurns.antt;
 `covers` below says the same), by the interpreter of docs/standard/tree_construction.txt. Outside the gate:
 
     covered_pages.py html5lib                the pages of html5lib's tests
@@ -20,17 +20,11 @@ import whole_parsing  # noqa: E402
 
 
 class Watched(construction.Builder):
-    """A builder that notes the turns that are not covered, and whether characters keep the flag for foreign content."""
+    """A builder that notes the turns that are not covered."""
 
     def __init__(self, *args, **names):
-        self.missed, self.deepest_of_all, self.keeps_flag = set(), 0, True
+        self.missed = set()
         super().__init__(*args, **names)
-
-    def step(self, token):
-        before = self.foreign
-        super().step(token)
-        if token[0] == "char" and self.foreign != before:
-            self.keeps_flag = False
 
     def use(self, mode):
         if mode == "dispatcher":
@@ -38,17 +32,13 @@ class Watched(construction.Builder):
             if fault:
                 self.missed.add(fault)
         super().use(mode)
-        self.deepest_of_all = max(self.deepest_of_all, self.deepest)
 
 
 def missed(text, scripting=False):
-    """The turns of a page that are not covered, and whether `[CDATA[` occurs in it while a character changes the flag for foreign content, or
-    rules use rules more than 64 deep."""
+    """The turns of a page that are not covered."""
     builder = Watched(scripting)
     whole_parsing.run(text, builder)
-    others = [("any mode", "[CDATA[")] if "[CDATA[" in text and not builder.keeps_flag else []
-    others += [("any mode", "more than 64 deep")] if builder.deepest_of_all > 64 else []
-    return builder.missed.union(others)
+    return builder.missed
 
 
 def html5lib():

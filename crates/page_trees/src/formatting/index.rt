@@ -1,54 +1,95 @@
 //! An index of the list of active formatting elements, for a list that is long.
 
+ghost use Rattle.std.specs.Prelude.{◌≡◌, ◌+◌, ◌<◌, ◌≤◌, [], OnOk};
+ghost use Rattle.std.specs.Prelude.{insert, length, remove, slice_set};
+ghost use denote.Enum.Declared.{tag_of};
+ghost use Rattle.page_trees.specs.KeyPlaces.{last_key};
+ghost use Rattle.page_trees.specs.ListIndex.{AreIndexed, IsEntryIn, IsPlaceIn};
+ghost use Rattle.page_trees.specs.ListIndex.{after_marker, id_key, last_after_marker};
+ghost use Rattle.page_trees.specs.ListIndex.{marker_key, name_key};
+ghost use Rattle.page_trees.specs.contracts.name.Name.{the_type};
+
 use super::Entry;
+use super::places::KeyPlaces;
 use crate::fault::PageFault;
 use crate::name::Name;
-use crate::stack::Open;
 use dom_nodes::node_data::Element;
 use dom_nodes::node_id::NodeId;
 use dom_trees::tree::Tree;
 use std::alloc::Global;
-use std::collections::{BTreeMap, BTreeSet};
+use std::collections::BTreeMap;
 
-/// The distance between the ranks of neighbours that are appended, so that others fit between them.
-const STEP: u64 = 1 << 32;
+/// The key of a marker, which is neither an id nor the number of a name or a likeness.
+const MARKER: u32 = 0xffff_ffff;
 
-/// Pairs of what an entry is looked up by, and the entry's rank.
-type Ranked = BTreeSet<(u32, u64)>;
-
-/// Finds entries by their element, their name or their likeness without a walk over the list. Each
-/// entry has a rank; the ranks increase along the list, and stay when other entries come or go.
+/// Finds entries by their element, their name or their likeness without a walk over the list.
 /// Elements with the same name and the same attributes, in whatever order, have the same likeness.
 #[derive(Drop)]
 pub struct FormattingIndex {
-    /// The rank of each entry.
-    ranks: Vec<u64>,
-    /// The likeness of each entry; 0 for a marker.
-    likenesses: Vec<u32>,
-    /// The ranks of the markers.
-    markers: Vec<u64>,
-    by_id: Ranked,
-    by_name: Ranked,
-    by_likeness: Ranked,
+    ids: KeyPlaces,
+    names: KeyPlaces,
+    likes: KeyPlaces,
     /// The likeness of each name with attributes that an element had.
     numbers: BTreeMap<String, u32>,
 }
 
+fn id_key(entry: &Entry) -> u32
+    ensures { result ≡ id_key entry.now }
+{
+    match entry {
+        Entry::Marker => MARKER,
+        Entry::Element(open) => open.id.value() as u32,
+    }
+}
+
+fn name_key(entry: &Entry) -> u32
+    ensures { result ≡ name_key entry.now }
+{
+    match entry {
+        Entry::Marker => MARKER,
+        Entry::Element(open) => open.name as u32,
+    }
+}
+
+/// Returns the likeness of an entry, or the key of a marker.
+fn like_key(entry: &Entry, likeness: u32) -> u32 {
+    match entry {
+        Entry::Marker => MARKER,
+        Entry::Element(_) => likeness,
+    }
+}
+
+/// Returns a place, unless a marker comes after it.
+fn after_marker(place: usize, marker: Option<usize>) -> Option<usize>
+    ensures { result ≡ after_marker place marker }
+{
+    let Some(marker) = marker else {
+        return Some(place);
+    };
+    if place < marker {
+        return None;
+    }
+    Some(place)
+}
+
 impl FormattingIndex {
-    pub fn new(alloc: Global) -> FormattingIndex {
+    pub fn new(alloc: Global) -> FormattingIndex
+        ensures { AreIndexed [] result }
+    {
         FormattingIndex {
-            ranks: Vec::new(alloc),
-            likenesses: Vec::new(alloc),
-            markers: Vec::new(alloc),
-            by_id: BTreeSet::new(alloc),
-            by_name: BTreeSet::new(alloc),
-            by_likeness: BTreeSet::new(alloc),
+            ids: KeyPlaces::new(alloc),
+            names: KeyPlaces::new(alloc),
+            likes: KeyPlaces::new(alloc),
             numbers: BTreeMap::new(alloc),
         }
     }
 
     /// Returns the likeness of an element. Fails when memory runs out.
-    pub fn likeness_of(&mut self, tree: &Tree, id: NodeId) -> Result<u32, PageFault> {
+    pub fn likeness_of(&mut self, tree: &Tree, id: NodeId) -> Result<u32, PageFault>
+        ensures ids { self.new.ids ≡ self.old.ids }
+        ensures names { self.new.names ≡ self.old.names }
+        ensures likes { self.new.likes ≡ self.old.likes }
+    {
         match tree.tree_node(&id) {
             Some(node) => match node.content.as_element() {
                 Some(element) => self.number_of(written(tree.allocator(), element)?),
@@ -58,8 +99,24 @@ impl FormattingIndex {
         }
     }
 
+    /// Returns the likeness of an entry's element, and 0 for a marker. Fails when memory runs out.
+    pub fn likeness_in(&mut self, tree: &Tree, entry: &Entry) -> Result<u32, PageFault>
+        ensures ids { self.new.ids ≡ self.old.ids }
+        ensures names { self.new.names ≡ self.old.names }
+        ensures likes { self.new.likes ≡ self.old.likes }
+    {
+        match entry {
+            Entry::Marker => Ok(0),
+            Entry::Element(open) => self.likeness_of(tree, open.id),
+        }
+    }
+
     /// Returns the number of a name with attributes: the next number, if no element had them yet.
-    fn number_of(&mut self, written: String) -> Result<u32, PageFault> {
+    fn number_of(&mut self, written: String) -> Result<u32, PageFault>
+        ensures ids { self.new.ids ≡ self.old.ids }
+        ensures names { self.new.names ≡ self.old.names }
+        ensures likes { self.new.likes ≡ self.old.likes }
+    {
         if let Some(number) = self.numbers.get(written.as_str()) {
             return Ok(*number);
         }
@@ -70,117 +127,70 @@ impl FormattingIndex {
         Ok(number)
     }
 
-    /// Adds an entry that is inserted at a position of the list. Fails when memory runs out.
-    pub fn add(&mut self, position: usize, entry: &Entry, likeness: u32) -> Result<(), PageFault> {
-        let position = position.min(self.ranks.len());
-        let rank = self.rank_for(position)?;
-        self.ranks.insert(position, rank)?;
-        let place = position.min(self.likenesses.len());
-        self.likenesses.insert(place, likeness)?;
-        match entry {
-            Entry::Marker => self.markers.push(rank)?,
-            Entry::Element(open) => self.add_element(open, likeness, rank)?,
-        }
+    /// Adds an entry that is inserted at a place of the list. Fails when memory runs out.
+    pub fn add(&mut self, place: usize, entry: &Entry, likeness: u32) -> Result<(), PageFault>
+        requires { IsPlaceIn self.old place }
+        ensures ids { OnOk result (self.new.ids ≡ insert self.old.ids place (id_key entry.now)) }
+        ensures names { let key = name_key entry.now in
+            OnOk result (self.new.names ≡ insert self.old.names place key) }
+        ensures likes { OnOk result (length self.new.likes ≡ length self.old.likes + 1) }
+    {
+        self.ids.insert(place, id_key(entry))?;
+        self.names.insert(place, name_key(entry))?;
+        self.likes.insert(place, like_key(entry, likeness))?;
         Ok(())
     }
 
-    fn add_element(&mut self, open: &Open, likeness: u32, rank: u64) -> Result<(), PageFault> {
-        self.by_id.insert((id_key(open.id), rank))?;
-        self.by_name.insert((open.name as u32, rank))?;
-        self.by_likeness.insert((likeness, rank))?;
+    /// Removes the entry at a place of the list.
+    pub fn remove(&mut self, place: usize)
+        requires { IsEntryIn self.old place }
+        ensures ids { self.new.ids ≡ remove self.old.ids place }
+        ensures names { self.new.names ≡ remove self.old.names place }
+        ensures likes { length self.new.likes + 1 ≡ length self.old.likes }
+    {
+        self.ids.remove(place);
+        self.names.remove(place);
+        self.likes.remove(place);
+    }
+
+    /// Replaces the entry at a place of the list by one of the same likeness. Fails when memory
+    /// runs out.
+    pub fn replace(&mut self, place: usize, entry: &Entry) -> Result<(), PageFault>
+        ensures ids { let key = id_key entry.now in
+            OnOk result (self.new.ids ≡ slice_set self.old.ids place key) }
+        ensures names { let key = name_key entry.now in
+            OnOk result (self.new.names ≡ slice_set self.old.names place key) }
+        ensures likes { self.new.likes ≡ self.old.likes }
+    {
+        self.ids.set(place, id_key(entry))?;
+        self.names.set(place, name_key(entry))?;
         Ok(())
     }
 
-    /// Returns a rank for a new entry at a position. Fails if none is left between its neighbours.
-    fn rank_for(&self, position: usize) -> Result<u64, PageFault> {
-        let below = match position.checked_sub(1) {
-            Some(before) => self.ranks.get(before).copied().unwrap_or(0),
-            None => 0,
-        };
-        let rank = match self.ranks.get(position) {
-            Some(above) => below.midpoint(*above),
-            None => below.saturating_add(STEP),
-        };
-        if rank > below {
-            Ok(rank)
-        } else {
-            Err(PageFault::Memory)
-        }
+    /// Returns the place of an element's last entry.
+    pub fn position_of(&self, id: NodeId) -> Option<usize>
+        ensures place { result ≡ last_key id self.now.ids }
+        ensures bound { id < marker_key }
+    {
+        self.ids.last(id.value() as u32)
     }
 
-    /// Removes an entry that is removed from a position of the list.
-    pub fn remove(&mut self, position: usize, entry: &Entry) {
-        if position >= self.ranks.len() || position >= self.likenesses.len() {
-            return;
-        }
-        let rank = self.ranks.remove(position);
-        let likeness = self.likenesses.remove(position);
-        match entry {
-            Entry::Marker => {
-                self.markers.pop();
-            }
-            Entry::Element(open) => {
-                self.by_id.remove(&(id_key(open.id), rank));
-                self.by_name.remove(&(open.name as u32, rank));
-                self.by_likeness.remove(&(likeness, rank));
-            }
-        }
+    /// Returns the place of the last element with that name, if it is after the last marker.
+    pub fn last_named(&self, name: Name) -> Option<usize>
+        ensures { result ≡ last_after_marker (tag_of the_type name) self.now.names }
+    {
+        let place = self.names.last(name as u32)?;
+        after_marker(place, self.names.last(MARKER))
     }
 
-    /// Replaces the id of an entry's element by that of its copy. Fails when memory runs out.
-    pub fn replace(&mut self, position: usize, old: NodeId, copy: NodeId) -> Result<(), PageFault> {
-        if let Some(rank) = self.ranks.get(position) {
-            self.by_id.remove(&(id_key(old), *rank));
-            self.by_id.insert((id_key(copy), *rank))?;
-        }
-        Ok(())
-    }
-
-    fn position(&self, rank: u64) -> Option<usize> {
-        self.ranks.binary_search(&rank).ok()
-    }
-
-    /// Returns whether an entry is after the last marker.
-    fn is_after_marker(&self, rank: u64) -> bool {
-        match self.markers.last() {
-            Some(marker) => rank > *marker,
-            None => true,
-        }
-    }
-
-    /// Returns the position of an element's entry.
-    pub fn position_of(&self, id: NodeId) -> Option<usize> {
-        self.position(nth_last(&self.by_id, id_key(id), 0)?)
-    }
-
-    /// Returns the position of the last element with that name, if it is after the last marker.
-    pub fn last_named(&self, name: Name) -> Option<usize> {
-        let rank = nth_last(&self.by_name, name as u32, 0)?;
-        if !self.is_after_marker(rank) {
-            return None;
-        }
-        self.position(rank)
-    }
-
-    /// Returns the position of the third element of that likeness, counted from the end, if it is
+    /// Returns the place of the third element of that likeness, counted from the end, if it is
     /// after the last marker.
     pub fn third_alike(&self, likeness: u32) -> Option<usize> {
-        let rank = nth_last(&self.by_likeness, likeness, 2)?;
-        if !self.is_after_marker(rank) {
-            return None;
-        }
-        self.position(rank)
+        let last = self.likes.last(likeness)?;
+        let second = self.likes.last_before(likeness, last)?;
+        let third = self.likes.last_before(likeness, second)?;
+        after_marker(third, self.likes.last(MARKER))
     }
-}
-
-fn id_key(id: NodeId) -> u32 {
-    (id.value() & 0xffff_ffff) as u32
-}
-
-/// Returns the rank of an entry with that key, counted from the end; 0 stands for the last one.
-fn nth_last(ranked: &Ranked, key: u32, nth: usize) -> Option<u64> {
-    let (found, rank) = *ranked.range(..=(key, u64::MAX)).rev().nth(nth)?;
-    if found == key { Some(rank) } else { None }
 }
 
 /// Returns the element's name and its attributes in the order of their names, with NUL characters

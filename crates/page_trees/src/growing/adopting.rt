@@ -2,12 +2,13 @@
 //! (13.2.6.4.7). A call that returns a `Result` fails only when memory or node ids run out.
 
 ghost use Rattle.std.specs.Prelude.{◌≡◌, ◌+◌, ◌^◌, ◌<◌, ◌≤◌, IfOk, OnErr, OnOk, false, insert};
-ghost use Rattle.std.specs.Prelude.{remove};
+ghost use Rattle.std.specs.Prelude.{remove, ℕ};
 ghost use Rattle.std.specs.Prelude.{true};
-ghost use Rattle.standard_trees.specs.Formatting.{reconstructed};
-ghost use Rattle.page_trees.specs.Adopting.{AdoptsChildren, AdoptsOnce, FindsAt, PutsBelow};
+ghost use Rattle.standard_trees.specs.Formatting.{adopt, adoption, reconstructed};
+ghost use Rattle.page_trees.specs.Adopting.{AdoptsChildren, AdoptsOnce, Climbs, FindsAt};
+ghost use Rattle.page_trees.specs.Adopting.{IsIndexLeft, Passes, PutsBelow, Renews};
 ghost use Rattle.page_trees.specs.Elements.{IsElement};
-ghost use Rattle.page_trees.specs.Listing.{Adopts, RoundEnds, TellsBare};
+ghost use Rattle.page_trees.specs.Listing.{AdoptsBy, RoundEnds, TellsBare};
 ghost use Rattle.page_trees.specs.Reopening.{is_closed, stays};
 ghost use Rattle.page_trees.specs.Scopes.{is_name, last_place};
 ghost use Rattle.page_trees.specs.Stands.{DoesIn};
@@ -103,7 +104,8 @@ impl GrowingTree {
     /// Runs the adoption agency algorithm for a tag. Returns `false` if the tag is to be processed
     /// like any other end tag.
     pub fn adopt(&mut self, name: Name, foster: bool) -> Result<bool, PageFault>
-        ensures { is_name name Other ≡ false → IfOk result (Adopts name self.old self.new) }
+        ensures { let rule = adoption in is_name name Other ≡ false →
+            IfOk result (AdoptsBy rule name foster self.old self.new) }
     {
         if self.has_unlisted(name) {
             self.pop();
@@ -117,8 +119,13 @@ impl GrowingTree {
     }
 
     /// Runs the outer loop up to seven times more.
-    fn adopt_again(&mut self, name: Name, foster: bool) -> Result<bool, PageFault> {
-        for _ in 1..8 {
+    fn adopt_again(&mut self, name: Name, foster: bool) -> Result<bool, PageFault>
+        ensures { let rule = adopt 7 in is_name name Other ≡ false →
+            IfOk result (AdoptsBy rule name foster self.old self.new) }
+    {
+        let mut left: usize = 7;
+        while left > 0 {
+            left -= 1;
             if let Some(done) = self.adopt_round(name, foster)? {
                 return Ok(done);
             }
@@ -142,7 +149,8 @@ impl GrowingTree {
     /// Runs the outer loop once. Returns `Some` if the algorithm is at its end; `Some(false)` if the
     /// tag is to be processed like any other end tag.
     fn adopt_round(&mut self, name: Name, foster: bool) -> Result<Option<bool>, PageFault>
-        ensures { is_name name Other ≡ false → IfOk result (RoundEnds name self.old self.new) }
+        ensures { is_name name Other ≡ false →
+            IfOk result (RoundEnds name foster self.old self.new) }
     {
         let Some(formatting) = self.formatting.named(name) else {
             return Ok(Some(false));
@@ -165,7 +173,10 @@ impl GrowingTree {
     }
 
     /// Returns the bookmark at the entry of an element.
-    fn bookmark_at(&self, id: NodeId) -> Bookmark {
+    fn bookmark_at(&self, id: NodeId) -> Bookmark
+        ensures index { (index : ℕ) → FindsAt id index self.now.formatting → result.index ≡ index }
+        ensures renewed { result.renewed ≡ false }
+    {
         Bookmark {
             index: self.formatting.index_of(id).unwrap_or(0),
             renewed: false,
@@ -181,8 +192,8 @@ impl GrowingTree {
         bookmark: Bookmark,
         foster: bool,
     ) -> Result<(), PageFault>
-        ensures { let index = bookmark.index in furthest_place ≡ place + 1 →
-            OnOk result (AdoptsOnce place index foster self.old self.new) }
+        ensures { let furthest = furthest_place in
+            OnOk result (AdoptsOnce place furthest bookmark foster self.old self.new) }
     {
         let count = self.stack.len();
         let bookmark = self.climb(place, furthest_place, bookmark)?;
@@ -204,18 +215,16 @@ impl GrowingTree {
         furthest_place: usize,
         bookmark: Bookmark,
     ) -> Result<Bookmark, PageFault>
-        ensures bookmark { furthest_place ≡ place + 1 → IfOk result (λ after. after ≡ bookmark) }
-        ensures none { furthest_place ≡ place + 1 → self.new ≡ self.old }
+        ensures { let furthest = furthest_place in
+            IfOk result (λ after. Climbs place furthest bookmark after self.old self.new) }
     {
         let below = place.saturating_add(1);
-        if furthest_place <= below {
-            return Ok(bookmark);
-        }
         let mut bookmark = bookmark;
-        let mut round: usize = 0;
-        for node_place in (below..furthest_place).rev() {
-            round = round.saturating_add(1);
-            bookmark = self.pass(node_place, round <= 3, bookmark)?;
+        let mut node_place = furthest_place;
+        while node_place > below {
+            node_place -= 1;
+            let is_far = furthest_place.saturating_sub(node_place) > 3;
+            bookmark = self.pass(node_place, !is_far, bookmark)?;
         }
         Ok(bookmark)
     }
@@ -227,7 +236,10 @@ impl GrowingTree {
         place: usize,
         is_near: bool,
         bookmark: Bookmark,
-    ) -> Result<Bookmark, PageFault> {
+    ) -> Result<Bookmark, PageFault>
+        ensures { let near = is_near in
+            IfOk result (λ after. Passes place near bookmark after self.old self.new) }
+    {
         let Some(node) = self.stack.get(place) else {
             return Ok(bookmark);
         };
@@ -246,13 +258,16 @@ impl GrowingTree {
 
     /// Replaces an element by a copy on the stack and in the list, and moves the element after it
     /// on the stack into the copy.
-    fn renew(&mut self, place: usize, index: usize) -> Result<(), PageFault> {
+    fn renew(&mut self, place: usize, index: usize) -> Result<(), PageFault>
+        ensures { OnOk result (Renews place index self.old self.new) }
+    {
         let Some(node) = self.stack.get(place) else {
             return Ok(());
         };
         let Some(last) = self.stack.behind(place) else {
             return Ok(());
         };
+        is_forest(&self.tree);
         let copy = put_into_copy(&mut self.tree, node, last.id)?;
         self.formatting.replace(index, &copy);
         self.stack.replace(place, &copy);
@@ -281,8 +296,8 @@ impl GrowingTree {
         furthest_place: usize,
         bookmark: Bookmark,
     ) -> Result<(), PageFault>
-        ensures { let index = bookmark.index in furthest_place ≡ place + 1 →
-            OnOk result (AdoptsChildren place index self.old self.new) }
+        ensures { let furthest = furthest_place in
+            OnOk result (AdoptsChildren place furthest bookmark self.old self.new) }
     {
         let Some(formatting) = self.stack.get(place) else {
             return Ok(());
@@ -309,9 +324,10 @@ impl GrowingTree {
         copy: &Open,
     ) -> Result<(), PageFault>
         requires { IsElement self.old.forest copy.now.id }
-        ensures { let index = bookmark.index in let entries = self.old.formatting in
-            FindsAt element index entries → OnOk result (self.new ≡ record self.old {
-              formatting = insert (remove entries index) index (AnEntry copy.now);
+        ensures { let entries = self.old.formatting in (gone left : ℕ) →
+            FindsAt element gone entries → IsIndexLeft gone bookmark.index left →
+            OnOk result (self.new ≡ record self.old {
+              formatting = insert (remove entries gone) left (AnEntry copy.now);
             }) }
     {
         let index = self.take_entry(element, bookmark);
@@ -321,9 +337,9 @@ impl GrowingTree {
 
     /// Removes an element's entry from the list, and returns the index of the bookmark after that.
     fn take_entry(&mut self, element: NodeId, bookmark: Bookmark) -> usize
-        ensures taken { let index = bookmark.index in let entries = self.old.formatting in
-            FindsAt element index entries → (result ≡ index) ×
-            (self.new ≡ record self.old { formatting = remove entries index }) }
+        ensures taken { let entries = self.old.formatting in (gone : ℕ) →
+            FindsAt element gone entries → IsIndexLeft gone bookmark.index result ×
+            (self.new ≡ record self.old { formatting = remove entries gone }) }
         ensures rest { self.new ≡ record self.old { formatting = self.new.formatting } }
     {
         let Some(gone) = self.formatting.index_of(element) else {

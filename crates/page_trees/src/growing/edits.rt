@@ -328,6 +328,7 @@ pub fn put_into_copy(tree: &mut Tree, element: Open, id: NodeId) -> Result<Open,
     requires moved { IsElement tree.old id }
     ensures grows { Grows tree.old tree.new }
     ensures element { IfOk result (λ copy. IsAround tree.old tree.new copy.id id) }
+    ensures shape { IfOk result (λ copy. copy ≡ copy_open element copy.id) }
     ensures made { let after = with_copy_around element.id id tree.old in
         IfOk result (λ copy. MakesNext copy.id tree.old tree.new after) }
     ensures rule { OnOk result (Changes tree.old tree.new (copied_around element.id id)) }

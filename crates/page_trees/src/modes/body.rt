@@ -9,13 +9,14 @@ ghost use Rattle.standard_trees.specs.RuleWords.{ReconstructFormatting, SetFormP
 ghost use Rattle.standard_trees.specs.RuleWords.{SkipNextLineFeed, SwitchTo, TemplateOpen, These};
 ghost use Rattle.standard_trees.specs.RuleWords.{TokenizerTo, does, is, isnt};
 ghost use Rattle.page_trees.specs.BodyTags.{Acts, ActsFor, Begins, ChangesThen, Continues};
-ghost use Rattle.page_trees.specs.BodyTags.{ActsWhere};
+ghost use Rattle.page_trees.specs.BodyTags.{ActsWhere, LeavesFew};
 ghost use Rattle.page_trees.specs.BodyTags.{ProcessesInBody, implied_in, is_inline, is_phrase};
 ghost use Rattle.page_trees.specs.BodyTags.{is_texty, only_if};
 ghost use Rattle.page_trees.specs.Closing.{item_texts};
 ghost use Rattle.page_trees.specs.Constructs.{Performs, PerformsFor, RemembersLimits};
 ghost use Rattle.page_trees.specs.Groups.{closes_p, group_named, reconstructs, spoils_frameset};
 ghost use Rattle.page_trees.specs.HeadSteps.{reading_text};
+ghost use Rattle.page_trees.specs.Images.{FostersImage, StartsImage};
 ghost use Rattle.page_trees.specs.Listing.{PerformsWhere, ProcessesStartWhere, StaysWhere};
 ghost use Rattle.page_trees.specs.Listing.{closes_nobr, closing_nobr, dropping_a, drops_a};
 ghost use Rattle.page_trees.specs.Listing.{is_formatting_name, lists_few, lists_no_a, starts_a};
@@ -165,9 +166,22 @@ impl TreeBuilder {
     fn start_image(&mut self, tag: &Tag) -> Next
         ensures limits { RemembersLimits self.old self.new }
         ensures rule { Continues Group.Image TheImage tag.now self.old self.new result }
+        ensures image { StartsImage tag.now self.old self.new }
     {
         self.insert(Name::Img, tag);
         self.tree.pop();
+        Next::Done
+    }
+
+    /// Inserts an `img` in front of the table for the start tag of an `image` (foster parenting).
+    pub fn fostered_image(&mut self, tag: &Tag) -> Next
+        ensures next { result ≡ IsDone }
+        ensures rule { FostersImage tag.now self.old self.new }
+    {
+        self.placing.foster = true;
+        self.before_start(Group::Image);
+        self.start_image(tag);
+        self.placing.foster = false;
         Next::Done
     }
 
@@ -326,6 +340,7 @@ impl TreeBuilder {
         ensures limits { RemembersLimits self.old self.new }
         ensures none { StaysWhere lists_no_a self.old self.new }
         ensures rule { ActsWhere drops_a TheA tag.now dropping_a self.old self.new }
+        ensures few { LeavesFew drops_a TheA tag.now dropping_a self.old self.new }
     {
         if let Some(open) = self.tree.formatting_named(Name::A) {
             self.adopt(Name::A, tag);
@@ -349,6 +364,7 @@ impl TreeBuilder {
     fn close_nobr(&mut self, tag: &Tag)
         ensures limits { RemembersLimits self.old self.new }
         ensures rule { ActsWhere closes_nobr TheNobr tag.now closing_nobr self.old self.new }
+        ensures few { LeavesFew closes_nobr TheNobr tag.now closing_nobr self.old self.new }
     {
         if self.tree.open().in_scope(Name::Nobr, Scope::Default) {
             self.adopt(Name::Nobr, tag);

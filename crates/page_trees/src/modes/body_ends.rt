@@ -10,7 +10,7 @@ ghost use Rattle.page_trees.specs.BodyTags.{Acts, ChangesTree, EndsInBody, ends_
 ghost use Rattle.page_trees.specs.BodyTags.{closed_to_marker, implying_p};
 ghost use Rattle.page_trees.specs.Constructs.{Performs, RemembersLimits};
 ghost use Rattle.page_trees.specs.Groups.{group_named};
-ghost use Rattle.page_trees.specs.Listing.{ProcessesEndWhere, ends_adoption, formats};
+ghost use Rattle.page_trees.specs.Listing.{ProcessesEndWhere, allows_agency, formats};
 ghost use Rattle.page_trees.specs.Names.{text_of};
 ghost use Rattle.page_trees.specs.Scopes.{is_name};
 ghost use Rattle.page_trees.specs.Stands.{closed_in, scope_kind};
@@ -62,7 +62,7 @@ impl TreeBuilder {
         ensures next { result ≡ IsDone }
         ensures limits { RemembersLimits self.old self.new }
         ensures rule { formats (group_named name) ≡ true →
-            ProcessesEndWhere ends_adoption InBody name tag.now self.old self.new result }
+            ProcessesEndWhere allows_agency InBody name tag.now self.old self.new result }
     {
         self.adopt(name, tag);
         Next::Done

@@ -9,7 +9,7 @@ ghost use Rattle.standard_trees.specs.RuleWords.{InTableBody};
 ghost use Rattle.page_tokens.specs.declared.token.Tag.{Tag as TheTag};
 ghost use Rattle.page_trees.specs.Constructs.{Performs, PerformsFor, ProcessesTag};
 ghost use Rattle.page_trees.specs.Constructs.{RemembersLimits, is_entered_plainly};
-ghost use Rattle.page_trees.specs.FosteredTags.{FostersTag};
+ghost use Rattle.page_trees.specs.FosteredTags.{FostersTag, is_image_start, names_image};
 ghost use Rattle.page_trees.specs.Groups.{is_cell_name, is_dropped_end_name, is_part_name};
 ghost use Rattle.page_trees.specs.Groups.{is_section_name};
 ghost use Rattle.page_trees.specs.LateMerges.{ProcessesTagInHtml};
@@ -98,6 +98,23 @@ fn is_ignored_end(name: Name) -> bool
         return true;
     }
     is_table_part(name)
+}
+
+/// Returns whether that is the name of an `image`.
+fn names_image(name: Name) -> bool
+    ensures { result ≡ names_image name }
+{
+    matches!(name, Name::Image)
+}
+
+/// Returns whether the tag is the start tag of an `image`.
+fn is_image(name: Name, tag: &Tag) -> bool
+    ensures { result ≡ is_image_start name tag.now.kind }
+{
+    if !names_image(name) {
+        return false;
+    }
+    is_start(tag)
 }
 
 impl TreeBuilder {
@@ -198,6 +215,9 @@ impl TreeBuilder {
     fn fostered_tag(&mut self, name: Name, tag: &Tag) -> Next
         ensures rule { FostersTag name tag.now self.old self.new result }
     {
+        if is_image(name, tag) {
+            return self.fostered_image(tag);
+        }
         self.placing.foster = true;
         let next = self.body_tag(name, tag);
         self.placing.foster = false;

@@ -16,5 +16,4 @@ loop-turn-preserved c = record {
 
 pub returns-clause-rule : goal.returns-clause-rule
 returns-clause-rule c =
-    goes_over c.args.token c.args.self.now c.loop-turn.self c.step-2.new.self c.loop-turn.turn (omega (arith, c.turns-turn-end.ensures, c.loop-turn-test.false))
-    (λ within. let before = c.step-2.ensures.limits within in record { fault = before.fault; depth = before.depth }) c.loop-turn.invariant.way
+    goes_over c.args.token c.args.self.now c.loop-turn.self c.loop-turn.turn (omega (arith, c.loop-turn-test.false)) c.loop-turn.invariant.way

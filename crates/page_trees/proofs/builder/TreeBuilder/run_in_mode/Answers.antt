@@ -1,6 +1,7 @@
 use Rattle.std.proofs.Common.{subst, sym, ◌∙◌, ◌∷◌}
 use Rattle.page_trees.specs.CharacterSteps.{RunOutcome}
 use Rattle.page_trees.specs.declared.builder.Next.{Next}
+use Rattle.page_trees.proofs.GroupRuns.{run_left_group}
 use Rattle.page_trees.proofs.RunOutcomes.{run_ignored, run_in_body, run_left, run_put}
 use Rattle.page_trees.proofs.TableRuns.{pending_plain, run_pending}
 use Rattle.page_trees.proofs.builder.TreeBuilder.run_in_mode.Goals as goal
@@ -32,4 +33,6 @@ returns-in-Pending c x xs run within b token goes covered stands =
 
 pub returns-in-Leave : goal.returns-in-Leave
 returns-in-Leave c x xs run within b token goes covered stands =
-    run_left c.args.kind c.args.self.now _ _ x xs (sym c.way_of.ensures ∙ c.in-Leave.is) run.run run.fits c.leave_mode.ensures.rule within b token goes covered stands
+    let way = sym c.way_of.ensures ∙ c.in-Leave.is in
+    run_left c.args.kind c.args.self.now _ _ x xs way run.run run.fits c.leave_mode.ensures.rule within b token goes stands
+    (λ is. run_left_group c.args.kind c.args.self.now _ _ x xs way run.run run.fits (c.leave_mode.ensures.group is) is within b token goes covered stands)

@@ -13,7 +13,7 @@ returns-then-is_empty-clause-rule c =
 pub returns-then-drops_letters-clause-rule : goal.returns-then-drops_letters-clause-rule
 returns-then-drops_letters-clause-rule c =
     take_apart _ _ _ _ _ _ c.split_spaces.ensures.front c.split_spaces.ensures.rest c.run-2.ensures.rule c.words.ensures.limits
-    (take_words _ _ _ (sym c.drops_letters.ensures ∙ c.if-drops_letters.true)) (sym (is_empty_by _) ∙ sym c.is_empty-2.ensures ∙ c.if-is_empty.false)
+    (take_words _ _ _ c.words.ensures.rule) (sym (is_empty_by _) ∙ sym c.is_empty-2.ensures ∙ c.if-is_empty.false)
 
 pub returns-clause-rule : goal.returns-clause-rule
 returns-clause-rule c =

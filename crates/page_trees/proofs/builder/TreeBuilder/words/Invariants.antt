@@ -1,8 +1,16 @@
+use Rattle.std.proofs.Common.{length}
+use Rattle.std.specs.Str.{IsUtf8}
+use Rattle.page_trees.specs.CharacterTexts.{LeavesRest}
 use Rattle.page_trees.specs.Constructs.{RemembersLimits}
 use Rattle.page_trees.proofs.builder.TreeBuilder.words.Given as goal
 
--- limits that were met stay known
-abbrev pub invariant-loop-piece : goal.invariant-loop-piece
-invariant-loop-piece l = record {
-  limits : RemembersLimits l.initial.self l.self;
+-- what is to be shown of the text, is left to be shown of its rest
+abbrev pub invariant-loop-rest : goal.invariant-loop-rest
+invariant-loop-rest l = record {
+  utf8 : IsUtf8 l.rest;
+  limits : RemembersLimits l.fn.self l.self;
+  rule : LeavesRest l.fn.text l.rest l.fn.self l.self;
 }
+
+abbrev pub decreases-loop-rest : goal.decreases-loop-rest
+decreases-loop-rest l = length l.rest

@@ -4,7 +4,7 @@ use Rattle.page_trees.proofs.formatting.ActiveFormatting.clear_to_marker.Given a
 
 -- the entries that are left decide
 abbrev pub invariant-loop-entry : goal.invariant-loop-entry
-invariant-loop-entry l = before_last is_a_marker l.self.entries.items ≡ before_last is_a_marker l.initial.self.entries.items
+invariant-loop-entry l = before_last is_a_marker l.self ≡ before_last is_a_marker l.initial.self
 
 abbrev pub decreases-loop-entry : goal.decreases-loop-entry
-decreases-loop-entry l = length l.self.entries.items
+decreases-loop-entry l = length l.self

@@ -23,6 +23,6 @@ returns-in_default-clause-rule c before o closed listed at in_head within t fost
 
 pub returns-clause-rule : goal.returns-clause-rule
 returns-clause-rule c before o closed listed at in_head within t fosters b all =
-    reopens _ c.args.self.now c.args.placing c.put_copy.new.tree c.gap-gap.result c.args.index before o c.in-Some.open c.in_ok-copy.copy closed c.push.new.self.elements.items c.replace.new.self.entries.items
+    reopens _ c.args.self.now c.args.placing c.put_copy.new.tree c.gap-gap.result c.args.index before o c.in-Some.open c.in_ok-copy.copy closed c.push.new.self.elements.items c.replace.new.self
     c.entry_element.result t c.self.view_is c.entry_element.ensures.value c.in-Some.is listed at in_head within fosters b all c.self.invariant.0.formatting c.is_forest.ensures c.gap-gap.ensures.open c.gap-gap.ensures.rule
     c.in_ok-copy.ensures.made c.in_ok-copy.ensures.shape c.in_ok-push.ensures.ok c.replace.ensures

@@ -1,5 +1,9 @@
-use Rattle.page_trees.proofs.PageTurns.{answers_taken, characters_told, within_before}
+use Rattle.std.proofs.Common.{◌∙◌, sym}
+use Rattle.page_trees.proofs.PageTurns.{answers_taken, characters_told, none_told, within_before}
 use Rattle.page_trees.proofs.reading.PageReader.before_cdata.Goals as goal
+
+pub returns-then-not-wants_characters-clause-builds : goal.returns-then-not-wants_characters-clause-builds
+returns-then-not-wants_characters-clause-builds c = none_told c.args.self.now (sym c.wants_characters.ensures.is ∙ c.if-not-wants_characters.true)
 
 pub returns-clause-limits : goal.returns-clause-limits
 returns-clause-limits c within =
