@@ -1,5 +1,7 @@
+mod CalmBack
 mod CalmFrames
 mod CalmPages
+pub mod FramedPages
 mod NodeRows
 mod ScopeLemmas
 mod TextLemmas

@@ -10,15 +10,18 @@ use Rattle.dom_links.specs.Forest.{Forest, children_of}
 use Rattle.dom_links.specs.ListMoves.{element_at}
 use Rattle.dom_links.specs.Lists.{first, last}
 use Rattle.dom_trees.specs.SameTree.{SameTree}
+use Rattle.dom_trees.specs.declared.quirks.QuirksMode.TheVariants.{NoQuirks}
 use Rattle.dom_markup.specs.Bytes.{is_whitespace}
 use Rattle.dom_markup.specs.Html.{html_of}
 use Rattle.dom_markup.specs.Markup.{Spells}
 use Rattle.dom_markup.specs.Numbered.{document_of}
 use Rattle.dom_markup.specs.Plain.{Represents}
 use Rattle.dom_markup.specs.ValueTrees.{Attribute, ValueTrees}
+use Rattle.dom_markup.specs.declared.document.Document.{Document as CalmDocument}
 use Rattle.dom_markup.specs.ValueTrees.ValueTrees.{no_trees, text_node, comment_node, doctype_node, element_node}
 use Rattle.page_trees.specs.ElementKinds.{holds_comments, holds_doctype, holds_flow, holds_parts, kind_of, may_hold}
 use Rattle.page_trees.specs.Framed.{IsFramed}
+use Rattle.page_trees.specs.Shape.{IsPage}
 use Rattle.page_trees.specs.declared.element_kinds.ElementCategory.{ElementCategory}
 use Rattle.page_trees.specs.declared.element_kinds.ElementCategory.TheVariants.{Anchor, Block, Button, DescriptionList, Document, Form}
 use Rattle.page_trees.specs.declared.element_kinds.ElementCategory.TheVariants.{Heading, Html, ItemList, Paragraph, Pre, Table, Verbatim}
@@ -177,12 +180,19 @@ pub record IsCalmPage (text : List ℕ) (trees : ValueTrees) : Type 0 where
   pub bytes : is_calm_text text ≡ true
   pub document : IsCalmDocument trees
 
--- the text is markup, and its bytes are calm: a page that may be read as it is written
-pub record IsCalmMarkup (text : List ℕ) : Type 0 where
+-- the text is a calm page, and the document that of its trees, in no-quirks mode
+pub record IsReadCalm (text : List ℕ) (document : CalmDocument) : Type 0 where
   pub trees : ValueTrees
-  pub spelled : Spells text trees
-  pub framed : IsFramed text
-  pub bytes : is_calm_text text ≡ true
+  pub page : IsCalmPage text trees
+  pub is : document.tree ≡ document_of trees
+  pub no_quirks : document.quirks_mode ≡ NoQuirks
+
+-- the tree passes the tests of calm pages: it has the shape of a page, `html` begins and ends with an element, and what it is read from is
+-- calm
+pub record PassesTests (forest : Forest) : Type 0 where
+  pub page : IsPage forest
+  pub ends : has_elements_at_ends forest ≡ true
+  pub calm : (trees : ValueTrees) → forest ≡ document_of trees → are_calm top trees ≡ true
 
 -- the options under which calm pages are parsed as explicit markup: no limit on depth, and no errors collected
 abbrev pub ReadsCalm : Options → Type 0

@@ -2,8 +2,8 @@
 
 ghost use Rattle.std.specs.Prelude.{◌≡◌, IfErr, IfOk, IfSome, MatchOption, MatchResult, None};
 ghost use Rattle.std.specs.Prelude.{true};
-ghost use Rattle.calm_pages.specs.Calm.{IsCalmDocument, IsCalmMarkup, IsCalmPage, are_calm, top};
-ghost use Rattle.calm_pages.specs.Calm.{has_elements_at_ends, is_element_at};
+ghost use Rattle.calm_pages.specs.Calm.{IsCalmDocument, IsCalmPage, IsReadCalm, PassesTests};
+ghost use Rattle.calm_pages.specs.Calm.{are_calm, has_elements_at_ends, is_element_at, top};
 ghost use Rattle.dom_links.specs.Forest.{children_of};
 ghost use Rattle.dom_links.specs.Lists.{first, last};
 ghost use Rattle.page_trees.specs.Shape.{IsPage};
@@ -28,7 +28,7 @@ pub fn read_calm(alloc: Global, source: &str) -> Result<Option<Document>, PageFa
     ensures page { IfOk result (λ found. IfSome found (λ document. IsPage document.tree)) }
     ensures calm { (trees : ValueTrees) → IsCalmPage source.now trees → IfOk result (λ found.
         MatchOption found ⊥ (λ document. document.tree ≡ document_of trees)) }
-    ensures other { (IsCalmMarkup source.now → ⊥) → IfOk result (λ found. found ≡ None) }
+    ensures read { IfOk result (λ found. IfSome found (IsReadCalm source.now)) }
 {
     if !is_framed(source) {
         return Ok(None);
@@ -63,6 +63,8 @@ fn calm_only(document: Document) -> Result<Option<Document>, PageFault>
     ensures page { IfOk result (λ found. IfSome found (λ calm. IsPage calm.tree)) }
     ensures calm { (trees : ValueTrees) → document.tree ≡ document_of trees → IsCalmDocument trees
         → IfOk result (λ found. MatchOption found ⊥ (λ calm. calm.tree ≡ document.tree)) }
+    ensures read { IfOk result (λ found. IfSome found (λ calm.
+        (calm ≡ document) × PassesTests document.tree)) }
 {
     if is_calm(&document.tree)? {
         return Ok(Some(document));
@@ -75,6 +77,7 @@ fn is_calm(tree: &Tree) -> Result<bool, PageFault>
     ensures page { IfOk result (λ is. is ≡ true → IsPage tree.now) }
     ensures calm { (trees : ValueTrees) → tree.now ≡ document_of trees → IsCalmDocument trees
         → IfOk result (λ is. is ≡ true) }
+    ensures read { IfOk result (λ is. is ≡ true → PassesTests tree.now) }
 {
     if !is_page(tree)? {
         return Ok(false);

@@ -3,7 +3,6 @@ use Rattle.std.proofs.Common.{◌≡◌, ◌∙◌, ℕ, List, None, Result, Ok,
 use Rattle.std.specs.Prelude.{Bool, IfOk, encode_utf8_all}
 use Rattle.std.specs.Str.{IsUtf8, chars}
 use Rattle.std.proofs.lemmas.Str.{encodes-chars, encodes_same}
-use Rattle.calm_pages.specs.Calm.{IsCalmMarkup}
 use Rattle.dom_markup.specs.declared.document.Document.{Document}
 use Rattle.dom_links.specs.Forest.{Forest}
 use Rattle.dom_trees.specs.declared.quirks.QuirksMode.{QuirksMode}
@@ -14,6 +13,7 @@ use Rattle.page_trees.specs.declared.growing.BuiltTree.{BuiltTree}
 use Rattle.page_trees.specs.declared.reading.Options.{Options}
 use Rattle.standard_trees.specs.Building.{Building}
 use Rattle.standard_trees.specs.Parsing.{document_of}
+use Rattle.standard_order.proofs.PageParts.{shaped_by_parts}
 use Rattle.page_reading.specs.StandardPages.{HasParsed, IsCoveredPage, IsStandardPage}
 use Rattle.page_reading.specs.declared.reading.PageParser.{PageParser}
 
@@ -33,8 +33,8 @@ pub page_finished : (ended : PageParser) (built : BuiltTree) (page : Document) �
 page_finished ended built page finishes same mode options text has covered =
     let read : IsStandardTree options.scripting text covered.end built.tree built.quirks_mode =
     finishes (ap (λ (o : Options). o.max_depth) has.options_are ∙ covered.unlimited)
-    options.scripting text has.built covered.cdata covered.depth covered.tokens covered.end covered.read in
-    parsed_same options.scripting text covered.end built.tree page.tree built.quirks_mode page.quirks_mode read (same (read.tree.page covered.shape)) mode
+    options.scripting text has.built covered.depth covered.tokens covered.end covered.read in
+    parsed_same options.scripting text covered.end built.tree page.tree built.quirks_mode page.quirks_mode read (same (read.tree.page (shaped_by_parts covered.end.tree read.root covered.parts))) mode
 
 -- what holds, holds where a call succeeds
 pub on_ok : {T E : Type 0} (r : Result T E) (P : Type 0) → P → OnOk r P
@@ -48,9 +48,8 @@ if_ok_both (Err e) P Q R both p q = tt
 
 -- a text that is given in UTF-8 is parsed by the rules
 pub by_rules : {E : Type 0} (r : Result Document E) (options : Options) (text cs : List ℕ) → IsUtf8 text → text ≡ encode_utf8_all cs →
-    ((IsCalmMarkup text → ⊥) → IsCoveredPage options (chars text) → IfOk r (IsStandardPage options (chars text))) →
-    (IsCalmMarkup (encode_utf8_all cs) → ⊥) → IsCoveredPage options cs → IfOk r (IsStandardPage options cs)
-by_rules r options text cs utf8 e rules other covered =
+    (IsCoveredPage options (chars text) → IfOk r (IsStandardPage options (chars text))) → IsCoveredPage options cs → IfOk r (IsStandardPage options cs)
+by_rules r options text cs utf8 e rules covered =
     let is : chars text ≡ cs = encodes_same (chars text) cs (encodes-chars text utf8 ∙ e) in
     subst (λ characters. IfOk r (IsStandardPage options characters)) is
-    (rules (λ calm. other (subst IsCalmMarkup e calm)) (subst (IsCoveredPage options) (sym is) covered))
+    (rules (subst (IsCoveredPage options) (sym is) covered))

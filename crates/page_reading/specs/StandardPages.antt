@@ -3,10 +3,10 @@ use Rattle.std.specs.Prelude.{◌≡◌, ◌++◌, [], Bool, List, None, false, 
 use Rattle.std.specs.Str.{chars}
 use Rattle.standard_tokens.specs.Tokens.{Token}
 use Rattle.standard_trees.specs.Building.{Building}
-use Rattle.calm_pages.specs.Calm.{IsCalmMarkup, ReadsCalm}
+use Rattle.calm_pages.specs.Calm.{ReadsCalm}
 use Rattle.dom_markup.specs.declared.document.Document.{Document}
 use Rattle.page_trees.specs.DocumentTrees.{IsParsedAs}
-use Rattle.page_trees.specs.PageShape.{is_page_of}
+use Rattle.standard_order.specs.PageTops.{roots_have_parts}
 use Rattle.page_trees.specs.PagesRead.{HasBuilt, IsCovered}
 use Rattle.page_trees.specs.declared.reading.Options.{Options}
 use Rattle.text_decoding.specs.Decoding.{characters_behind}
@@ -15,26 +15,25 @@ use Rattle.page_reading.specs.Parsers.{ReadsPage}
 use Rattle.page_reading.specs.Utf8Pages.{text_behind, utf8_text}
 use Rattle.page_reading.specs.declared.reading.PageParser.{PageParser}
 
--- The code is proved to read the page by the rules: each turn of tree construction is one that is covered, and what they come to has the
--- shape of a page. Depth is not limited.
+-- The code is proved to read the page by the rules: each turn of tree construction is one that is covered, and the element `html` of what
+-- they come to has the parts of a page. Depth is not limited.
 pub record IsCoveredPage (options : Options) (text : List ℕ) : Type 0 where
-  pub cdata : Bool
   pub depth : ℕ
   pub tokens : List Token
   pub end : Building
-  pub read : IsCovered cdata depth options.scripting text tokens end
-  pub shape : is_page_of end.tree ≡ true
+  pub read : IsCovered depth options.scripting text tokens end
+  pub parts : roots_have_parts end.tree ≡ true
   pub unlimited : options.max_depth ≡ None
 
 -- the document is the one as which the HTML Standard parses the text
 abbrev pub IsStandardPage : Options → List ℕ → Document → Type 0
 IsStandardPage options text document = IsParsedAs options.scripting text document.tree document.quirks_mode
 
--- The text is parsed as it is written, if it is a calm page. If it is no calm markup, and a page that is covered, the document is the one
--- as which the HTML Standard parses it.
+-- The text is parsed as it is written, if it is a calm page. If it is a page that is covered, the document is the one as which the HTML
+-- Standard parses it.
 pub record ReadsText (options : Options) (text : List ℕ) (document : Document) : Type 0 where
   pub written : ReadsCalm options → ReadsAsWritten text document.tree
-  pub standard : (IsCalmMarkup text → ⊥) → IsCoveredPage options (chars text) → IsStandardPage options (chars text) document
+  pub standard : IsCoveredPage options (chars text) → IsStandardPage options (chars text) document
 
 -- The parser parses a page with these options, and this text came so far, in pieces cut anywhere. No character of bytes has begun.
 pub record HasParsed (options : Options) (text : List ℕ) (parser : PageParser) : Type 0 where

@@ -8,13 +8,13 @@ ghost use Rattle.dom_links.specs.Forest.{Forest};
 ghost use Rattle.dom_markup.specs.Numbered.{document_of};
 ghost use Rattle.dom_markup.specs.ValueTrees.{ValueTrees};
 ghost use Rattle.dom_trees.specs.SameTree.{SameTree};
-ghost use Rattle.calm_pages.specs.Calm.{IsCalmMarkup, IsCalmPage, ReadsCalm, SpellsCalmPage};
+ghost use Rattle.calm_pages.specs.Calm.{IsCalmPage, ReadsCalm, SpellsCalmPage};
 ghost use Rattle.page_reading.specs.Parsers.{ReadsPage};
 ghost use Rattle.page_reading.specs.StandardPages.{EndsBytes, HasParsed, HasParsedBytes};
 ghost use Rattle.page_reading.specs.StandardPages.{IsCoveredPage, IsStandardPage, KeepsParsed};
 ghost use Rattle.page_reading.specs.StandardPages.{ParsesBytesOn, ParsesCovered};
 ghost use Rattle.page_reading.specs.StandardPages.{ParsesCoveredBytes, ParsesOn, ParsesWhole};
-ghost use Rattle.page_reading.specs.Utf8Pages.{utf8_page, utf8_text};
+ghost use Rattle.page_reading.specs.Utf8Pages.{utf8_text};
 ghost use Rattle.page_trees.specs.Shape.{IsPage};
 ghost use Rattle.standard_laws.specs.Pages.{IsParsedPage, IsWrittenPage};
 
@@ -23,6 +23,7 @@ use calm_pages::read_calm;
 use dom_markup::document::Document;
 use page_trees::{BuiltTree, Context, Options, PageFault, PageReader, make_page};
 use standard_laws::parsing::written_pages_are_parsed;
+use standard_laws::spelled::calm_pages_are_parsed;
 use std::alloc::Global;
 use text_decoding::{Encoding, decode};
 
@@ -39,9 +40,9 @@ pub struct PageParser {
 /// `TooManyNodes`.
 ///
 /// A calm page, which is explicit markup that tree construction would leave as it is, is parsed as
-/// `Document::parse` does, if depth is not limited and errors are not collected. If it is written
-/// as `html` or `clean_page` writes it, this is the tree that the HTML Standard gives. So is the
-/// tree of any other page, as far as the code is proved to read it by the rules (`other`).
+/// `Document::parse` does, if depth is not limited and errors are not collected. This is the tree
+/// that the HTML Standard gives. So is the tree of any other page, as far as the code is proved to
+/// read it by the rules (`other`).
 pub fn parse_page(alloc: Global, source: &str, options: Options) -> Result<Document, PageFault>
     ensures page { IfOk result (λ document. IsPage document.tree) }
     ensures calm { (trees : ValueTrees) → IsCalmPage source.now trees → ReadsCalm options
@@ -50,7 +51,7 @@ pub fn parse_page(alloc: Global, source: &str, options: Options) -> Result<Docum
         → IfOk result (λ document. SameTree forest 0 document.tree 0) }
     ensures standard { IsWrittenPage source.now → ReadsCalm options
         → IfOk result (λ document. IsParsedPage source.now document.tree) }
-    ensures other { (IsCalmMarkup source.now → ⊥) → IsCoveredPage options (chars source.now)
+    ensures other { IsCoveredPage options (chars source.now)
         → IfOk result (IsStandardPage options (chars source.now)) }
 {
     // A law, called for its contract alone.
@@ -63,12 +64,14 @@ fn parse_text(alloc: Global, source: &str, options: Options) -> Result<Document,
     ensures page { IfOk result (λ document. IsPage document.tree) }
     ensures calm { (trees : ValueTrees) → IsCalmPage source.now trees → ReadsCalm options
         → IfOk result (λ document. document.tree ≡ document_of trees) }
-    ensures other { (IsCalmMarkup source.now → ⊥) → IsCoveredPage options (chars source.now)
+    ensures other { IsCoveredPage options (chars source.now)
         → IfOk result (IsStandardPage options (chars source.now)) }
 {
     if !reads_calm(options) {
         return parse_any_page(alloc, source, options);
     }
+    // A law, called for its contract alone.
+    calm_pages_are_parsed();
     match read_calm(alloc, source)? {
         Some(document) => Ok(document),
         None => parse_any_page(alloc, source, options),
@@ -107,8 +110,7 @@ pub fn parse_page_bytes(
         → ReadsCalm options → IfOk result (λ document. SameTree forest 0 document.tree 0) }
     ensures standard { IsUtf8 source.now → IsWrittenPage source.now → ReadsCalm options
         → IfOk result (λ document. IsParsedPage source.now document.tree) }
-    ensures other { (IsCalmMarkup (utf8_page source.now) → ⊥)
-        → IsCoveredPage options (utf8_text source.now)
+    ensures other { IsCoveredPage options (utf8_text source.now)
         → IfOk result (IsStandardPage options (utf8_text source.now)) }
 {
     if let Ok(text) = str::from_utf8(source) {

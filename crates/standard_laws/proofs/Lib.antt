@@ -1,9 +1,16 @@
 pub mod Answering
+pub mod ByteChars
 pub mod CalmBuilt
+pub mod CalmChars
 pub mod CalmDocuments
+pub mod CalmItems
+pub mod CalmPageSpelled
 pub mod CalmParsed
 pub mod CalmPlain
 pub mod CalmReadable
+pub mod CalmSpelled
+pub mod CalmStands
+pub mod CalmTags
 pub mod CalmTokens
 pub mod CategoryPlaces
 pub mod CharTexts
@@ -14,6 +21,7 @@ pub mod NameChars
 pub mod ParsedExamples
 pub mod Pieces
 pub mod PlainNodes
+pub mod SlashedTags
 pub mod SpelledDoctypes
 pub mod SpelledNames
 pub mod SpelledOwn

@@ -7,6 +7,8 @@ ghost use Rattle.standard_laws.specs.SpelledLaws.{SpelledOwnTextsAreRead, Spelle
 ghost use Rattle.standard_laws.specs.SpelledLaws.{SpelledTextsAreRead};
 ghost use Rattle.standard_laws.specs.SpelledPages.{SpelledExampleIsRead, SpelledItemsAreRead};
 ghost use Rattle.standard_laws.specs.SpelledPages.{SpelledPagesAreRead, SpelledPagesAreReadOneWay};
+ghost use Rattle.standard_laws.specs.SpelledParsing.{CalmPagesAreDocuments, CalmPagesAreSpelled};
+ghost use Rattle.standard_laws.specs.SpelledParsing.{EachCalmPageIsParsed};
 ghost use Rattle.standard_laws.specs.SpelledParsing.{SpelledDocumentsAreParsed};
 
 use standard_tokens::laws::one_reading;
@@ -36,10 +38,22 @@ pub fn spelled_pages_are_read()
     one_reading();
 }
 
-/// A page that is spelled in any way as a calm document, with no `/` at the end of a start tag, is
-/// parsed as that document, in no-quirks mode, and as no other.
+/// A page that is spelled in any way as a calm document, where tags of void elements may end in
+/// `/>`, is parsed as that document, in no-quirks mode, and as no other.
 pub fn spelled_documents_are_parsed()
     ensures { SpelledDocumentsAreParsed }
+{
+    // A law, called for its contract alone.
+    one_parse();
+}
+
+/// Every calm page is spelled so (`spelled`). Therefore it is parsed as its document, in no-quirks
+/// mode, and as no other (`parsed`). The document of the trees that it spells is that Document
+/// (`documents`).
+pub fn calm_pages_are_parsed()
+    ensures spelled { CalmPagesAreSpelled }
+    ensures parsed { EachCalmPageIsParsed }
+    ensures documents { CalmPagesAreDocuments }
 {
     // A law, called for its contract alone.
     one_parse();
