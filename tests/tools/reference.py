@@ -34,7 +34,7 @@ PARTS = {
     "Editing": "NodeMut NodeMutMarkup NodeEdit SelectionMut Place NodeFragment",
     "Sanitising": (
         "clean clean_page clean_bytes clean_page_bytes clean_tree clean_document write_clean_tree removed_from_tree "
-        "removed_from_body Removed CleanedBytes Policy PolicyFault Rules sanitize sanitize_tree Allow"
+        "removed_from_body removed_below Removed clean_report CleanReport count_removed RemovedCounts removed_lines CleanedBytes Policy PolicyFault Rules sanitize sanitize_tree Allow"
     ),
     "Writing": (
         "NodeMarkup SerializableNodeRef TraversalScope NodeMd DocumentMd SelectionMd serialize_md MDSerializer FormatOpts "

@@ -34,6 +34,7 @@ pub mod Spellings
 pub mod Splitting
 pub mod Tidy
 pub mod TidyAttrs
+pub mod Totals
 pub mod Trimming
 pub mod Writable
 pub mod Writing

@@ -12,11 +12,9 @@ use Rattle.dom_links.specs.Walk.{row_on}
 use Rattle.dom_markup.specs.Names.{void_names}
 use Rattle.dom_markup.specs.ValueTrees.{Attribute as Left}
 use Rattle.dom_clean.specs.Ahead.{AreKnown, weight}
-use Rattle.dom_clean.specs.Cleaned.{cleaned_below, in_body}
+use Rattle.dom_clean.specs.Cleaned.{in_body}
 use Rattle.dom_clean.specs.Fates.{cleaned_address, cleaned_attr, fate_of, is_nowhere, place_below, spellable}
-use Rattle.dom_clean.specs.Parsed.{IsCleanedText}
 use Rattle.dom_clean.specs.Policy.{Policy, address_names}
-use Rattle.dom_clean.specs.Written.{text_of}
 use Rattle.dom_clean.specs.declared.fates.Fate.{Fate}
 use Rattle.dom_clean.specs.declared.fates.Fate.TheVariants.{Stays, Unwrapped}
 use Rattle.dom_clean.specs.declared.fates.Place.{Place}
@@ -85,14 +83,6 @@ removed policy forest place (Tree n contents children later) =
 -- what is taken out of what stands below a node
 abbrev pub removed_below : Policy → Forest → ℕ → List Removal
 removed_below policy forest n = removed policy forest (in_body policy) (trees forest (children_of forest n))
-
--- The text is that of what the policy leaves of some tree, below a node, and this is what it takes out there
-pub record IsReported (policy : Policy) (text : List ℕ) (removals : List Removal) : Type 0 where
-  pub cleaned : IsCleanedText policy text
-  pub forest : Forest
-  pub below : ℕ
-  pub left : text ≡ text_of (cleaned_below policy forest below)
-  pub removed : removals ≡ removed_below policy forest below
 
 -- ---- what is still to be told
 

@@ -52,9 +52,8 @@ pub fn clean(alloc: Global, source: &str, policy: &Policy) -> Result<String, Pag
 {
     // Every policy is sound.
     let _ = policy.lists();
-    let body = NodeId::new(BODY).unwrap_or(NodeId::root());
     match calm_page(alloc, source)? {
-        Some(document) => clean_node(&document.tree, body, policy),
+        Some(document) => clean_node(&document.tree, calm_body(), policy),
         None => clean_fragment(alloc, source, policy),
     }
 }
@@ -108,7 +107,7 @@ pub(crate) fn page_around(alloc: Global, text: &str) -> Result<String, OutOfMemo
 }
 
 /// Returns the text of what the policy leaves of the children of a node.
-fn clean_node(tree: &Tree, id: NodeId, policy: &Policy) -> Result<String, PageFault>
+pub(crate) fn clean_node(tree: &Tree, id: NodeId, policy: &Policy) -> Result<String, PageFault>
     ensures text { IfOk result (λ text. string_bytes text
         ≡ text_of (cleaned_below policy.now tree.now id)) }
     ensures cleaned { IfOk result (λ text. IsCleanedText policy.now (string_bytes text)) }
@@ -146,16 +145,30 @@ fn clean_fragment(alloc: Global, source: &str, policy: &Policy) -> Result<String
     ensures cleaned { IfOk result (λ text. IsCleanedText policy.now (string_bytes text)) }
     ensures left { IfOk result (λ text. IsLeftBy policy.now (string_bytes text)) }
 {
-    let options = reading_options();
-    let document = parse_page_fragment(alloc, source, Context::Html("div"), options)?;
-    let tree = &document.tree;
-    let top = first_child_id(tree.nodes(), &tree.root_id());
-    clean_node(tree, top.unwrap_or(NodeId::root()), policy)
+    let document = read_fragment(alloc, source)?;
+    clean_node(&document.tree, top_of(&document.tree), policy)
+}
+
+/// Returns the document of a fragment that isn't calm, as the contents of a `div`.
+pub(crate) fn read_fragment(alloc: Global, source: &str) -> Result<Document, PageFault> {
+    parse_page_fragment(alloc, source, Context::Html("div"), reading_options())
+}
+
+/// Returns the node below which the fragment stands in such a document.
+pub(crate) fn top_of(tree: &Tree) -> NodeId {
+    first_child_id(tree.nodes(), &tree.root_id()).unwrap_or(NodeId::root())
+}
+
+/// Returns the body of the page with a fragment in its body, if that is a calm page.
+pub(crate) fn calm_body() -> NodeId
+    ensures { result ≡ 5 }
+{
+    NodeId::new(BODY).unwrap_or(NodeId::root())
 }
 
 /// Returns the document of the page with the fragment in its body, if that is a calm page. It is
 /// read as explicit markup, without tree construction.
-fn calm_page(alloc: Global, source: &str) -> Result<Option<Document>, PageFault>
+pub(crate) fn calm_page(alloc: Global, source: &str) -> Result<Option<Document>, PageFault>
     ensures { (body : ValueTrees) → IsCalmPage (page_around source.now) (page_of body)
         → IfOk result (λ found. MatchOption found ⊥
         (λ document. document.tree ≡ document_of (page_of body))) }

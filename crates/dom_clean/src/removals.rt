@@ -59,12 +59,9 @@ pub fn removed_from_body(tree: &Tree, policy: &Policy) -> Result<Vec<Removed>, O
     removed_below(tree, &body_of(tree), policy)
 }
 
-/// Returns what the policy takes out below a node.
-pub(crate) fn removed_below(
-    tree: &Tree,
-    id: &NodeId,
-    policy: &Policy,
-) -> Result<Vec<Removed>, OutOfMemory>
+/// Returns what the policy takes out below a node, as `removed_from_tree` does below the root. Fails
+/// only if memory is refused.
+pub fn removed_below(tree: &Tree, id: &NodeId, policy: &Policy) -> Result<Vec<Removed>, OutOfMemory>
     ensures { IfOk result (λ made. map removal_of made.items
         ≡ removed_below policy.now tree.now id.now) }
 {

@@ -4,14 +4,17 @@
 //! `page` cleans standard input as a page, and `tree` cleans the tree of that page; `written`
 //! writes what is left of that tree to standard output piece by piece, and `document` prints the
 //! document of what is left of it. `removed` and `removed-body` print what is taken out below the
-//! root of that tree and of its body. `bytes` and `page-bytes` clean standard input in any encoding,
-//! as a fragment and as a page, and print the encoding and the number of errors first.
+//! root of that tree and of its body, and `counts` how often each name is taken out below the root.
+//! `report` cleans standard input as a fragment, and prints how often each name was taken out and
+//! then what is left; `bytes` and `page-bytes` clean standard input in any encoding, as a fragment
+//! and as a page, and print the encoding and the number of errors first.
 
 mod rules;
 
 use dom_clean::{
     CleanedBytes, Policy, Removed, clean, clean_bytes, clean_document, clean_page,
-    clean_page_bytes, clean_tree, removed_from_body, removed_from_tree, write_clean_tree,
+    clean_page_bytes, clean_report, clean_tree, count_removed, removed_below, removed_from_body,
+    removed_from_tree, removed_lines, write_clean_tree,
 };
 use dom_markup::document::Document;
 use dom_markup::serializing::NodeMarkup;
@@ -29,6 +32,8 @@ enum Way {
     Document,
     Removed,
     RemovedBody,
+    Counts,
+    Report,
     Bytes,
     PageBytes,
 }
@@ -60,6 +65,8 @@ fn way_of(word: &str) -> Option<Way> {
         "document" => Some(Way::Document),
         "removed" => Some(Way::Removed),
         "removed-body" => Some(Way::RemovedBody),
+        "counts" => Some(Way::Counts),
+        "report" => Some(Way::Report),
         "bytes" => Some(Way::Bytes),
         "page-bytes" => Some(Way::PageBytes),
         _ => None,
@@ -113,6 +120,18 @@ fn answer_text(rt: &HostRuntime, way: Way, source: &str, policy: &Policy) -> Opt
         Way::RemovedBody => {
             let document = page_of(rt, source)?;
             show_removed(rt, removed_from_body(&document.tree, policy).ok()?)
+        }
+        Way::Counts => {
+            let document = page_of(rt, source)?;
+            let root = document.tree.root_id();
+            let removed = removed_below(&document.tree, &root, policy).ok()?;
+            let counts = count_removed(rt.alloc(), &removed).ok()?;
+            print!(rt; "{}", removed_lines(rt.alloc(), &counts).ok()?).ok()
+        }
+        Way::Report => {
+            let report = clean_report(rt.alloc(), source, policy).ok()?;
+            let lines = removed_lines(rt.alloc(), &report.removed).ok()?;
+            print!(rt; "{lines}{}", report.text).ok()
         }
         _ => print!(rt; "{}", clean(rt.alloc(), source, policy).ok()?).ok(),
     }

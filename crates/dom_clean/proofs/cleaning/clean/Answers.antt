@@ -1,5 +1,4 @@
-use Rattle.std.proofs.Common.{◌≡◌, ℕ, ◌≤◌, Option, None, Some, sym, ap, ◌∙◌, arith}
-use Rattle.std.specs.Prelude.{MatchOption, unwrap_or}
+use Rattle.std.proofs.Common.{ap, ◌∙◌}
 use Rattle.std.proofs.lemmas.Result.{IfOk-weaker}
 use Rattle.dom_links.specs.Forest.{Forest}
 use Rattle.dom_markup.specs.Numbered.{document_of}
@@ -10,21 +9,16 @@ use Rattle.dom_clean.proofs.Again.{page_read, text_stays}
 use Rattle.dom_clean.proofs.Found.{found_is, found_none}
 use Rattle.dom_clean.proofs.cleaning.clean.Goals as goal
 
-id_is : (found : Option ℕ) (other : ℕ) → MatchOption found (4294967295 ≤ 5) (λ id. id ≡ 5) → unwrap_or found other ≡ 5
-id_is None other holds = absurd (omega (arith, holds))
-id_is (Some id) other holds = holds
-
 pub returns-in-Some-clause-calm : goal.returns-in-Some-clause-calm
 returns-in-Some-clause-calm c = λ body calm.
     let policy = c.args.policy.now in
     let read = found_is c.in_ok-document.field-0 c.in-Some.document (document_of (page_of body)) c.in-Some.is (c.in_ok-document.ensures body calm) in
-    let five : c.unwrap_or-body.result ≡ 5 = c.unwrap_or-body.ensures ∙ id_is c.new.result c.root.result c.new.ensures in
     IfOk-weaker c.clean_node.result _ _
-    (λ text is. is ∙ ap (λ n. text_of (cleaned_below policy c.in-Some.document.tree n)) five ∙ ap (λ (forest : Forest). text_of (cleaned_below policy forest 5)) read)
+    (λ text is. is ∙ ap (λ n. text_of (cleaned_below policy c.in-Some.document.tree n)) c.calm_body.ensures ∙ ap (λ (forest : Forest). text_of (cleaned_below policy forest 5)) read)
     c.clean_node.ensures.text
 
 pub returns-in-Some-clause-left : goal.returns-in-Some-clause-left
-returns-in-Some-clause-left c = IfOk-weaker c.clean_node.result _ _ (λ text is. (c.in-Some.document.tree, c.unwrap_or-body.result, is)) c.clean_node.ensures.text
+returns-in-Some-clause-left c = IfOk-weaker c.clean_node.result _ _ (λ text is. (c.in-Some.document.tree, c.calm_body.result, is)) c.clean_node.ensures.text
 
 pub returns-in-Some-clause-again : goal.returns-in-Some-clause-again
 returns-in-Some-clause-again c = λ left.
@@ -32,9 +26,8 @@ returns-in-Some-clause-again c = λ left.
     let sound = c.lists.ensures.sound in
     let page = document_of (page_of (left_below policy left.0 left.1)) in
     let read = found_is c.in_ok-document.field-0 c.in-Some.document page c.in-Some.is (c.in_ok-document.ensures (left_below policy left.0 left.1) (page_read policy sound c.args.source.now left)) in
-    let five : c.unwrap_or-body.result ≡ 5 = c.unwrap_or-body.ensures ∙ id_is c.new.result c.root.result c.new.ensures in
     IfOk-weaker c.clean_node.result _ _
-    (λ text is. is ∙ ap (λ n. text_of (cleaned_below policy c.in-Some.document.tree n)) five ∙ ap (λ (forest : Forest). text_of (cleaned_below policy forest 5)) read ∙ text_stays policy sound c.args.source.now left)
+    (λ text is. is ∙ ap (λ n. text_of (cleaned_below policy c.in-Some.document.tree n)) c.calm_body.ensures ∙ ap (λ (forest : Forest). text_of (cleaned_below policy forest 5)) read ∙ text_stays policy sound c.args.source.now left)
     c.clean_node.ensures.text
 
 pub returns-in-None-clause-calm : goal.returns-in-None-clause-calm
