@@ -38,7 +38,7 @@ none_looked_at page rules count gone is long = record {
   others = λ n known _. ap (λ (ms : List Bool). gone_at ms n) is ∙ get_or-replicate count n false true (let e = long in omega arith);
 }
 
-in_joined : (done : List ℕ) (n m : ℕ) → is_member m (done ++ n ∷ []) ≡ true → (is_member m done ≡ true) ⊎ (n ≡ m)
+pub in_joined : (done : List ℕ) (n m : ℕ) → is_member m (done ++ n ∷ []) ≡ true → (is_member m done ≡ true) ⊎ (n ≡ m)
 in_joined done n m s = elim (cases_Bool (is_member m done)) [
   | inl t ↦ inl t
   | inr f ↦ (let both : (is_member m done || is_member m (n ∷ [])) ≡ true = sym (is_member-append done (n ∷ []) m) ∙ s in

@@ -1,11 +1,17 @@
 pub mod BestLemmas
 pub mod ChosenLemmas
+pub mod ContentLemmas
+pub mod FoldLemmas
 pub mod FoundLemmas
 pub mod GoneLemmas
+pub mod HeldLemmas
 pub mod HiddenLemmas
+pub mod KindLemmas
+pub mod KnownLemmas
 pub mod LengthLemmas
 pub mod MarkLemmas
 pub mod OrderLemmas
 pub mod ShownLemmas
 pub mod SumLemmas
 pub mod TextLemmas
+pub mod WordLemmas

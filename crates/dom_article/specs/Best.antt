@@ -1,5 +1,6 @@
 -- The best block of a page in a round.
-use Rattle.std.specs.Prelude.{ℕ, ◌≡◌, ◌<ℤ◌, ◌≤ℤ◌, ℤ, pos, int_lt, ◌&&◌, ◌||◌, not, Bool, true, false, List, ◌∷◌, ◌++◌, Option, Some, None, MatchOption, slice_index_or}
+use Rattle.std.specs.Prelude.{ℕ, ◌≡◌, ◌<ℤ◌, ◌≤ℤ◌, ℤ, pos, int_lt, ◌&&◌, ◌||◌, not, Bool, true, false, List, ◌∷◌, ◌++◌, Option, Some, None}
+use Rattle.std.specs.Prelude.{MatchOption, slice_index_or}
 use Rattle.dom_links.specs.Lists.{is_member}
 use Rattle.dom_article.specs.declared.kinds.Tag.{Tag}
 use Rattle.dom_article.specs.declared.kinds.Tag.TheVariants.{Body, Document, Html, Other, Text}
@@ -61,7 +62,6 @@ facts_at facts n = slice_index_or facts n unknown
         base = pos 0;
       };
       text = record { size = 0; commas = 0; ends = true; copyright = false };
-      length = 0;
       weight = pos 0;
       is_main = false;
       holds = false;

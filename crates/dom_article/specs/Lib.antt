@@ -1,11 +1,17 @@
+pub mod Attributes
 pub mod Badness
 pub mod Best
 pub mod Blocks
 pub mod Chosen
+pub mod Contents
+pub mod Facts
 pub mod Found
 pub mod Hidden
+pub mod Known
+pub mod Names
 pub mod Nodes
 pub mod Pruned
 pub mod Scores
 pub mod Sums
 pub mod Texts
+pub mod Words

@@ -1,7 +1,8 @@
 //! The search for the article of a page.
 
 ghost use Rattle.std.specs.Prelude.{◌≡◌, IfOk, IfSome, MatchOption};
-ghost use Rattle.dom_article.specs.Found.{IsArticle, IsOfRound};
+ghost use Rattle.dom_article.specs.Found.{AreRounds, FindsNothing, IsArticle, IsFoundBy, IsStep};
+ghost use Rattle.dom_article.specs.Found.{IsTaken, better, is_enough, is_more};
 ghost use Rattle.dom_article.specs.Nodes.{IsOrdered};
 ghost use Rattle.dom_article.specs.Pruned.{marked};
 ghost use Rattle.dom_article.specs.Texts.{ShowsNoText};
@@ -87,7 +88,7 @@ fn whole(tree: &Tree) -> Result<Option<Vec<bool>>, OutOfMemory>
 /// Returns what the rounds find, without the heading that says the title again.
 fn found_for(page: &Page<'_>, metadata: &Metadata) -> Result<Option<Found>, OutOfMemory>
     requires { IsOrdered page.now }
-    ensures { IfOk result (λ taken. IfSome taken (λ found. IsOfRound page.now found.root)) }
+    ensures { IfOk result (λ taken. IfSome taken (λ found. IsTaken page.now found.root)) }
 {
     let Some(mut found) = found_in(page)? else {
         return Ok(None);
@@ -111,52 +112,92 @@ struct Found {
     total: u64,
 }
 
-/// The rounds, in order.
-static ROUNDS: [Rules; 3] = [
-    Rules {
-        hints: true,
-        cleans: true,
-    },
-    Rules {
-        hints: true,
-        cleans: false,
-    },
-    Rules {
-        hints: false,
-        cleans: false,
-    },
-];
+/// What is taken after a round.
+#[derive(Drop)]
+struct Taking {
+    taken: Option<Found>,
+    /// Whether the round found enough, so that no later one is asked.
+    is_last: bool,
+}
 
-/// Returns what the rounds find. A later round is taken if it keeps more than twice as much. `None`
-/// if none of them keeps a text.
+/// The first round looks at all that the page says.
+const FIRST: Rules = Rules {
+    hints: true,
+    cleans: true,
+};
+
+/// The second one doesn't leave out bad blocks.
+const SECOND: Rules = Rules {
+    hints: true,
+    cleans: false,
+};
+
+/// The third one doesn't look at roles and words either.
+const THIRD: Rules = Rules {
+    hints: false,
+    cleans: false,
+};
+
+/// Returns what the rounds find. `None` if none of them keeps a text.
 fn found_in(page: &Page<'_>) -> Result<Option<Found>, OutOfMemory>
     requires { IsOrdered page.now }
-    ensures { IfOk result (λ taken. IfSome taken (λ found. IsOfRound page.now found.root)) }
+    ensures { IfOk result (λ taken. AreRounds page.now taken) }
 {
-    let mut taken: Option<Found> = None;
-    for rules in &ROUNDS {
-        let Some(found) = found_by(page, *rules)? else {
-            continue;
-        };
-        let is_last = found.is_enough;
-        let is_taken = match &taken {
-            Some(other) => found.total / 2 > other.total,
-            None => found.total > 0,
-        };
-        if is_taken {
-            taken = Some(found);
-        }
-        if is_last {
-            return Ok(taken);
-        }
+    let first = after_round(page, FIRST, None)?;
+    if first.is_last {
+        return Ok(first.taken);
     }
-    Ok(taken)
+    let second = after_round(page, SECOND, first.taken)?;
+    if second.is_last {
+        return Ok(second.taken);
+    }
+    let third = after_round(page, THIRD, second.taken)?;
+    Ok(third.taken)
+}
+
+/// Asks one more round, and returns what is taken then. What a round finds is taken if it is the
+/// first that keeps a text, or keeps more than twice as much as what was taken before.
+fn after_round(page: &Page<'_>, rules: Rules, taken: Option<Found>) -> Result<Taking, OutOfMemory>
+    requires { IsOrdered page.now }
+    ensures { IfOk result (λ now. IsStep page.now rules taken now) }
+{
+    let Some(found) = found_by(page, rules)? else {
+        return Ok(Taking {
+            taken,
+            is_last: false,
+        });
+    };
+    let is_last = found.is_enough;
+    Ok(Taking {
+        taken: better(taken, found),
+        is_last,
+    })
+}
+
+/// Returns what a round found, if it takes the place of what was taken; otherwise that.
+fn better(taken: Option<Found>, found: Found) -> Option<Found>
+    ensures { result ≡ better taken found }
+{
+    if is_more(&taken, &found) {
+        return Some(found);
+    }
+    taken
+}
+
+fn is_more(taken: &Option<Found>, found: &Found) -> bool
+    ensures { result ≡ is_more taken.now found.now }
+{
+    match taken {
+        Some(other) => other.total < found.total / 2,
+        None => found.total > 0,
+    }
 }
 
 /// Returns what a round finds. `None` if it has no block at all.
 fn found_by(page: &Page<'_>, rules: Rules) -> Result<Option<Found>, OutOfMemory>
     requires { IsOrdered page.now }
-    ensures { IfOk result (λ taken. IfSome taken (λ found. IsOfRound page.now found.root)) }
+    ensures { IfOk result (λ found. MatchOption found (FindsNothing page.now rules)
+        (λ found. IsFoundBy page.now rules found)) }
 {
     let round = Round::new(page, rules)?;
     let Some(choice) = choose(page, &round)? else {
@@ -164,19 +205,22 @@ fn found_by(page: &Page<'_>, rules: Rules) -> Result<Option<Found>, OutOfMemory>
     };
     let mut found = Found::of(page, &round, &choice)?;
     let is_last = is_enough(&round, &found);
-    let sure = is_last && rules.cleans;
     found.is_enough = is_last;
-    found.sure = sure;
+    found.sure = is_last && rules.cleans;
     Ok(Some(found))
 }
 
 /// Returns whether a round found enough, so that it is the last one.
-fn is_enough(round: &Round, found: &Found) -> bool {
+fn is_enough(round: &Round, found: &Found) -> bool
+    ensures { result ≡ is_enough round.now found.now.root found.now.total }
+{
     if found.total >= ENOUGH as u64 {
         return true;
     }
-    let paragraphs = round.at(found.root).in_paragraphs;
-    paragraphs >= SHORT && found.total >= round.visible.div_ceil(6)
+    if round.at(found.root).in_paragraphs < SHORT {
+        return false;
+    }
+    round.visible <= found.total.saturating_mul(6)
 }
 
 impl Found {
@@ -246,7 +290,7 @@ impl Found {
             if seen > 16 {
                 return Ok(());
             }
-            if page.at(id).length > 400 {
+            if page.length(id) > 400 {
                 continue;
             }
             let text = page.tree.get_unchecked(&id).text()?;

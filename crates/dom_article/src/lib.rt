@@ -1,12 +1,14 @@
 //! The article of a page: what a reader came for, without navigation, advertisements and comments.
 #![tactic(auto)]
 
+mod attributes;
 mod badness;
 mod blocks;
 mod choosing;
 mod copies;
 mod finding;
 mod hidden;
+mod hints;
 mod kinds;
 pub mod laws;
 mod marking;

@@ -177,7 +177,7 @@ impl<'t> Gathered<'t> {
         if self.time.is_none() && facts.is_date {
             self.time = Some(id);
         }
-        if self.byline.is_none() && is_byline(facts) {
+        if self.byline.is_none() && is_byline(facts, page.length(id)) {
             self.byline = Some(id);
         }
         Ok(())
@@ -186,7 +186,7 @@ impl<'t> Gathered<'t> {
     /// Adds a heading, if it is short and one of the first.
     fn add_heading(&mut self, page: &Page<'t>, id: NodeId) -> Result<(), OutOfMemory> {
         let facts = page.at(id);
-        if facts.length >= LONGEST_HEADING || self.headings.len() >= MOST_HEADINGS {
+        if page.length(id) >= LONGEST_HEADING || self.headings.len() >= MOST_HEADINGS {
             return Ok(());
         }
         let node = page.tree.get_unchecked(&id);
@@ -287,8 +287,8 @@ fn is_name(word: &str, name: &str) -> bool {
 }
 
 /// Returns whether an element holds the name of the author.
-fn is_byline(facts: &Facts) -> bool {
-    if !facts.is_byline || facts.length == 0 || facts.length >= LONGEST_BYLINE {
+fn is_byline(facts: &Facts, length: u32) -> bool {
+    if !facts.is_byline || length == 0 || length >= LONGEST_BYLINE {
         return false;
     }
     !matches!(facts.kind.tag, Tag::Meta | Tag::Body)
@@ -314,7 +314,7 @@ fn date_at(page: &Page<'_>, id: NodeId) -> Result<Option<String>, OutOfMemory> {
             return Ok(Some(collapsed(page.tree.allocator(), value)?));
         }
     }
-    if page.at(id).length >= LONGEST_DATE {
+    if page.length(id) >= LONGEST_DATE {
         return Ok(None);
     }
     text_at(page, id)

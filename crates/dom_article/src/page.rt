@@ -1,20 +1,32 @@
 //! What is known of each node of a page before it is judged in rounds.
 
-ghost use Rattle.std.specs.Prelude.{◌≡◌, IfOk};
+ghost use Rattle.std.specs.Prelude.{◌≡◌, false, length, IfOk, List};
 ghost use Rattle.dom_links.specs.Forest.{parent};
+ghost use Rattle.dom_links.specs.Trees.{descendants_in_order};
+ghost use Rattle.dom_nodes.specs.declared.name.Attr.{Attr};
+ghost use Rattle.dom_nodes.specs.declared.node_data.NodeData.TheVariants.{Element as AnElement};
+ghost use Rattle.dom_article.specs.Attributes.{AreAttributes};
 ghost use Rattle.dom_article.specs.Best.{facts_at};
+ghost use Rattle.dom_article.specs.Facts.{AreFacts, AreHeld, IsBare, IsElement, IsNode};
+ghost use Rattle.dom_article.specs.Facts.{holds_in, is_head};
+ghost use Rattle.dom_article.specs.Known.{AreAlike, AreEachKnown, IsLookedAt, with_held};
+ghost use Rattle.dom_article.specs.Names.{AreKinds};
 ghost use Rattle.dom_article.specs.Nodes.{IsOrdered};
+ghost use Rattle.dom_article.specs.Texts.{page_nodes};
+ghost use Rattle.dom_article.specs.Words.{IsIndex};
 
-use crate::hidden::{hides, is_fallback_class};
+use crate::attributes::Attributes;
+use crate::hints::{
+    has_letters, has_role, is_byline, is_date, is_hidden, is_input, is_link, is_main, is_unlikely,
+    points_of_words, says_main,
+};
 use crate::kinds::{Kind, Kinds, Tag};
 use crate::marking::forest_laws;
-use crate::tables::{HINT, ROLES};
 use crate::texts::TextFacts;
 use crate::words::{Found, Words};
 use dom_nodes::fault::OutOfMemory;
 use dom_nodes::node_data::{Element, NodeData};
 use dom_nodes::node_id::NodeId;
-use dom_nodes::words::is_one_of;
 use dom_trees::tree::Tree;
 
 /// What is known of a node.
@@ -23,8 +35,6 @@ pub(crate) struct Facts {
     pub(crate) kind: Kind,
     /// What counts of its text, if it is one.
     pub(crate) text: TextFacts,
-    /// The size of the texts below it, without those of scripts and styles.
-    pub(crate) length: u32,
     /// What its class and its id add to its score.
     pub(crate) weight: i32,
     /// It says that it is the article.
@@ -52,15 +62,18 @@ pub(crate) struct Facts {
 }
 
 impl Facts {
-    fn of(kind: Kind) -> Facts {
+    /// Returns what is known of a node of which nothing but this is known.
+    fn bare(tag: Tag, text: TextFacts, is_hidden: bool) -> Facts
+        ensures bare { IsBare tag text is_hidden result }
+        ensures holds { result.holds ≡ false }
+    {
         Facts {
-            kind,
-            text: TextFacts::NONE,
-            length: 0,
+            kind: Kind::of(tag),
+            text,
             weight: 0,
             is_main: false,
             holds: false,
-            is_hidden: false,
+            is_hidden,
             has_role: false,
             is_unlikely: false,
             has_class: false,
@@ -91,7 +104,6 @@ static UNKNOWN: Facts = Facts {
         ends: true,
         copyright: false,
     },
-    length: 0,
     weight: 0,
     is_main: false,
     holds: false,
@@ -112,6 +124,8 @@ pub(crate) struct Page<'t> {
     pub(crate) tree: &'t Tree,
     pub(crate) order: Vec<NodeId>,
     pub(crate) facts: Vec<Facts>,
+    /// By node id, the size of the texts below a node, without those of scripts and styles.
+    lengths: Vec<u32>,
 }
 
 impl<'t> Page<'t> {
@@ -119,13 +133,17 @@ impl<'t> Page<'t> {
     pub(crate) fn new(tree: &'t Tree) -> Result<Page<'t>, OutOfMemory>
         ensures tree { IfOk result (λ page. page.tree.now ≡ tree.now) }
         ensures order { IfOk result (λ page. IsOrdered page) }
+        ensures facts { IfOk result (λ page. AreFacts tree.now page.facts.items) }
     {
-        let alloc = tree.allocator();
         let order = tree.descendant_ids_of(&tree.root_id())?;
-        let mut facts = vec![in alloc; Facts::of(Kind::of(Tag::Document)); tree.len()]?;
-        look_at_all(tree, &order, &mut facts)?;
-        add_up(tree, &order, &mut facts);
-        Ok(Page { tree, order, facts })
+        let facts = facts_of_all(tree, &order)?;
+        let lengths = lengths_of(tree, &order, &facts)?;
+        Ok(Page {
+            tree,
+            order,
+            facts,
+            lengths,
+        })
     }
 
     /// Returns what is known of a node.
@@ -135,6 +153,14 @@ impl<'t> Page<'t> {
         match self.facts.get(id.value()) {
             Some(facts) => facts,
             None => &UNKNOWN,
+        }
+    }
+
+    /// Returns the size of the texts below a node, without those of scripts and styles.
+    pub(crate) fn length(&self, id: NodeId) -> u32 {
+        match self.lengths.get(id.value()) {
+            Some(length) => *length,
+            None => 0,
         }
     }
 
@@ -153,42 +179,141 @@ impl<'t> Page<'t> {
     }
 }
 
-/// Looks at each node by itself.
-fn look_at_all(tree: &Tree, order: &[NodeId], facts: &mut Vec<Facts>) -> Result<(), OutOfMemory> {
+/// Returns what is known of the nodes of a tree, by node id. Fails only when memory runs out.
+fn facts_of_all(tree: &Tree, order: &[NodeId]) -> Result<Vec<Facts>, OutOfMemory>
+    requires { order.now ≡ descendants_in_order tree.now 0 }
+    ensures { IfOk result (λ facts. AreFacts tree.now facts.items) }
+{
+    let mut facts = facts_of_each(tree, order)?;
+    hold_all(tree, order, &mut facts);
+    Ok(facts)
+}
+
+/// Returns what is known of each node by itself. Fails only when memory runs out.
+fn facts_of_each(tree: &Tree, order: &[NodeId]) -> Result<Vec<Facts>, OutOfMemory>
+    requires { order.now ≡ descendants_in_order tree.now 0 }
+    ensures { IfOk result (λ facts. AreEachKnown tree.now facts.items
+        (descendants_in_order tree.now 0)) }
+{
+    forest_laws(tree);
     let alloc = tree.allocator();
-    let kinds = Kinds::new(alloc)?;
+    let mut kinds = Kinds::new(alloc)?;
     let mut words = Words::new(alloc)?;
-    for id in order {
-        let Some(node) = tree.tree_node(id) else {
-            continue;
-        };
-        let known = facts_of(&node.content, &kinds, &mut words)?;
-        if let Some(slot) = facts.get_mut(id.value()) {
-            *slot = known;
-        }
+    let document = Facts::bare(Tag::Document, TextFacts::NONE, false);
+    let mut facts = vec![in alloc; document; tree.len()]?;
+    let mut rest = order;
+    while let Some((id, others)) = rest.split_first() {
+        look_at(tree, *id, &mut kinds, &mut words, &mut facts)?;
+        rest = others;
+    }
+    Ok(facts)
+}
+
+/// Looks at a node by itself.
+fn look_at(
+    tree: &Tree,
+    id: NodeId,
+    kinds: &mut Kinds,
+    words: &mut Words,
+    facts: &mut Vec<Facts>,
+) -> Result<(), OutOfMemory>
+    requires kinds { AreKinds kinds.old }
+    requires words { IsIndex words.old }
+    ensures kinds { AreKinds kinds.new }
+    ensures words { IsIndex words.new }
+    ensures facts { IfOk result (λ _. IsLookedAt tree.now id facts.old.items facts.new.items) }
+{
+    let Some(node) = tree.tree_node(&id) else {
+        return Ok(());
+    };
+    let known = facts_of(&node.content, kinds, words)?;
+    if let Some(slot) = facts.get_mut(id.value()) {
+        *slot = known;
     }
     Ok(())
 }
 
-/// Adds up lengths, and finds the nodes that hold the article, from the last node to the first.
-fn add_up(tree: &Tree, order: &[NodeId], facts: &mut Vec<Facts>) {
+/// Finds the nodes that hold the article, from the last node to the first.
+fn hold_all(tree: &Tree, order: &[NodeId], facts: &mut Vec<Facts>)
+    requires order { order.now ≡ descendants_in_order tree.now 0 }
+    requires long { length facts.old.items ≡ length tree.now.content }
+    ensures held { AreHeld tree.now facts.new.items (page_nodes tree.now) }
+    ensures kept { AreAlike facts.old.items facts.new.items }
+{
+    forest_laws(tree);
     for id in order.iter().rev() {
-        let mut length = 0;
-        let mut holds = false;
-        if let Some(slot) = facts.get_mut(id.value()) {
-            slot.holds = slot.holds || slot.is_main || slot.kind.tag == Tag::H1;
-            holds = slot.holds;
-            if !matches!(slot.kind.tag, Tag::Script | Tag::Style) {
-                length = slot.length;
-            }
-        }
-        if let Some(parent) = parent_in(tree, *id)
-            && let Some(slot) = facts.get_mut(parent.value())
-        {
-            slot.holds = slot.holds || holds;
-            slot.length = slot.length.saturating_add(length);
+        hold(tree, *id, facts);
+    }
+    hold(tree, tree.root_id(), facts);
+}
+
+/// Finds whether a node holds the article, when that is known of its children.
+fn hold(tree: &Tree, id: NodeId, facts: &mut Vec<Facts>)
+    ensures { facts.new.items ≡ with_held tree.now id facts.old.items }
+{
+    let holds = holds_at(tree, id, facts);
+    if let Some(slot) = facts.get_mut(id.value()) {
+        slot.holds = holds;
+    }
+}
+
+/// Returns whether a node is a first heading, says that it is the article, or has a child that
+/// holds it.
+fn holds_at(tree: &Tree, id: NodeId, facts: &[Facts]) -> bool
+    ensures { result ≡ holds_in tree.now facts.now id }
+{
+    if is_head(facts_in(facts, id)) {
+        return true;
+    }
+    for child in tree.child_ids_of_it(&id, false) {
+        if facts_in(facts, child).holds {
+            return true;
         }
     }
+    false
+}
+
+/// Returns whether a node is a first heading or says that it is the article.
+fn is_head(facts: &Facts) -> bool
+    ensures { result ≡ is_head facts.now }
+{
+    if facts.is_main {
+        return true;
+    }
+    matches!(facts.kind.tag, Tag::H1)
+}
+
+/// Returns what is known of a node.
+fn facts_in(facts: &[Facts], id: NodeId) -> &Facts
+    ensures { result.now ≡ facts_at facts.now id }
+{
+    match facts.get(id.value()) {
+        Some(facts) => facts,
+        None => &UNKNOWN,
+    }
+}
+
+/// Returns the sizes of the texts below each node, without those of scripts and styles, by node id.
+/// Fails only when memory runs out.
+fn lengths_of(tree: &Tree, order: &[NodeId], facts: &[Facts]) -> Result<Vec<u32>, OutOfMemory> {
+    let mut lengths: Vec<u32> = vec![in tree.allocator(); 0; tree.len()]?;
+    for id in order.iter().rev() {
+        let known = facts_in(facts, *id);
+        let mut length = known.text.size;
+        if let Some(slot) = lengths.get_mut(id.value()) {
+            *slot = slot.saturating_add(length);
+            length = *slot;
+        }
+        if matches!(known.kind.tag, Tag::Script | Tag::Style) {
+            continue;
+        }
+        if let Some(parent) = parent_in(tree, *id)
+            && let Some(slot) = lengths.get_mut(parent.value())
+        {
+            *slot = slot.saturating_add(length);
+        }
+    }
+    Ok(lengths)
 }
 
 /// Returns the parent of a node.
@@ -203,153 +328,62 @@ fn parent_in(tree: &Tree, id: NodeId) -> Option<NodeId>
 }
 
 /// Returns what is known of a node by itself.
-fn facts_of(content: &NodeData, kinds: &Kinds, words: &mut Words) -> Result<Facts, OutOfMemory> {
+fn facts_of(content: &NodeData, kinds: &mut Kinds, words: &mut Words) -> Result<Facts, OutOfMemory>
+    requires kinds { AreKinds kinds.old }
+    requires words { IsIndex words.old }
+    ensures kinds { AreKinds kinds.new }
+    ensures words { IsIndex words.new }
+    ensures facts { IfOk result (λ facts. IsNode content.now facts) }
+{
     match content {
         NodeData::Text { contents } => {
             let text = TextFacts::of(contents.as_str());
-            let mut facts = Facts::of(Kind::of(Tag::Text));
-            facts.text = text;
-            facts.length = text.size;
-            Ok(facts)
+            Ok(Facts::bare(Tag::Text, text, false))
         }
         NodeData::Element(element) => facts_of_element(element, kinds, words),
-        _ => {
-            let mut facts = Facts::of(Kind::of(Tag::Other));
-            facts.is_hidden = true;
-            Ok(facts)
-        }
-    }
-}
-
-/// The attributes of an element that rules look at; empty where there is none.
-#[derive(Clone, Copy, Drop)]
-struct Attributes<'a> {
-    class: &'a str,
-    id: &'a str,
-    rel: &'a str,
-    role: &'a str,
-    style: &'a str,
-    itemprop: &'a str,
-    href: &'a str,
-    input: &'a str,
-    aria_hidden: bool,
-    aria_modal: bool,
-    hidden: bool,
-    has_datetime: bool,
-}
-
-impl<'a> Attributes<'a> {
-    /// Returns the attributes of an element; of two with one name the first counts.
-    fn of(element: &'a Element) -> Attributes<'a> {
-        let mut found = Attributes {
-            class: "",
-            id: "",
-            rel: "",
-            role: "",
-            style: "",
-            itemprop: "",
-            href: "#",
-            input: "",
-            aria_hidden: false,
-            aria_modal: false,
-            hidden: false,
-            has_datetime: false,
-        };
-        for attr in element.attrs().as_slice().iter().rev() {
-            found.add(attr.name.local().as_str(), attr.value.as_str());
-        }
-        found
-    }
-
-    /// Adds an attribute. Names are told apart by their lengths first.
-    fn add(&mut self, name: &str, value: &'a str) {
-        match name.len() {
-            2 if name == "id" => self.id = value,
-            3 if name == "rel" => self.rel = value,
-            4 if name == "role" => self.role = value,
-            4 if name == "href" => self.href = value,
-            4 if name == "type" => self.input = value,
-            5 if name == "class" => self.class = value,
-            5 if name == "style" => self.style = value,
-            6 if name == "hidden" => self.hidden = true,
-            8 if name == "itemprop" => self.itemprop = value,
-            8 if name == "datetime" => self.has_datetime = true,
-            10 if name == "aria-modal" => self.aria_modal = value == "true",
-            11 if name == "aria-hidden" => self.aria_hidden = value == "true",
-            _ => {}
-        }
-    }
-
-    /// Returns whether the attributes say that the element isn't shown.
-    fn hide(&self) -> bool {
-        if self.hidden || self.aria_modal || hides(self.style) {
-            return true;
-        }
-        self.aria_hidden && !is_fallback_class(self.class)
+        _ => Ok(Facts::bare(Tag::Other, TextFacts::NONE, true)),
     }
 }
 
 /// Returns what is known of an element by itself.
 fn facts_of_element(
     element: &Element,
-    kinds: &Kinds,
+    kinds: &mut Kinds,
     words: &mut Words,
-) -> Result<Facts, OutOfMemory> {
+) -> Result<Facts, OutOfMemory>
+    requires kinds { AreKinds kinds.old }
+    requires words { IsIndex words.old }
+    ensures kinds { AreKinds kinds.new }
+    ensures words { IsIndex words.new }
+    ensures facts { IfOk result (λ facts. IsNode (AnElement element.now) facts) }
+{
     let kind = kinds.kind_of(&element.name().local());
-    let mut facts = Facts::of(kind);
-    facts.is_main = matches!(kind.tag, Tag::Main | Tag::Article);
-    facts.is_hidden = kind.is_never;
-    facts.is_input = matches!(kind.tag, Tag::Input | Tag::Textarea);
-    if element.attrs().as_slice().is_empty() {
-        return Ok(facts);
-    }
     let attributes = Attributes::of(element);
-    facts.is_raised = attributes.role == "main" || attributes.itemprop == "articleBody";
-    facts.is_main = facts.is_main || facts.is_raised;
-    facts.is_link = kind.tag == Tag::A && !attributes.href.starts_with('#');
-    facts.is_input = facts.is_input && attributes.input != "hidden";
-    if !matches!(kind.tag, Tag::Html | Tag::Body) {
-        facts.is_hidden = facts.is_hidden || attributes.hide();
-        facts.has_role = !attributes.role.is_empty() && is_one_of(attributes.role, &ROLES);
-    }
-    add_hints(&mut facts, &attributes, words)?;
-    Ok(facts)
-}
-
-/// Adds what the words in class and id say.
-fn add_hints(
-    facts: &mut Facts,
-    attributes: &Attributes<'_>,
-    words: &mut Words,
-) -> Result<(), OutOfMemory> {
     let class = words.find(attributes.class)?;
     let id = words.find(attributes.id)?;
-    facts.has_class = !attributes.class.trim_ascii().is_empty();
-    facts.is_byline = class.byline
-        || id.byline
-        || attributes.rel == "author"
-        || attributes.itemprop.contains("author");
-    let is_time = facts.kind.tag == Tag::Time && attributes.has_datetime;
-    facts.is_date = is_time || attributes.itemprop == "datePublished";
-    let mut unlikely = class;
-    facts.weight = weight_of(&class);
-    if !facts.kind.is_place {
-        unlikely.unlikely = class.unlikely || id.unlikely;
-        unlikely.maybe = class.maybe || id.maybe;
-        unlikely.strong = class.strong || id.strong;
-        facts.weight = facts.weight.saturating_add(weight_of(&id));
-    }
-    facts.is_unlikely = !facts.kind.stays
-        && unlikely.unlikely
-        && (!unlikely.maybe || unlikely.strong);
-    Ok(())
+    Ok(element_facts(kind, &attributes, &class, &id))
 }
 
-/// Returns what a class or an id adds to the score.
-fn weight_of(found: &Found) -> i32 {
-    match (found.positive, found.negative) {
-        (true, false) => HINT,
-        (false, true) => -HINT,
-        _ => 0,
+/// Returns what is known of an element of this kind with these attributes, in whose class and id
+/// these words are.
+fn element_facts(kind: Kind, attributes: &Attributes<'_>, class: &Found, id: &Found) -> Facts
+    ensures { (attrs : List Attr) → AreAttributes attrs attributes.now
+        → IsElement kind attrs class.now id.now result }
+{
+    Facts {
+        kind,
+        text: TextFacts::NONE,
+        weight: points_of_words(&kind, class, id),
+        is_main: is_main(kind.tag, attributes),
+        holds: false,
+        is_hidden: is_hidden(&kind, attributes),
+        has_role: has_role(kind.tag, attributes),
+        is_unlikely: is_unlikely(&kind, class, id),
+        has_class: has_letters(attributes.class),
+        is_byline: is_byline(attributes, class, id),
+        is_date: is_date(kind.tag, attributes),
+        is_raised: says_main(attributes),
+        is_link: is_link(kind.tag, attributes),
+        is_input: is_input(kind.tag, attributes),
     }
 }

@@ -102,7 +102,7 @@ impl Run {
 }
 
 /// Returns one if it is so, otherwise 0.
-fn one_if(is_so: bool) -> u32
+pub(crate) fn one_if(is_so: bool) -> u32
     ensures { result ≡ one_if is_so }
 {
     if is_so { 1 } else { 0 }

@@ -1,7 +1,11 @@
 //! What counts of a text: its size, its commas, and how it ends.
 
 ghost use Rattle.std.specs.Prelude.{◌≡◌};
+ghost use Rattle.dom_article.specs.Contents.{ends_sentence, is_comma, size_of, text_facts};
+ghost use Rattle.dom_article.specs.Contents.{with_char};
 ghost use Rattle.dom_article.specs.Texts.{is_blank, is_visible};
+
+use crate::sums::one_if;
 
 /// What counts of a text.
 #[derive(Clone, Copy, Drop)]
@@ -25,58 +29,42 @@ impl TextFacts {
     };
 
     /// Returns what counts of a text.
-    pub(crate) fn of(text: &str) -> TextFacts {
-        if text.is_ascii() {
-            return TextFacts::of_ascii(text.as_bytes());
-        }
+    pub(crate) fn of(text: &str) -> TextFacts
+        ensures { result ≡ text_facts text.now }
+    {
         let mut facts = TextFacts::NONE;
         for c in text.chars() {
-            let size = size_of(c);
-            facts.size = facts.size.saturating_add(size);
-            if size > 0 {
-                facts.ends = ends_sentence(c);
-            }
-            if is_comma(c) {
-                facts.commas = facts.commas.saturating_add(1);
-            }
-            if c == '©' {
-                facts.copyright = true;
-            }
+            facts.add(c);
         }
         facts
     }
 
-    fn of_ascii(bytes: &[u8]) -> TextFacts {
-        let mut size: u32 = 0;
-        let mut commas: u32 = 0;
-        let mut last = b'.';
-        for byte in bytes {
-            if *byte > b' ' {
-                size = size.saturating_add(1);
-                last = *byte;
-                if *byte == b',' {
-                    commas = commas.saturating_add(1);
-                }
-            }
+    /// Adds a character.
+    fn add(&mut self, c: char)
+        ensures { self.new ≡ with_char self.old c }
+    {
+        let size = size_of(c);
+        self.size = self.size.saturating_add(size);
+        self.commas = self.commas.saturating_add(one_if(is_comma(c)));
+        if size > 0 {
+            self.ends = ends_sentence(c);
         }
-        TextFacts {
-            size,
-            commas,
-            ends: matches!(last, b'.' | b'!' | b'?' | b':'),
-            copyright: false,
-        }
+        self.copyright = self.copyright || c == '©';
     }
 }
 
 /// Returns what a character adds to the size of a text.
-fn size_of(c: char) -> u32 {
+fn size_of(c: char) -> u32
+    ensures { result ≡ size_of c }
+{
     if is_blank(c) {
         return 0;
     }
-    match c {
-        '\u{2e80}'..='\u{ffef}' => 2,
-        _ => 1,
+    let number = c as u32;
+    if number >= 0x2e80 && number <= 0xffef {
+        return 2;
     }
+    1
 }
 
 /// Returns whether a text has a character that leaves a mark.
@@ -105,12 +93,19 @@ fn is_blank(c: char) -> bool
 }
 
 /// Returns whether the character ends a sentence.
-fn ends_sentence(c: char) -> bool {
-    matches!(c, '.' | '!' | '?' | ':' | '。' | '！' | '？' | '…')
+fn ends_sentence(c: char) -> bool
+    ensures { result ≡ ends_sentence c }
+{
+    match c {
+        '.' | '!' | '?' | ':' | '\u{3002}' | '\u{ff01}' | '\u{ff1f}' | '\u{2026}' => true,
+        _ => false,
+    }
 }
 
 /// Returns whether the character is a comma of some script.
-fn is_comma(c: char) -> bool {
+fn is_comma(c: char) -> bool
+    ensures { result ≡ is_comma c }
+{
     match c {
         ',' | '\u{60c}' | '\u{fe50}' | '\u{fe10}' | '\u{fe11}' | '\u{2e41}' | '\u{2e34}' => true,
         '\u{2e32}' | '\u{ff0c}' | '\u{3001}' => true,
