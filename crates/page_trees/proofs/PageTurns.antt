@@ -223,41 +223,44 @@ wants_nothing t empty = ap (λ (text : List ℕ). may_begin_cdata t.state && not
 
 pub token_told : (kind : TokenKind) (old mid new : PageReader) → NamesArePlain → RemembersLimits old.builder mid.builder → TellsAll (Some kind) old mid → Answers old mid new →
     TellsRead (Some kind) old new
-token_told kind old mid new names remembers tells answers scripting read ended within = (wants_nothing new.tokens answers.empty, λ rest depth all end covered.
-    let within_mid : WithinLimits mid.builder = within_before mid.builder new.builder answers.builder within in
-    let e : HasEnded depth scripting read kind old = ended (remembers within_mid) rest depth all end covered in
-    let f : Feedback = page_feedback depth scripting in
-    let more : List Token = map AChar e.tokens.characters ++ e.tokens.token ∷ [] in
-    let told : List Token = e.told ++ map AChar e.tokens.characters ++ e.tokens.token ∷ [] in
-    let any = some_answer depth scripting told in
-    let other : Tokenizer = record old.tokens { state = unwrap_or (option_map state_for any.0) old.tokens.state; text = new.tokens.text } in
-    let has : HasRead f Data read told other = e.tokens.goes_on other (record {
-      only = refl;
-      empty = answers.empty;
-      state = subst (λ answer. IsAnswered answer old.tokens other) (sym any.1) (is_answered any.0 old.tokens other refl);
-    }) in
-    let c = front_steps depth scripting told all end (turns_covered depth scripting all end covered.builds) (told_front f read rest told all other has covered.reads) in
-    let plain = last_of e.told (map AChar e.tokens.characters) e.tokens.token (told_plain names f read rest told other has) in
-    let takes : TakesTokens more old.builder mid.builder = tells e.tokens.characters e.tokens.text (e.tokens.token ∷ []) e.tokens.is plain in
-    let steps = next_steps depth scripting e.told more e.now c.0 e.builds
-    (ap (page_steps depth scripting) (sym (append_assoc e.told (map AChar e.tokens.characters) (e.tokens.token ∷ []))) ∙ c.1) in
-    let asks = token_asks depth e.now c.0 e.tokens.characters e.tokens.token old.builder mid.builder covered.few takes e.switch within_mid e.stands steps in
-    let stood : Constructs (record mid.builder { switch = None }) (answered c.0) =
-    all_stand depth e.now c.0 more old.builder mid.builder covered.few takes e.switch within_mid e.stands steps in
-    record {
-      told = told;
-      now = c.0;
-      tokens = e.tokens.goes_on new.tokens (record {
-        only = answers.tokens ∙ ap (λ (s : State). record old.tokens { state = s; text = new.tokens.text; in_foreign = new.tokens.in_foreign }) (sym (ap (λ (t : Tokenizer). t.state) answers.tokens));
+token_told kind old mid new names remembers tells answers scripting read ended within = (
+  wants_nothing new.tokens answers.empty,
+  λ rest depth all end covered.
+      let within_mid : WithinLimits mid.builder = within_before mid.builder new.builder answers.builder within in
+      let e : HasEnded depth scripting read kind old = ended (remembers within_mid) rest depth all end covered in
+      let f : Feedback = page_feedback depth scripting in
+      let more : List Token = map AChar e.tokens.characters ++ e.tokens.token ∷ [] in
+      let told : List Token = e.told ++ map AChar e.tokens.characters ++ e.tokens.token ∷ [] in
+      let any = some_answer depth scripting told in
+      let other : Tokenizer = record old.tokens { state = unwrap_or (option_map state_for any.0) old.tokens.state; text = new.tokens.text } in
+      let has : HasRead f Data read told other = e.tokens.goes_on other (record {
+        only = refl;
         empty = answers.empty;
-        state = subst (λ answer. IsAnswered answer old.tokens new.tokens) (sym (switch_is depth scripting told c.0 c.1))
-            (is_answered c.0.tokenizer old.tokens new.tokens (ap (λ (t : Tokenizer). t.state) answers.tokens ∙ ap (λ s. unwrap_or s old.tokens.state) (sym asks)));
-      });
-      flag = flag_told depth scripting told c.0 c.1 mid.builder.tree stood.tree new.tokens.in_foreign answers.flag;
-      builds = c.1;
-      stands = subst (λ (s : TreeBuilder). Constructs s (answered c.0)) (sym answers.builder) stood;
-      switch = ap (λ (s : TreeBuilder). s.switch) answers.builder;
-    })
+        state = subst (λ answer. IsAnswered answer old.tokens other) (sym any.1) (is_answered any.0 old.tokens other refl);
+      }) in
+      let c = front_steps depth scripting told all end (turns_covered depth scripting all end covered.builds) (told_front f read rest told all other has covered.reads) in
+      let plain = last_of e.told (map AChar e.tokens.characters) e.tokens.token (told_plain names f read rest told other has) in
+      let takes : TakesTokens more old.builder mid.builder = tells e.tokens.characters e.tokens.text (e.tokens.token ∷ []) e.tokens.is plain in
+      let steps = next_steps depth scripting e.told more e.now c.0 e.builds
+      (ap (page_steps depth scripting) (sym (append_assoc e.told (map AChar e.tokens.characters) (e.tokens.token ∷ []))) ∙ c.1) in
+      let asks = token_asks depth e.now c.0 e.tokens.characters e.tokens.token old.builder mid.builder covered.few takes e.switch within_mid e.stands steps in
+      let stood : Constructs (record mid.builder { switch = None }) (answered c.0) =
+      all_stand depth e.now c.0 more old.builder mid.builder covered.few takes e.switch within_mid e.stands steps in
+      record {
+        told = told;
+        now = c.0;
+        tokens = e.tokens.goes_on new.tokens (record {
+          only = answers.tokens ∙ ap (λ (s : State). record old.tokens { state = s; text = new.tokens.text; in_foreign = new.tokens.in_foreign }) (sym (ap (λ (t : Tokenizer). t.state) answers.tokens));
+          empty = answers.empty;
+          state = subst (λ answer. IsAnswered answer old.tokens new.tokens) (sym (switch_is depth scripting told c.0 c.1))
+              (is_answered c.0.tokenizer old.tokens new.tokens (ap (λ (t : Tokenizer). t.state) answers.tokens ∙ ap (λ s. unwrap_or s old.tokens.state) (sym asks)));
+        });
+        flag = flag_told depth scripting told c.0 c.1 mid.builder.tree stood.tree new.tokens.in_foreign answers.flag;
+        builds = c.1;
+        stands = subst (λ (s : TreeBuilder). Constructs s (answered c.0)) (sym answers.builder) stood;
+        switch = ap (λ (s : TreeBuilder). s.switch) answers.builder;
+      },
+)
 
 -- the characters before it, and then the token
 one_told : (kind : TokenKind) (t : Tokenizer) (tokens : List Token) → Told (Some kind) t tokens → (token : Token) × (tokens ≡ token ∷ [])
@@ -285,31 +288,34 @@ token_and_text kind old mid new only chars remembers builds cs text tokens told 
 
 pub characters_told : (old mid new : PageReader) → CharactersAreTold → RemembersLimits old.builder mid.builder →
     ((cs : List ℕ) → text_of old.tokens ≡ encode_utf8_all cs → TakesTokens (map AChar cs) old.builder mid.builder) → Answers old mid new → TellsRead None old new
-characters_told old mid new law remembers tells answers scripting read has within = (wants_nothing new.tokens answers.empty, λ rest depth all end covered.
-    let within_mid : WithinLimits mid.builder = within_before mid.builder new.builder answers.builder within in
-    let e : IsBehind depth scripting read old = has (remembers within_mid) rest depth all end covered in
-    let f : Feedback = page_feedback depth scripting in
-    let at = e.tokens rest in
-    let cs : List ℕ = at.kept in
-    let told : List Token = e.told ++ map AChar cs in
-    let c = front_steps depth scripting told all end (turns_covered depth scripting all end covered.builds) (front_of_all f (read ++ rest) all _ covered.reads at.reads) in
-    let steps = next_steps depth scripting e.told (map AChar cs) e.now c.0 e.builds c.1 in
-    let takes : TakesTokens (map AChar cs) old.builder mid.builder = tells cs at.text in
-    let none : mid.builder.switch ≡ None = chars_ask depth e.now c.0 cs old.builder mid.builder covered.few takes e.switch within_mid e.stands steps in
-    let stood : Constructs (record mid.builder { switch = None }) (answered c.0) =
-    all_stand depth e.now c.0 (map AChar cs) old.builder mid.builder covered.few takes e.switch within_mid e.stands steps in
-    record {
-      told = told;
-      now = c.0;
-      tokens = law f Data read e.told old.tokens new.tokens e.tokens (record {
-        only = answers.tokens ∙ ap (λ s. record old.tokens { state = unwrap_or s old.tokens.state; text = new.tokens.text; in_foreign = new.tokens.in_foreign }) none;
-        empty = answers.empty;
-      }) cs at.text;
-      flag = flag_told depth scripting told c.0 c.1 mid.builder.tree stood.tree new.tokens.in_foreign answers.flag;
-      builds = c.1;
-      stands = subst (λ (s : TreeBuilder). Constructs s (answered c.0)) (sym answers.builder) stood;
-      switch = ap (λ (s : TreeBuilder). s.switch) answers.builder;
-    })
+characters_told old mid new law remembers tells answers scripting read has within = (
+  wants_nothing new.tokens answers.empty,
+  λ rest depth all end covered.
+      let within_mid : WithinLimits mid.builder = within_before mid.builder new.builder answers.builder within in
+      let e : IsBehind depth scripting read old = has (remembers within_mid) rest depth all end covered in
+      let f : Feedback = page_feedback depth scripting in
+      let at = e.tokens rest in
+      let cs : List ℕ = at.kept in
+      let told : List Token = e.told ++ map AChar cs in
+      let c = front_steps depth scripting told all end (turns_covered depth scripting all end covered.builds) (front_of_all f (read ++ rest) all _ covered.reads at.reads) in
+      let steps = next_steps depth scripting e.told (map AChar cs) e.now c.0 e.builds c.1 in
+      let takes : TakesTokens (map AChar cs) old.builder mid.builder = tells cs at.text in
+      let none : mid.builder.switch ≡ None = chars_ask depth e.now c.0 cs old.builder mid.builder covered.few takes e.switch within_mid e.stands steps in
+      let stood : Constructs (record mid.builder { switch = None }) (answered c.0) =
+      all_stand depth e.now c.0 (map AChar cs) old.builder mid.builder covered.few takes e.switch within_mid e.stands steps in
+      record {
+        told = told;
+        now = c.0;
+        tokens = law f Data read e.told old.tokens new.tokens e.tokens (record {
+          only = answers.tokens ∙ ap (λ s. record old.tokens { state = unwrap_or s old.tokens.state; text = new.tokens.text; in_foreign = new.tokens.in_foreign }) none;
+          empty = answers.empty;
+        }) cs at.text;
+        flag = flag_told depth scripting told c.0 c.1 mid.builder.tree stood.tree new.tokens.in_foreign answers.flag;
+        builds = c.1;
+        stands = subst (λ (s : TreeBuilder). Constructs s (answered c.0)) (sym answers.builder) stood;
+        switch = ap (λ (s : TreeBuilder). s.switch) answers.builder;
+      },
+)
 
 -- characters don't have to be told
 pub none_told : (r : PageReader) → wants_characters_of r.tokens ≡ false → TellsRead None r r
@@ -462,12 +468,15 @@ ended_noted old mid new same ends scripting read has within depth all end covere
 
 pub page_begun : (scripting : Bool) (r : PageReader) → PagesBegin → BeginsPage r.tokens → text_of r.tokens ≡ [] → r.builder.switch ≡ None →
     Constructs r.builder (start scripting) → HasBuilt scripting [] r
-page_begun scripting r law begins empty switch stands within = (wants_nothing r.tokens empty, λ rest depth all end covered. record {
-  told = [];
-  now = start scripting;
-  tokens = law (page_feedback depth scripting) Data r.tokens begins.after_return empty begins.holds;
-  flag = sym begins.in_foreign;
-  builds = refl;
-  stands = stands;
-  switch = switch;
-})
+page_begun scripting r law begins empty switch stands within = (
+  wants_nothing r.tokens empty,
+  λ rest depth all end covered. record {
+    told = [];
+    now = start scripting;
+    tokens = law (page_feedback depth scripting) Data r.tokens begins.after_return empty begins.holds;
+    flag = sym begins.in_foreign;
+    builds = refl;
+    stands = stands;
+    switch = switch;
+  },
+)

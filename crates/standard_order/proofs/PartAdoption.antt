@@ -125,11 +125,10 @@ part_copies r c formatting node last t h p off i q open_ =
     nodes = put_at last (EndOf (fresh t)) mid
 
     whole : Step r (parts_for (cls t)) t.nodes nodes
-    whole = step_both r (parts_for (cls t)) t.nodes mid nodes made (step_put r (parts_for (cls t)) last (EndOf (fresh t)) mid (plainly_for (cls t))
-        (
-          λ e. element_off Rattle.standard_order.proofs.NodeTops.Rooted mid (fresh t) (made.nodes i.nodes).top (plain_element _ mid_plain) e,
-          λ e. not_html (made.nodes i.nodes) e,
-        ) (class_kept is_plain refl (tags t.nodes) (tags mid) made.keeps last q))
+    whole = step_both r (parts_for (cls t)) t.nodes mid nodes made (step_put r (parts_for (cls t)) last (EndOf (fresh t)) mid (plainly_for (cls t)) (
+      λ e. element_off Rattle.standard_order.proofs.NodeTops.Rooted mid (fresh t) (made.nodes i.nodes).top (plain_element _ mid_plain) e,
+      λ e. not_html (made.nodes i.nodes) e,
+    ) (class_kept is_plain refl (tags t.nodes) (tags mid) made.keeps last q))
 
     new_plain : is_plain (class_at (tags nodes) (fresh t)) ≡ true
     new_plain = subst (λ ts. is_plain (class_at ts (fresh t)) ≡ true) (sym (tags_put last (EndOf (fresh t)) mid)) mid_plain
@@ -275,12 +274,11 @@ suffix_past f n (m ∷ ms) p h e = by ms (nat_eq n m) refl h e (λ k l. suffix_p
 -- the place of the last node
 ancestor_off : (r : ℕ) (c : Cls) (t : GrowingTree) (formatting : ℕ) → is_plain (class_at (tags t.nodes) formatting) ≡ true → is_member formatting t.stack ≡ true →
     In r c t → Rattle.standard_order.proofs.PartTrees.Off r (place_in t (top (behind_in formatting t.stack)))
-ancestor_off r c t formatting p open_ i =
-    (
-      Rattle.standard_order.proofs.TreeTops.place_off Rattle.standard_order.proofs.NodeTops.Rooted t ancestor (doc_in r c t i)
-          (Rattle.standard_order.proofs.PartPlaces.stack_filled r c t i) (Rattle.standard_order.proofs.PartPlaces.deep_element _ deep),
-      Rattle.standard_order.proofs.PartPlaces.place_html r c t ancestor i deep (λ one. suffix.host (host (behind_in formatting t.stack) suffix.chained elements one)),
-    )
+ancestor_off r c t formatting p open_ i = (
+  Rattle.standard_order.proofs.TreeTops.place_off Rattle.standard_order.proofs.NodeTops.Rooted t ancestor (doc_in r c t i)
+      (Rattle.standard_order.proofs.PartPlaces.stack_filled r c t i) (Rattle.standard_order.proofs.PartPlaces.deep_element _ deep),
+  Rattle.standard_order.proofs.PartPlaces.place_html r c t ancestor i deep (λ one. suffix.host (host (behind_in formatting t.stack) suffix.chained elements one)),
+)
   where
     f : ℕ → Cls
     f = class_at (tags t.nodes)

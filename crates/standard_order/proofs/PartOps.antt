@@ -77,17 +77,38 @@ in_merged r c (Some n) new t i =
 
 pub in_listed : (r : ℕ) (c : Cls) (t : GrowingTree) (es : List Entry) → PlainListed (tags t.nodes) es → In r c t → In r c (record t { listed = es })
 in_listed r c t es h i = record {
-  nodes = i.nodes; open_ = i.open_; chained = i.chained; within = i.within; inner = i.inner; listed = h; form = i.form; found = i.found;
+  nodes = i.nodes;
+  open_ = i.open_;
+  chained = i.chained;
+  within = i.within;
+  inner = i.inner;
+  listed = h;
+  form = i.form;
+  found = i.found;
 }
 
 pub in_form : (r : ℕ) (c : Cls) (t : GrowingTree) (form : FormPointer) → PlainForm (tags t.nodes) form → In r c t → In r c (record t { form = form })
 in_form r c t form h i = record {
-  nodes = i.nodes; open_ = i.open_; chained = i.chained; within = i.within; inner = i.inner; listed = i.listed; form = h; found = i.found;
+  nodes = i.nodes;
+  open_ = i.open_;
+  chained = i.chained;
+  within = i.within;
+  inner = i.inner;
+  listed = i.listed;
+  form = h;
+  found = i.found;
 }
 
 pub in_found : (r : ℕ) (c : Cls) (t : GrowingTree) (o : Option ℕ) → PlainFound (tags t.nodes) o → In r c t → In r c (record t { found = o })
 in_found r c t o h i = record {
-  nodes = i.nodes; open_ = i.open_; chained = i.chained; within = i.within; inner = i.inner; listed = i.listed; form = i.form; found = h;
+  nodes = i.nodes;
+  open_ = i.open_;
+  chained = i.chained;
+  within = i.within;
+  inner = i.inner;
+  listed = i.listed;
+  form = i.form;
+  found = h;
 }
 
 plain_filtered : (ts : List Tag) (n : ℕ) (es : List Entry) → PlainListed ts es → PlainListed ts (filter (λ entry. not (is_entry n entry)) es)

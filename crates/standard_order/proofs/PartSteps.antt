@@ -254,7 +254,14 @@ is_ordinary now info action = false
 
 same_in : (r : ℕ) (c : Cls) (t : GrowingTree) (fostering : Bool) → In r c t → In r c (record t { fostering = fostering })
 same_in r c t fostering i = record {
-  nodes = i.nodes; open_ = i.open_; chained = i.chained; within = i.within; inner = i.inner; listed = i.listed; form = i.form; found = i.found;
+  nodes = i.nodes;
+  open_ = i.open_;
+  chained = i.chained;
+  within = i.within;
+  inner = i.inner;
+  listed = i.listed;
+  form = i.form;
+  found = i.found;
 }
 
 pub in_performed : (r : ℕ) (c : Cls) (now : Bool) (level : Level) (info : Info) (action : Action) (tests : List Test) (b : Building) (new : Level) →

@@ -156,13 +156,20 @@ template_closed r c t any i = by (past test t.stack) left (elements_past (tags t
         in_head (m ∷ ms) h k same =
             let links : (on (f n) (f m) ≡ true) × (chain (of f (m ∷ ms)) ≡ true) = both (on (f n) (f m)) (chain (of f (m ∷ ms))) k in
             let rest : m ∷ ms ≡ r ∷ [] = alone m ms (on_root (f n) (f m) h links.0) links.1 in
-            inr (inl (n, open_html (n ∷ m ∷ ms) (n ∷ r ∷ []) (ap (λ s. n ∷ s) rest)
-            (ap (λ x. x || has_body (of f (m ∷ ms))) (head_body (f n) h) ∙ ap (λ s. has_body (of f s)) rest
-            ∙ ap (λ x. x || false) (ap is_body i.nodes.frame.root)) same, h))
+            inr (inl (
+              n,
+              open_html (n ∷ m ∷ ms) (n ∷ r ∷ []) (ap (λ s. n ∷ s) rest)
+                  (ap (λ x. x || has_body (of f (m ∷ ms))) (head_body (f n) h) ∙ ap (λ s. has_body (of f s)) rest
+                  ∙ ap (λ x. x || false) (ap is_body i.nodes.frame.root)) same,
+              h,
+            ))
 
         cut : (x y z : Bool) → is_deep (f n) ≡ x → is_head (f n) ≡ y → is_root (f n) ≡ z → x || (y || z) ≡ true → Closing r (with_stack t (n ∷ ns))
-        cut true y z d h k s = inl (context (of f (n ∷ ns)), in_turned r c (context (of f (n ∷ ns))) t (n ∷ ns) l.chained refl
-            (deep_inner (of f (n ∷ ns)) l.chained d) l.body e i)
+        cut true y z d h k s = inl (
+          context (of f (n ∷ ns)),
+          in_turned r c (context (of f (n ∷ ns))) t (n ∷ ns) l.chained refl
+              (deep_inner (of f (n ∷ ns)) l.chained d) l.body e i,
+        )
         cut false true z d h k s = in_head ns h l.chained l.body
         cut false false true d h k s = inr (inr (open_html (n ∷ ns) (r ∷ []) (alone n ns k l.chained)
             (ap (λ s. has_body (of f s)) (alone n ns k l.chained) ∙ ap (λ x. x || false) (ap is_body i.nodes.frame.root)) l.body))
