@@ -30,7 +30,7 @@ use Rattle.dom_article.proofs.SumLemmas.{root_apart}
 
 -- ---- one node more
 
--- Of a node that is looked at twice, the same is known.
+-- What is known of the nodes so far stays known when one more node is looked at.
 pub known_more : (forest : Forest) (old new : List Facts) (ns : List ℕ) (n : ℕ) → IsForest forest → AreLines forest → is_member n (descendants_in_order forest 0) ≡ true →
     AreEachKnown forest old ns → IsLookedAt forest n old new → AreEachKnown forest new (ns ++ n ∷ [])
 known_more forest old new ns n good lines stands was looks = record {

@@ -38,7 +38,7 @@ use Rattle.page_tokens.specs.StandardStates.{may_begin_cdata, state_of, state_in
 -- ---- the standard's side
 
 -- The machine goes on from one place in a text to another by steps behind which tree construction switches nothing, and emits these tokens.
--- Whatever its flag for foreign content is, each step is the same.
+-- None of these steps depends on its flag for foreign content.
 pub data Goes : Machine → List ℕ → List StandardToken → Machine → List ℕ → Type 0 where
   stays : {m : Machine} {text : List ℕ} → Goes m text [] m text
   steps : {m n : Machine} {text rest : List ℕ} {tokens : List StandardToken} → (s : Step) → ((foreign : Bool) → step foreign m text ≡ s) →

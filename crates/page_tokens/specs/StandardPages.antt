@@ -24,7 +24,7 @@ pub record FollowsAnywhere (old new : Tokenizer) (read : List ℕ) (told : Optio
   pub leaves : Leaves old new
   pub reads : (m : Machine) (ahead rest : List ℕ) → Holds old ahead m → Behind old new read told m ahead rest
 
--- the same, unless memory runs out, and the flag may be asked
+-- it reads on so, unless memory runs out; or it stands where the flag for foreign content is asked
 abbrev pub ReadsAnywhere : {E : Type 0} → Tokenizer → Tokenizer → List ℕ → Result (Option TokenKind) E → Type 0
 ReadsAnywhere old new read result =
     IfOk result (λ told. new.refused ≡ false → FollowsAnywhere old new read told ⊎ AsksFlag old new read told)
@@ -87,7 +87,7 @@ pub record ReadsOn (old new : Tokenizer) (read : List ℕ) (told : Option TokenK
   pub in_foreign : new.in_foreign ≡ old.in_foreign
   pub reads : ReadsAlike old new read told
 
--- the same, if characters don't have to be told before
+-- it reads on so, if no characters that were read have to be given to tree construction before
 pub record ReadsText (old new : Tokenizer) (read : List ℕ) (told : Option TokenKind) : Type 0 where
   pub memory : old.refused ≡ false
   pub in_foreign : new.in_foreign ≡ old.in_foreign

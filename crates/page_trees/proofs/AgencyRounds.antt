@@ -40,7 +40,7 @@ first_stands P Q (Entry.Marker ∷ es) x all is = absurd is
 first_stands P Q (Entry.Element o ∷ es) x all (inl here) = subst (λ (p : Open). P (Entry.Element p)) here.1 (All-head P (Entry.Element o) es all)
 first_stands P Q (Entry.Element o ∷ es) x all (inr later) = first_stands P Q es x (All-tail P (Entry.Element o) es all) later.1
 
--- what the search in the list tells
+-- what the search for a name in a short list returns
 abbrev pub Named : Name → TreeState → Option Open → Type 0
 Named name s r = are_few s.formatting ≡ true → MatchOption r (NoneHas (IsNamed name) (after_marker s.formatting)) (IsFirst (IsNamed name) (after_marker s.formatting))
 

@@ -79,7 +79,7 @@ turned_back low high = ap (λ (es : List Entry). map entry_of es) (reverse-appen
 long_back : (low : List Entry) (back : List StandardEntry) → map entry_of (reverse low) ≡ back → length low ≡ length back
 long_back low back e = sym (length-reverse low) ∙ sym (length-map (reverse low) entry_of) ∙ ap (λ (es : List StandardEntry). length es) e
 
--- the same around one entry
+-- a list and its reverse, split at one entry
 pub record IsTurnedAt (front : List StandardEntry) (x : StandardEntry) (back : List StandardEntry) (es : List Entry) : Type 0 where
   pub low : List Entry
   pub entry : Entry

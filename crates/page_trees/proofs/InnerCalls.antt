@@ -90,7 +90,7 @@ is_at place index b s t l node c w at =
 same_open : (x y : Open) → Some x ≡ Some y → x ≡ y
 same_open x y e = cc
 
--- what the search in the list tells
+-- what the search for an element in a short list returns
 abbrev pub TellsIndex : ℕ → TreeState → Option ℕ → Type 0
 TellsIndex n view r = are_few view.formatting ≡ true → r ≡ last_place (is_of n) view.formatting
 

@@ -1,4 +1,4 @@
--- What a search for a null tells of a text.
+-- Whether a null is found in a text says whether it has one.
 use Rattle.std.proofs.Common.{◌≡◌, ◌<◌, ℕ, suc, zero, Bool, true, false, not, List, [], ◌∷◌, length, refl, sym, ap, ◌∙◌, arith}
 use Rattle.std.specs.Prelude.{None, Option, Some, get_or, is_some, ◌&&◌}
 use Rattle.std.proofs.lemmas.Bool.{eq-eqb}

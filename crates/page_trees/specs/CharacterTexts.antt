@@ -48,7 +48,7 @@ TakesCharacters cs old new =
 abbrev pub TakesText : List ℕ → TreeBuilder → TreeBuilder → Type 0
 TakesText text old new = (cs : List ℕ) → text ≡ encode_utf8_all cs → TakesCharacters cs old new
 
--- the same, if none of them is a null
+-- the characters of a text without nulls are processed, one after the other
 abbrev pub TakesNoNulls : List ℕ → TreeBuilder → TreeBuilder → Type 0
 TakesNoNulls text old new = (cs : List ℕ) → text ≡ encode_utf8_all cs → has_no_null cs ≡ true → TakesCharacters cs old new
 

@@ -47,7 +47,7 @@ abbrev pub EachCalmPageIsParsed : Type 0
 EachCalmPageIsParsed = (text : List ℕ) (trees : ValueTrees) → IsUtf8 text → IsCalmPage text trees →
     IsPageOnlyOf (chars text) (nodes_of trees)
 
--- the document of the trees that a calm page spells is the one as which the page is parsed, in no-quirks mode
+-- the document of the trees that are written in a calm page is the one as which the page is parsed, in no-quirks mode
 abbrev pub CalmPagesAreDocuments : Type 0
 CalmPagesAreDocuments = (text : List ℕ) (trees : ValueTrees) → IsUtf8 text → IsCalmPage text trees → (scripting : Bool) →
     IsParsedAs scripting (chars text) (document_of trees) NoQuirks

@@ -48,8 +48,8 @@ pub fn spelled_documents_are_parsed()
 }
 
 /// Every calm page is spelled so (`spelled`). Therefore it is parsed as its document, in no-quirks
-/// mode, and as no other (`parsed`). The document of the trees that it spells is that Document
-/// (`documents`).
+/// mode, and as no other (`parsed`). The document of the trees that are written in it is that
+/// Document (`documents`).
 pub fn calm_pages_are_parsed()
     ensures spelled { CalmPagesAreSpelled }
     ensures parsed { EachCalmPageIsParsed }

@@ -66,7 +66,7 @@ inner_root _ h = refl
 inner_element : (d : Cls) → is_inner d ≡ true → is_element d ≡ true
 inner_element d h = deep_element d (ap (λ x. x || is_inner d) (inner_odd d h) ∙ h)
 
--- one of these, and the same
+-- two classes are equal, and are of inner elements
 abbrev pub same_inner : Cls → Cls → Bool
 same_inner TemplateC TemplateC = true
 same_inner TableC TableC = true
