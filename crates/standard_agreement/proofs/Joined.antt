@@ -52,7 +52,7 @@ answers_more depth b c f before t all steps s later (x ∷ seen) more e =
 abbrev pub quiet : Building → Building
 quiet b = record b { tokenizer = None }
 
-steps_append : (depth : ℕ) (b c : Building) (xs ys : List Token) → tree_steps depth b xs ≡ Some c → tree_steps depth b (xs ++ ys) ≡ tree_steps depth c ys
+pub steps_append : (depth : ℕ) (b c : Building) (xs ys : List Token) → tree_steps depth b xs ≡ Some c → tree_steps depth b (xs ++ ys) ≡ tree_steps depth c ys
 steps_append depth b c [] ys h = ap (λ x. tree_steps depth x ys) (same_Some b c h)
 steps_append depth b c (x ∷ xs) ys h = by_step (tree_step depth b x) h (λ d k. steps_append depth d c xs ys k)
   where

@@ -19,4 +19,5 @@ pub mod Steps
 pub mod Store
 pub mod Telling
 pub mod Texts
+pub mod TextsRead
 pub mod Writing

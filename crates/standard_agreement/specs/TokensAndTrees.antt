@@ -25,3 +25,15 @@ abbrev pub FragmentsAreBuiltOfTokens : Type 0
 FragmentsAreBuiltOfTokens = (depth : ℕ) (scripting : Bool) (around : Surroundings) (text : List ℕ) (all : List Token) (end : Building) →
     ReadsText (feedback_of depth (fragment_start scripting around)) (first_state scripting around) text all →
     tree_steps depth (fragment_start scripting around) all ≡ Some end → IsFragmentOf scripting around text (nodes_of end)
+
+-- Every text of a page is read as tokens, of which a Document is built: some depth suffices.
+abbrev pub EveryTextIsBuiltOfTokens : Type 0
+EveryTextIsBuiltOfTokens = (scripting : Bool) (text : List ℕ) → (depth : ℕ) × (all : List Token) × (end : Building) ×
+    ReadsPage (feedback_of depth (start scripting)) text all × (tree_steps depth (start scripting) all ≡ Some end)
+
+-- and that of a fragment, in every context, as tokens of which its nodes are built
+abbrev pub EveryFragmentIsBuiltOfTokens : Type 0
+EveryFragmentIsBuiltOfTokens =
+    (scripting : Bool) (around : Surroundings) (text : List ℕ) → (depth : ℕ) × (all : List Token) × (end : Building) ×
+    ReadsText (feedback_of depth (fragment_start scripting around)) (first_state scripting around) text all ×
+    (tree_steps depth (fragment_start scripting around) all ≡ Some end)

@@ -8,6 +8,8 @@
 ghost use Rattle.standard_agreement.specs.PlainPages.{PlainFragmentsAreBuilt, PlainPagesAreBuilt};
 ghost use Rattle.standard_agreement.specs.PlainTexts.{PlainFragmentsAreParsed, PlainPagesAreParsed};
 ghost use Rattle.standard_agreement.specs.TokensAndTrees.{DocumentsAreBuiltOfTokens};
+ghost use Rattle.standard_agreement.specs.TokensAndTrees.{EveryFragmentIsBuiltOfTokens};
+ghost use Rattle.standard_agreement.specs.TokensAndTrees.{EveryTextIsBuiltOfTokens};
 ghost use Rattle.standard_agreement.specs.TokensAndTrees.{FragmentsAreBuiltOfTokens};
 
 use standard_tokens::laws::plain_pages;
@@ -40,4 +42,11 @@ pub fn plain_texts_are_parsed()
 pub fn texts_are_built_of_tokens()
     ensures document { DocumentsAreBuiltOfTokens }
     ensures fragment { FragmentsAreBuiltOfTokens }
+{}
+
+/// Every text is read as tokens so, and tree construction takes them all: what it builds of them is
+/// what the text is parsed as, as a page and, in every context, as a fragment.
+pub fn every_text_is_built_of_tokens()
+    ensures document { EveryTextIsBuiltOfTokens }
+    ensures fragment { EveryFragmentIsBuiltOfTokens }
 {}

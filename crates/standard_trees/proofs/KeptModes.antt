@@ -16,8 +16,9 @@ use Rattle.standard_trees.specs.TreeRules.{resets}
 use Rattle.standard_trees.specs.TreeStore.{key_in}
 use Rattle.standard_trees.specs.GrowingTree.{GrowingTree, is_among, key, kind_of}
 use Rattle.standard_trees.specs.Building.{Building, fits, is_empty, is_met, is_space, node_test, perform, renamed, reset_by, reset_from, taken, top_mode}
-use Rattle.standard_trees.proofs.Routes.{Change, Renames, Same, To, Unsure, acts_pass, all_taken, change, is_end_of_file, is_known, is_known_rule, is_plain}
-use Rattle.standard_trees.proofs.Routes.{char_like, is_real, known_name, like, may_do, mode_after, names, token_after}
+use Rattle.standard_trees.proofs.Routes.{Change, Renames, Same, To, Unsure, acts_pass, all_taken, change, is_end_of_file, is_known, is_known_rule}
+use Rattle.standard_trees.specs.Laws.{is_plain, is_real}
+use Rattle.standard_trees.proofs.Routes.{char_like, known_name, like, may_do, mode_after, names, token_after}
 
 -- ---- Booleans
 

@@ -2,8 +2,9 @@ mod ExamplesComputed
 mod MoreDepth
 mod OneWay
 mod Ending
-mod EveryMode
-mod EveryText
+pub mod EveryMode
+pub mod EveryText
 mod Settling
 mod KeptModes
 mod Routes
+mod TableTexts

@@ -1,7 +1,8 @@
 -- Where a token is processed, a greater depth gives the same.
-use Rattle.std.specs.Prelude.{◌≡◌, ℕ, zero, suc, Bool, true, false, ◌&&◌, List, [], ◌∷◌, reverse, Option, None, Some, option_map, refl}
+use Rattle.std.specs.Prelude.{◌≡◌, ◌≤◌, ℕ, zero, suc, Bool, true, false, ◌&&◌, List, [], ◌∷◌, reverse, Option, None, Some, option_map, refl}
 use Rattle.std.specs.List.{list_all}
 use Rattle.std.specs.Option.{option_and_then}
+use Rattle.std.proofs.Common.{arith}
 use mathlib.Core.Path.{◌∙◌, ap}
 use Rattle.standard_tokens.specs.Tokens.{Token, AChar}
 use Rattle.standard_trees.specs.Building.{Building, each_char, gone, is_line_feed, is_met, perform, performed, run, taken, tree_step, tree_steps}
@@ -59,6 +60,13 @@ run_next : (d : ℕ) → BelowIn (run d) (run (suc d))
 unfolding run
 run_next zero mode b c h = cc
 run_next (suc d) mode b c h = performed_below (run d) (run (suc d)) (run_next d) (taken b (rules mode)) b c h
+
+pub run_deeper : (d e : ℕ) → d ≤ e → BelowIn (run d) (run e)
+unfolding run
+run_deeper zero e few mode b c h = cc
+run_deeper (suc d) zero few mode b c h = absurd (omega (arith, few))
+run_deeper (suc d) (suc e) few mode b c h =
+    performed_below (run d) (run e) (run_deeper d e (omega (arith, few))) (taken b (rules mode)) b c h
 
 pub run_left : (d e : ℕ) → BelowIn (run d) (run (more d e))
 unfolding run

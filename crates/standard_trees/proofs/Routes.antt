@@ -13,6 +13,7 @@ use Rattle.standard_trees.specs.RuleWords.{does, goes, rule}
 use Rattle.standard_trees.specs.TreeRules.{rules}
 use Rattle.standard_trees.specs.GrowingTree.{is_among}
 use Rattle.standard_trees.specs.Building.{fits, is_empty, is_space, renamed}
+use Rattle.standard_trees.specs.Laws.{is_plain, is_real}
 
 -- ---- tokens
 
@@ -42,21 +43,6 @@ like AnEof = AnEof
 abbrev pub is_end_of_file : Token → Bool
 is_end_of_file AnEof = true
 is_end_of_file _ = false
-
--- ---- modes
-
--- a token of any kind may come in these modes
-abbrev pub is_plain : Mode → Bool
-is_plain Dispatcher = false
-is_plain ForeignContent = false
-is_plain Text = false
-is_plain InTableText = false
-is_plain _ = true
-
-abbrev pub is_real : Mode → Bool
-is_real Dispatcher = false
-is_real ForeignContent = false
-is_real _ = true
 
 -- ---- one act
 
@@ -161,14 +147,10 @@ abbrev pub is_body_at_end : Token → Mode → Bool
 is_body_at_end AnEof InBody = true
 is_body_at_end t mode = false
 
--- for a start tag `table` the number of open elements counts
+-- the number of open elements counts for this tag
 abbrev pub is_table_tag : Token → Bool
 is_table_tag (AStart name attrs closing) = bytes_eq name (codes "table")
 is_table_tag _ = false
-
-abbrev pub is_table_in_table : Token → Mode → Bool
-is_table_in_table t InTable = is_table_tag t
-is_table_in_table t mode = false
 
 abbrev pub is_among_tables : Mode → Bool
 is_among_tables InTable = true
@@ -186,7 +168,11 @@ is_template_mode _ = false
 abbrev pub depth : ℕ
 depth = 9
 
-pub starts_end : (now : Mode) → is_plain now ≡ true → list_all (λ name. ends is_table_in_table depth (AStart name [] false) now now) ([] ∷ names) ≡ true
+-- the start tag `table` is left to `tables_end`
+abbrev pub start_ends : Mode → List ℕ → Bool
+start_ends now name = bytes_eq name (codes "table") || ends never depth (AStart name [] false) now now
+
+pub starts_end : (now : Mode) → is_plain now ≡ true → list_all (start_ends now) ([] ∷ names) ≡ true
 unfolding rules
 starts_end Dispatcher h = cc
 starts_end ForeignContent h = cc

@@ -6,13 +6,19 @@
 ghost use Rattle.standard_trees.specs.Examples.{PagesAreParsed};
 ghost use Rattle.standard_trees.specs.Laws.{DocumentsAreParsedOneWay, EveryTextHasADocument};
 ghost use Rattle.standard_trees.specs.Laws.{EveryTextHasAFragment, FragmentsAreParsedOneWay};
-ghost use Rattle.standard_trees.specs.Laws.{FunctionsParse};
+ghost use Rattle.standard_trees.specs.Laws.{EveryTokenEnds, FunctionsParse};
 
 /// Every text is parsed as a document, and in every context as a fragment: the tokenizer comes to an
 /// end, and so do rules that use rules.
 pub fn every_text_has_a_document()
     ensures documents { EveryTextHasADocument }
     ensures fragments { EveryTextHasAFragment }
+{}
+
+/// The rules come to an end with every token, and how deep they use rules is bounded by how many
+/// elements are open or in the list of active formatting elements, and how many templates.
+pub fn every_token_ends()
+    ensures { EveryTokenEnds }
 {}
 
 /// A text is parsed as one document at most, and in one context as one fragment at most, however
