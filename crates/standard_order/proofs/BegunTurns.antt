@@ -12,8 +12,9 @@ use Rattle.standard_trees.specs.RuleWords.{ForeignContent, InBody, InCaption, In
 use Rattle.standard_trees.specs.RuleWords.{InRow, InTable, InTableBody, InTableText, InTemplate, Initial, Text, WhiteSpace, does, goes, rule}
 use Rattle.standard_trees.specs.TreeRules.{rules}
 use Rattle.standard_trees.specs.Building.{Building, adjusted, each_char, fits, gone, is_line_feed, is_met, own_name, perform, performed}
-use Rattle.standard_trees.specs.Building.{renamed, start, taken, with_next, with_token}
+use Rattle.standard_trees.specs.Building.{renamed, taken, with_next, with_token}
 use Rattle.standard_order.specs.Begun.{TurnsAreBegun, begun_too, is_begun, is_unswitched}
+use Rattle.standard_order.specs.Beginnings.{first_building}
 use Rattle.standard_order.specs.Turns.{is_barred, run_while, tree_step_while, tree_steps_while}
 use Rattle.standard_order.proofs.StandingStacks.{both, never}
 use Rattle.standard_order.proofs.Follows.{Follows, barred_follows, mapped, passes_both, then_follows}
@@ -312,4 +313,4 @@ steps_begun test d (token ∷ more) b =
     (step_begun test d b token)
 
 pub turns_are_begun : TurnsAreBegun
-turns_are_begun test depth scripting tokens end h = (steps_begun test depth tokens (start scripting) end h).0
+turns_are_begun test depth beginning tokens end h = (steps_begun test depth tokens (first_building beginning) end h).0

@@ -1,5 +1,5 @@
 -- In "after head" the rules for "in head" are used with the head element on the stack, which is removed then: what comes of it.
-use Rattle.std.specs.Prelude.{◌≡◌, ◌||◌, ◌⊎◌, refl, ℕ, Bool, true, false, not, List, [], ◌∷◌, Option, Some, bytes_eq, codes, cond, drop}
+use Rattle.std.specs.Prelude.{◌≡◌, ◌||◌, ◌⊎◌, refl, ℕ, Bool, true, false, not, List, [], ◌∷◌, Option, None, Some, bytes_eq, codes, cond, drop}
 use Rattle.std.specs.Prelude.{nat_eq}
 use Rattle.std.proofs.Common.{inl, inr}
 use Rattle.std.specs.Option.{option_map_or}
@@ -15,7 +15,7 @@ use Rattle.standard_trees.specs.TreeRules.{rules}
 use Rattle.standard_trees.specs.TreeStore.{Html, Node, NodeAttr, without}
 use Rattle.standard_trees.specs.GrowingTree.{GrowingTree, Marker, created_element, fresh, inserted, is_among, place, put, pushed, unstacked}
 use Rattle.standard_trees.specs.GrowingTree.{with_stack}
-use Rattle.standard_trees.specs.Building.{Building, own_name, perform, performed, taken, with_tree}
+use Rattle.standard_trees.specs.Building.{Building, own_name, perform, performed, taken, with_head, with_tree}
 use Rattle.standard_order.proofs.Labels.{Grows, Is as IsAt, Label, Makes, grows_at, labels, never_at}
 use Rattle.standard_order.proofs.StandingStacks.{Closed, Inside, Stands, allowed, both, fixed, head, html, never, opposite}
 use Rattle.standard_order.proofs.StandingStacks.{pushed_on, same_number, stands_grown}
@@ -57,9 +57,18 @@ without_closed ls n h (m ∷ ms) (inr (inl a)) = never a.0
 without_closed ls n h (m ∷ ms) (inr (inr a)) =
     without_other m n ms (differs ls (allowed Closed) m n closed_not_head a.0 h) ∙ ap (λ q. m ∷ q) (without_closed ls n h ms a.1)
 
-removed : (P : GrowingTree → Type 0) (t : GrowingTree) (n : ℕ) (rest : List ℕ) → t.head ≡ Some n → without n t.stack ≡ rest →
+-- the stack without the head element, if there is one
+abbrev pub without_head : Option ℕ → List ℕ → List ℕ
+without_head None s = s
+without_head (Some n) s = without n s
+
+removed : (P : GrowingTree → Type 0) (t : GrowingTree) (o : Option ℕ) (rest : List ℕ) → t.head ≡ o → without_head o t.stack ≡ rest →
     P (with_stack t rest) → P (option_map_or (λ m. unstacked m t) t.head t)
-removed P t n rest e f h = subst (λ o. P (option_map_or (λ m. unstacked m t) o t)) (sym e) (subst (λ q. P (with_stack t q)) (sym f) h)
+removed P t o rest e f h = subst (λ q. P (option_map_or (λ m. unstacked m t) q t)) (sym e) (by o f)
+  where
+    by : (o : Option ℕ) → without_head o t.stack ≡ rest → P (option_map_or (λ m. unstacked m t) o t)
+    by None g = subst (λ q. P (with_stack t q)) (sym g) h
+    by (Some n) g = subst (λ q. P (with_stack t q)) (sym g) h
 
 -- ---- an element is inserted
 
@@ -85,12 +94,21 @@ inserts name attrs t = record {
 
 -- ---- with the head element on the stack
 
-pub record Carries (n : ℕ) (s : List ℕ) (b : Building) : Type 0 where
+-- the head element, if there is one
+abbrev pub IsHeadIn : List Label → Option ℕ → Type 0
+IsHeadIn ls None = Unit {0}
+IsHeadIn ls (Some n) = IsAt head ls n
+
+head_in_grown : (old new : List Node) → Grows old new → (o : Option ℕ) → IsHeadIn (labels old) o → IsHeadIn (labels new) o
+head_in_grown old new grows None h = tt
+head_in_grown old new grows (Some n) h = grows_at head old new grows n h
+
+pub record Carries (o : Option ℕ) (s : List ℕ) (b : Building) : Type 0 where
   pub mode_is : b.mode ≡ AfterHead
   pub modes : Content b.template_modes
-  pub head_at : b.tree.head ≡ Some n
-  pub stack_is : b.tree.stack ≡ n ∷ s
-  pub is_head : IsAt head (labels b.tree.nodes) n
+  pub head_at : b.tree.head ≡ o
+  pub stack_is : b.tree.stack ≡ with_head o s
+  pub is_head : IsHeadIn (labels b.tree.nodes) o
   pub below : Stands Closed (labels b.tree.nodes) s
   pub pointers : PointersOf b.tree
 
@@ -102,19 +120,23 @@ pointers_with : (t : GrowingTree) (nodes : List Node) (s : List ℕ) → Grows t
     PointersOf (record t { nodes = nodes; stack = s })
 pointers_with t nodes s grows p = pointers_grown t.nodes nodes grows t.listed t.form t.found t.head t.context p
 
-removed_head : (n : ℕ) (s : List ℕ) (ls : List Label) → IsAt head ls n → Stands Closed ls s → without n (n ∷ s) ≡ s
-removed_head n s ls h st = without_itself n s ∙ without_closed ls n h s st
+removed_head : (o : Option ℕ) (s : List ℕ) (ls : List Label) → IsHeadIn ls o → Stands Closed ls s → without_head o (with_head o s) ≡ s
+removed_head None s ls h st = refl
+removed_head (Some n) s ls h st = without_itself n s ∙ without_closed ls n h s st
 
-removed_below : (m n : ℕ) (s : List ℕ) (ls : List Label) → nat_eq m n ≡ false → IsAt head ls n → Stands Closed ls s →
-    without n (m ∷ n ∷ s) ≡ m ∷ s
-removed_below m n s ls e h st = without_other m n (n ∷ s) e ∙ ap (λ q. m ∷ q) (removed_head n s ls h st)
+removed_below : (test : Label → Bool) (m : ℕ) (o : Option ℕ) (s : List ℕ) (ls : List Label) →
+    ((l : Label) → test l ≡ true → head l ≡ true → ⊥) → IsAt test ls m → IsHeadIn ls o → Stands Closed ls s →
+    without_head o (m ∷ with_head o s) ≡ m ∷ s
+removed_below test m None s ls off at h st = refl
+removed_below test m (Some n) s ls off at h st =
+    without_other m n (n ∷ s) (differs ls test m n off at h) ∙ ap (λ q. m ∷ q) (removed_head (Some n) s ls h st)
 
 -- a void element
-void_carried : (n : ℕ) (s : List ℕ) (b : Building) → Carries n s b → Carried (perform Pop (perform InsertElement b))
+void_carried : (o : Option ℕ) (s : List ℕ) (b : Building) → Carries o s b → Carried (perform Pop (perform InsertElement b))
 unfolding perform
-void_carried n s b c = subst (λ (u : GrowingTree). Carried (with_tree b (with_stack u (drop 1 u.stack)))) (sym ins.gives)
-    (removed (λ t. Turn (with_tree b t)) w n s c.head_at (subst (λ q. without n q ≡ s) (sym c.stack_is) (removed_head n s (labels ins.nodes)
-    (grows_at head b.tree.nodes ins.nodes ins.grows n c.is_head) st))
+void_carried o s b c = subst (λ (u : GrowingTree). Carried (with_tree b (with_stack u (drop 1 u.stack)))) (sym ins.gives)
+    (removed (λ t. Turn (with_tree b t)) w o s c.head_at (subst (λ q. without_head o q ≡ s) (sym c.stack_is) (removed_head o s (labels ins.nodes)
+    (head_in_grown b.tree.nodes ins.nodes ins.grows o c.is_head) st))
     (of_turn (with_tree b (with_stack w s)) c.modes (subst (λ m. TreeIs (own m) (with_stack w s)) (sym c.mode_is) (
       (st, λ k. never k),
       pointers_with b.tree ins.nodes s ins.grows c.pointers,
@@ -133,19 +155,18 @@ held_not_head : (l : Label) → held l ≡ true → head l ≡ true → ⊥
 held_not_head l h k = opposite (head l) (fewer l.name (codes "head" ∷ []) fixed refl (both l.html (not (is_among l.name fixed)) h).1) k
 
 -- an element with text
-text_carried : (n : ℕ) (s : List ℕ) (state : TextState) (b : Building) → not (is_among (own_name b.token) fixed) ≡ true → Carries n s b →
+text_carried : (o : Option ℕ) (s : List ℕ) (state : TextState) (b : Building) → not (is_among (own_name b.token) fixed) ≡ true → Carries o s b →
     Carried (perform (SwitchTo Text) (perform KeepMode (perform (TokenizerTo state) (perform InsertElement b))))
 unfolding perform
-text_carried n s state b ok c = subst (λ (u : GrowingTree). Carried (record (with_tree b u) {
+text_carried o s state b ok c = subst (λ (u : GrowingTree). Carried (record (with_tree b u) {
   tokenizer = Some state;
   original = b.mode;
   mode = Text;
 })) (sym ins.gives)
-    (removed (λ t. Turn (record (with_tree b t) { tokenizer = Some state; original = b.mode; mode = Text })) w n (fresh b.tree ∷ s)
+    (removed (λ t. Turn (record (with_tree b t) { tokenizer = Some state; original = b.mode; mode = Text })) w o (fresh b.tree ∷ s)
     c.head_at
-    (subst (λ q. without n (fresh b.tree ∷ q) ≡ fresh b.tree ∷ s) (sym c.stack_is)
-    (removed_below (fresh b.tree) n s (labels ins.nodes) (differs (labels ins.nodes) held (fresh b.tree) n held_not_head at is_head) is_head
-    st)) (
+    (subst (λ q. without_head o (fresh b.tree ∷ q) ≡ fresh b.tree ∷ s) (sym c.stack_is)
+    (removed_below held (fresh b.tree) o s (labels ins.nodes) held_not_head at is_head st)) (
       c.modes,
       (
         subst (λ m. Stk (Held (own m)) (labels ins.nodes) (fresh b.tree ∷ s)) (sym c.mode_is) (at, (st, λ k. never k)),
@@ -165,8 +186,8 @@ text_carried n s state b ok c = subst (λ (u : GrowingTree). Carried (record (wi
     at : IsAt held (labels ins.nodes) (fresh b.tree)
     at = ins.made held ok
 
-    is_head : IsAt head (labels ins.nodes) n
-    is_head = grows_at head b.tree.nodes ins.nodes ins.grows n c.is_head
+    is_head : IsHeadIn (labels ins.nodes) o
+    is_head = head_in_grown b.tree.nodes ins.nodes ins.grows o c.is_head
 
 inside_not_head : (l : Label) → allowed Inside l ≡ true → head l ≡ true → ⊥
 inside_not_head l h k = opposite (head l) (fewer l.name (codes "head" ∷ []) (codes "html" ∷ codes "head" ∷ codes "frameset" ∷ []) refl h) k
@@ -177,24 +198,22 @@ marked t p = record {
   form_is = p.form_is;
   found_is = p.found_is;
   head_is = p.head_is;
-  page = p.page;
 }
 
 -- a template
-template_carried : (n : ℕ) (s : List ℕ) (b : Building) → allowed Inside (label_for Html (own_name b.token)) ≡ true → Carries n s b →
+template_carried : (o : Option ℕ) (s : List ℕ) (b : Building) → allowed Inside (label_for Html (own_name b.token)) ≡ true → Carries o s b →
     Carried (perform InsertElement (perform (PushTemplateMode InTemplate)
     (perform (SwitchTo InTemplate) (perform FramesetNotOk (perform ListMarker b)))))
 unfolding perform
-template_carried n s b ok c = subst (λ (u : GrowingTree). Carried (record (with_tree b u) {
+template_carried o s b ok c = subst (λ (u : GrowingTree). Carried (record (with_tree b u) {
   frameset_ok = false;
   mode = InTemplate;
   template_modes = InTemplate ∷ b.template_modes;
 })) (sym ins.gives)
     (removed (λ t. Turn (record (with_tree b t) { frameset_ok = false; mode = InTemplate; template_modes = InTemplate ∷ b.template_modes }))
-    w n (fresh b.tree ∷ s) c.head_at
-    (subst (λ q. without n (fresh b.tree ∷ q) ≡ fresh b.tree ∷ s) (sym c.stack_is)
-    (removed_below (fresh b.tree) n s (labels ins.nodes) (differs (labels ins.nodes) (allowed Inside) (fresh b.tree) n inside_not_head at
-    is_head) is_head st)) (
+    w o (fresh b.tree ∷ s) c.head_at
+    (subst (λ q. without_head o (fresh b.tree ∷ q) ≡ fresh b.tree ∷ s) (sym c.stack_is)
+    (removed_below (allowed Inside) (fresh b.tree) o s (labels ins.nodes) inside_not_head at is_head st)) (
       c.modes,
       (
         (pushed_on Inside (labels ins.nodes) (fresh b.tree) s at (stands_weaker Closed Inside refl (labels ins.nodes) s st), λ k. never k),
@@ -217,8 +236,8 @@ template_carried n s b ok c = subst (λ (u : GrowingTree). Carried (record (with
     at : IsAt (allowed Inside) (labels ins.nodes) (fresh b.tree)
     at = ins.made (allowed Inside) ok
 
-    is_head : IsAt head (labels ins.nodes) n
-    is_head = grows_at head b.tree.nodes ins.nodes ins.grows n c.is_head
+    is_head : IsHeadIn (labels ins.nodes) o
+    is_head = head_in_grown b.tree.nodes ins.nodes ins.grows o c.is_head
 
 -- ---- which acts are taken
 
@@ -242,7 +261,7 @@ abbrev pub EachName : (List ℕ → Type 0) → List (List ℕ) → Type 0
 EachName P [] = Unit {0}
 EachName P (one ∷ more) = P one × EachName P more
 
-each_name : (P : List ℕ → Type 0) (names : List (List ℕ)) → EachName P names → (name : List ℕ) → is_among name names ≡ true → P name
+pub each_name : (P : List ℕ → Type 0) (names : List (List ℕ)) → EachName P names → (name : List ℕ) → is_among name names ≡ true → P name
 each_name P [] all name h = never h
 each_name P (one ∷ more) all name h = by (bytes_eq name one) refl h (λ k. each_name P more all.1 name k)
   where
@@ -293,13 +312,13 @@ token_acts AnEof u h = never h
 pub head_acts : (b : Building) → holds_of (Start heads) b.token ≡ true → HeadActs (own_name b.token) (taken b (rules InHead))
 head_acts b h = token_acts b.token b h
 
-pub acts_carried : (f g : Mode → Building → Option Building) (n : ℕ) (s : List ℕ) (b : Building) (acts : List Act) →
-    HeadActs (own_name b.token) acts → Carries n s b →
+pub acts_carried : (f g : Mode → Building → Option Building) (o : Option ℕ) (s : List ℕ) (b : Building) (acts : List Act) →
+    HeadActs (own_name b.token) acts → Carries o s b →
     Follows Carried (performed f acts b) (performed g acts b)
 unfolding perform
-acts_carried f g n s b acts (inl e) c = subst (λ a. Follows Carried (performed f a b) (performed g a b)) (sym e)
-    (λ d h. (h, subst Carried (same_Some _ d h) (void_carried n s b c)))
-acts_carried f g n s b acts (inr (inl one)) c = subst (λ a. Follows Carried (performed f a b) (performed g a b)) (sym one.1)
-    (λ d h. (h, subst Carried (same_Some _ d h) (text_carried n s one.0 b one.2 c)))
-acts_carried f g n s b acts (inr (inr one)) c = subst (λ a. Follows Carried (performed f a b) (performed g a b)) (sym one.0)
-    (λ d h. (h, subst Carried (same_Some _ d h) (template_carried n s b one.1 c)))
+acts_carried f g o s b acts (inl e) c = subst (λ a. Follows Carried (performed f a b) (performed g a b)) (sym e)
+    (λ d h. (h, subst Carried (same_Some _ d h) (void_carried o s b c)))
+acts_carried f g o s b acts (inr (inl one)) c = subst (λ a. Follows Carried (performed f a b) (performed g a b)) (sym one.1)
+    (λ d h. (h, subst Carried (same_Some _ d h) (text_carried o s one.0 b one.2 c)))
+acts_carried f g o s b acts (inr (inr one)) c = subst (λ a. Follows Carried (performed f a b) (performed g a b)) (sym one.0)
+    (λ d h. (h, subst Carried (same_Some _ d h) (template_carried o s b one.1 c)))

@@ -1,5 +1,5 @@
 -- Which open elements stand directly on which, and that what is popped, inserted or replaced among other elements leaves that.
-use Rattle.std.specs.Prelude.{◌≡◌, ◌&&◌, ◌||◌, refl, ℕ, Bool, true, false, not, List, [], ◌∷◌, cond, map, nat_eq}
+use Rattle.std.specs.Prelude.{◌≡◌, ◌&&◌, ◌||◌, refl, ℕ, suc, zero, Bool, true, false, not, List, [], ◌∷◌, cond, map, nat_eq}
 use Rattle.std.specs.List.{list_all, list_any}
 use mathlib.Core.Path.{◌∙◌, sym, ap, subst}
 use Rattle.standard_trees.specs.TreeStore.{without}
@@ -71,17 +71,48 @@ context (c ∷ cs) = elim (is_plain c) [ true ↦ context cs | false ↦ c ]
 abbrev pub has_body : List Cls → Bool
 has_body cs = list_any is_body cs
 
+-- how many templates are open
+abbrev pub counted_on : Cls → ℕ → ℕ
+counted_on c n = elim (is_template c) [ true ↦ suc n | false ↦ n ]
+
+abbrev pub templates_in : List Cls → ℕ
+templates_in [] = 0
+templates_in (c ∷ cs) = counted_on c (templates_in cs)
+
+-- the innermost element that isn't an ordinary one, and how many templates are open
+pub record Site : Type 0 where
+  pub inner : Cls
+  pub templates : ℕ
+
+abbrev pub site_of : List Cls → Site
+site_of cs = record { inner = context cs; templates = templates_in cs }
+
+-- with another element
+abbrev pub above : Cls → Site → Site
+above d c = record { inner = d; templates = counted_on d c.templates }
+
+abbrev pub at_most : ℕ → ℕ → Bool
+at_most zero m = true
+at_most (suc n) zero = false
+at_most (suc n) (suc m) = at_most n m
+
 -- what is left of the elements
 pub record Rest (cs ds : List Cls) : Type 0 where
   pub chained : chain ds ≡ true
   pub within : context ds ≡ context cs
   pub body : has_body ds ≡ has_body cs
+  pub few : templates_in ds ≡ templates_in cs
 
 pub rest_both : (a b c : List Cls) → Rest a b → Rest b c → Rest a c
-rest_both a b c one two = record { chained = two.chained; within = two.within ∙ one.within; body = two.body ∙ one.body }
+rest_both a b c one two = record {
+  chained = two.chained;
+  within = two.within ∙ one.within;
+  body = two.body ∙ one.body;
+  few = two.few ∙ one.few;
+}
 
 pub rest_same : (cs : List Cls) → chain cs ≡ true → Rest cs cs
-rest_same cs h = record { chained = h; within = refl; body = refl }
+rest_same cs h = record { chained = h; within = refl; body = refl; few = refl }
 
 -- ---- one element
 
@@ -98,6 +129,7 @@ rest_tail c cs p h = by cs (subst (λ d. chain (d ∷ cs) ≡ true) (sym (plain_
       chained = (both (is_deep d) (chain (d ∷ ds)) k).1;
       within = sym (ap (λ x. elim x as (λ _. Cls) [ true ↦ context (d ∷ ds) | false ↦ c ]) p);
       body = ap (λ e. is_body e || has_body (d ∷ ds)) (plain_is c p);
+      few = ap (λ e. counted_on e (templates_in (d ∷ ds))) (plain_is c p);
     }
 
 abbrev pub first : List Cls → Cls
@@ -136,6 +168,7 @@ rest_pushed c cs p i h = by cs i h
       chained = subst (λ e. on e d && chain (d ∷ ds) ≡ true) (plain_is c p) (ap (λ x. x && chain (d ∷ ds)) (first_deep (d ∷ ds) k) ∙ l);
       within = ap (λ x. elim x as (λ _. Cls) [ true ↦ context (d ∷ ds) | false ↦ c ]) p;
       body = sym (ap (λ e. is_body e || has_body (d ∷ ds)) (plain_is c p));
+      few = sym (ap (λ e. counted_on e (templates_in (d ∷ ds))) (plain_is c p));
     }
 
 -- ---- elements that are popped
@@ -331,6 +364,7 @@ rest_cons c cs ds h rest = record {
   chained = chain_cons c ds h rest.chained;
   within = ap (λ e. elim (is_plain c) as (λ _. Cls) [ true ↦ e | false ↦ c ]) rest.within;
   body = ap (λ x. is_body c || x) rest.body;
+  few = ap (counted_on c) rest.few;
 }
 
 on_without : (f : ℕ → Cls) (m : ℕ) → is_plain (f m) ≡ true → (c : Cls) (ns : List ℕ) → on c (first (of f ns)) ≡ true → chain (of f ns) ≡ true →
@@ -404,6 +438,7 @@ rest_below f new block p q (n ∷ ns) h = by ns (nat_eq n block) refl h (λ k. r
           chained = subst (λ c. on c (f n) && chain (f n ∷ of f ms) ≡ true) (plain_is (f new) q) (ap (λ x. x && chain (f n ∷ of f ms)) (plain_deep (f n) plain) ∙ k);
           within = ap (λ x. elim x as (λ _. Cls) [ true ↦ context (f n ∷ of f ms) | false ↦ f new ]) q;
           body = sym (ap (λ c. is_body c || has_body (f n ∷ of f ms)) (plain_is (f new) q));
+          few = sym (ap (λ c. counted_on c (templates_in (f n ∷ of f ms))) (plain_is (f new) q));
         }
     by [] false e k go = rest_same (f n ∷ []) k
     by (j ∷ js) false e k go =

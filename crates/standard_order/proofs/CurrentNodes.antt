@@ -1,6 +1,7 @@
 -- Where a turn may begin, an element is open in every mode after "before html", and in "text" and "in table text" the current node is an
 -- HTML element.
 use Rattle.std.specs.Prelude.{◌≡◌, ◌||◌, ◌&&◌, refl, ℕ, Bool, true, false, not, List, [], ◌∷◌, Option, None, Some, cond, unwrap_or}
+use Rattle.std.proofs.Common.{inl}
 use mathlib.Core.Path.{◌∙◌, ap, subst}
 use Rattle.standard_trees.specs.RuleWords.{Mode}
 use Rattle.standard_trees.specs.RuleWords.{Dispatcher, Initial, BeforeHtml, BeforeHead, InHead, InHeadNoscript, AfterHead, InBody, Text}
@@ -12,39 +13,38 @@ use Rattle.standard_trees.specs.Building.{Building, is_empty}
 use Rattle.standard_order.specs.CurrentNodes.{CurrentNodesAreKnown, has_current, is_insertion_mode, takes_text}
 use Rattle.standard_order.specs.Order.{is_before_html}
 use Rattle.standard_order.proofs.Labels.{Is as IsAt, Label, kind_at, labels}
-use Rattle.standard_order.proofs.StandingStacks.{IsRoot, both, fixed}
-use Rattle.standard_order.proofs.GoodTrees.{held}
-use Rattle.standard_order.proofs.Levels.{Held, Shape, own}
-use Rattle.standard_order.proofs.LevelFacts.{Stk, TreeIs, Turn, TurnIs, in_html}
-use Rattle.standard_order.proofs.InOrder.{never_empty}
+use Rattle.standard_order.proofs.StandingStacks.{Inside, IsRoot, both, fixed}
+use Rattle.standard_order.proofs.GoodTrees.{Good, held}
+use Rattle.standard_order.proofs.Levels.{Held, Of, Shape, is_cell, is_inside, own}
+use Rattle.standard_order.proofs.LevelFacts.{Stk, TreeIs, Turn, TurnIs, held_more, inner, inner_more, never_empty}
+use Rattle.standard_order.proofs.LevelTrees.{good_of, inside_own}
 use Rattle.standard_order.proofs.TurnsRun.{fact_needs_no_test}
 
 -- ---- the current node
 
--- a page has no context element
-adjusted_is : (t : GrowingTree) → t.context ≡ None → adjusted_current t ≡ kind_of t (current t)
-adjusted_is t e = by (is_single t.stack) t.context e
-  where
-    by : (x : Bool) (o : Option Kind) → o ≡ None → cond x (unwrap_or o (kind_of t (current t))) (kind_of t (current t)) ≡ kind_of t (current t)
-    by true None f = refl
-    by true (Some k) f = cc
-    by false o f = refl
-
-html_now : (t : GrowingTree) → t.context ≡ None → is_html (space_in (kind_of t (current t))) ≡ true →
+-- where more than one element is open, it is the adjusted current node
+pub html_now : (t : GrowingTree) → is_single t.stack ≡ false → is_html (space_in (kind_of t (current t))) ≡ true →
     is_html (space_in (adjusted_current t)) ≡ true
-html_now t e h = ap (λ k. is_html (space_in k)) (adjusted_is t e) ∙ h
+html_now t e h =
+    ap (λ x. is_html (space_in (cond x (unwrap_or t.context (kind_of t (current t))) (kind_of t (current t))))) e ∙ h
 
 held_html : (shape : Shape) (t : GrowingTree) → TreeIs (Held shape) t → is_html (space_in (adjusted_current t)) ≡ true
 held_html shape t at = by t.stack refl at.0
   where
     by : (s : List ℕ) → t.stack ≡ s → Stk (Held shape) (labels t.nodes) s → is_html (space_in (adjusted_current t)) ≡ true
     by [] e h = absurd h
-    by (n ∷ ns) e h = html_now t at.1.page
+    by (n ∷ ns) e h = html_now t (held_more shape (labels t.nodes) t.stack at.0)
         (ap (λ s. is_html (space_in (kind_of t (top s)))) e
         ∙ (both (is_html (space_in (kind_of t n))) (not (is_among (key_in (kind_of t n)) fixed)) (kind_at held t.nodes n h.0)).0)
 
-top_html : (t : GrowingTree) → t.context ≡ None → IsAt in_html (labels t.nodes) (top t.stack) → is_html (space_in (adjusted_current t)) ≡ true
-top_html t e h = html_now t e (kind_at in_html t.nodes (top t.stack) h)
+top_html : (b : Building) → is_inside b.original ≡ true → TreeIs (own b.original) b.tree →
+    IsAt inner (labels b.tree.nodes) (top b.tree.stack) → is_html (space_in (adjusted_current b.tree)) ≡ true
+top_html b i at h =
+    html_now b.tree (inner_more Inside (labels b.tree.nodes) b.tree.stack good.0 h)
+    (both (is_html (space_in (kind_of b.tree (top b.tree.stack)))) _ (kind_at inner b.tree.nodes (top b.tree.stack) h)).0
+  where
+    good : Good Inside (is_cell b.original) b.tree
+    good = good_of Inside (is_cell b.original) b.original Of b.tree (inside_own b.original i) (inl refl) at
 
 -- ---- an element is open
 
@@ -82,7 +82,7 @@ known b turn = by b.mode turn.1
     by Text h = both_so (is_html (space_in (adjusted_current b.tree))) (not (is_empty b.tree.stack)) (held_html (own b.original) b.tree h)
         (shape_open (Held (own b.original)) b.tree h)
     by InTable h = shape_open (own InTable) b.tree h
-    by InTableText h = both_so (is_html (space_in (adjusted_current b.tree))) (not (is_empty b.tree.stack)) (top_html b.tree h.0.1.page h.2)
+    by InTableText h = both_so (is_html (space_in (adjusted_current b.tree))) (not (is_empty b.tree.stack)) (top_html b h.1 h.0 h.2)
         (shape_open (own b.original) b.tree h.0)
     by InCaption h = shape_open (own InCaption) b.tree h
     by InColumnGroup h = shape_open (own InColumnGroup) b.tree h
@@ -98,5 +98,5 @@ known b turn = by b.mode turn.1
     by ForeignContent h = absurd h.0
 
 pub current_nodes_are_known : CurrentNodesAreKnown
-current_nodes_are_known test depth scripting tokens end h =
-    fact_needs_no_test has_current known test depth scripting tokens end h
+current_nodes_are_known test depth beginning tokens end h =
+    fact_needs_no_test has_current known test depth beginning tokens end h

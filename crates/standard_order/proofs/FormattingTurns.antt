@@ -21,8 +21,9 @@ use Rattle.standard_trees.specs.GrowingTree.{GrowingTree, NoForm, inserted_at, i
 use Rattle.standard_trees.specs.GrowingTree.{with_chars, with_comment}
 use Rattle.standard_trees.specs.Formatting.{cleared, open_item}
 use Rattle.standard_trees.specs.Building.{Building, body_removed, char_of, comment_of, each_char, fits, gone, is_line_feed, is_met}
-use Rattle.standard_trees.specs.Building.{own_name, perform, performed, start, taken, with_doctype, with_next, with_token}
+use Rattle.standard_trees.specs.Building.{own_name, perform, performed, taken, with_doctype, with_next, with_token}
 use Rattle.standard_order.specs.FormattingListed.{OnlyFormattingIsListed, formatting_names, formatting_too, lists_formatting}
+use Rattle.standard_order.specs.Beginnings.{Beginning, OfFragment, OfPage, first_building}
 use Rattle.standard_order.specs.Turns.{is_barred, run_while, tree_step_while, tree_steps_while}
 use Rattle.standard_order.proofs.Labels.{grows_same, labels_removed, only_chars, only_created_at, only_merged}
 use Rattle.standard_order.proofs.StandingStacks.{both, never}
@@ -311,4 +312,9 @@ steps_listed test d (token ∷ more) b fine =
     (step_listed test d b token fine)
 
 pub only_formatting_is_listed : OnlyFormattingIsListed
-only_formatting_is_listed test depth scripting tokens end h = (steps_listed test depth tokens (start scripting) refl end h).0
+only_formatting_is_listed test depth beginning tokens end h =
+    (steps_listed test depth tokens (first_building beginning) (begins beginning) end h).0
+  where
+    begins : (beginning : Beginning) → Listed (first_building beginning)
+    begins (OfPage scripting) = refl
+    begins (OfFragment scripting around) = refl

@@ -412,7 +412,6 @@ copy_placed claim t node last h l good = (
         form_is = p.form_is;
         found_is = p.found_is;
         head_is = p.head_is;
-        page = p.page;
       },
     )
       where

@@ -12,7 +12,7 @@ use Rattle.standard_trees.specs.TreeStore.{NodeAttr, Place, Space, Svg, TextNode
 use Rattle.standard_trees.specs.TreeStore.{is_html, is_member, key_in, key_of, local_in, space_in}
 use Rattle.standard_trees.specs.GrowingTree.{Entry, FormAt, FormOfContext, FormPointer, Formatting, GrowingTree, Marker, NoForm, beyond}
 use Rattle.standard_trees.specs.GrowingTree.{created_element, current, ends_scope, fresh, has_in_scope}
-use Rattle.standard_trees.specs.GrowingTree.{implied_of, in_scope, inserted, inserted_at, is_among, is_one, key, kind_of, past, place}
+use Rattle.standard_trees.specs.GrowingTree.{implied_of, in_scope, inserted, inserted_at, is_among, is_named, is_one, key, kind_of, past, place}
 use Rattle.standard_trees.specs.GrowingTree.{popped_until, pushed, put, unstacked, with_stack}
 use Rattle.standard_trees.specs.Formatting.{attrs_of, closed_entries}
 use Rattle.standard_trees.specs.Formatting.{form_ended, is_entry, local_of, reconstructed, reopened}
@@ -52,17 +52,22 @@ abbrev pub IsFound : List Label → Option ℕ → Type 0
 IsFound ls None = Unit {0}
 IsFound ls (Some n) = Is loose ls n
 
-abbrev pub IsHeadPointer : List Label → Option ℕ → Type 0
-IsHeadPointer ls None = ⊥
-IsHeadPointer ls (Some n) = Is head ls n
+-- the text is a page, or a fragment in an element `html`
+abbrev pub is_whole : Option Kind → Bool
+is_whole None = true
+is_whole (Some kind) = is_named (codes "html" ∷ []) kind
+
+-- the head element pointer points to a head element, or the text is a fragment in another element than `html`
+abbrev pub IsHeadPointer : List Label → Option Kind → Option ℕ → Type 0
+IsHeadPointer ls context None = is_whole context ≡ false
+IsHeadPointer ls context (Some n) = Is head ls n
 
 pub record Pointers (ls : List Label) (listed : List Entry) (form : FormPointer) (found head : Option ℕ) (context : Option Kind) : Type 0
   where
     pub entries : AllListed ls listed
     pub form_is : IsForm ls form
     pub found_is : IsFound ls found
-    pub head_is : IsHeadPointer ls head
-    pub page : context ≡ None
+    pub head_is : IsHeadPointer ls context head
 
 abbrev pub PointersOf : GrowingTree → Type 0
 PointersOf t = Pointers (labels t.nodes) t.listed t.form t.found t.head t.context
@@ -104,9 +109,10 @@ found_grown : (old new : List Node) → Grows old new → (o : Option ℕ) → I
 found_grown old new grows None h = tt
 found_grown old new grows (Some n) h = grows_at loose old new grows n h
 
-head_grown_at : (old new : List Node) → Grows old new → (o : Option ℕ) → IsHeadPointer (labels old) o → IsHeadPointer (labels new) o
-head_grown_at old new grows None h = h
-head_grown_at old new grows (Some n) h = grows_at head old new grows n h
+head_grown_at : (old new : List Node) → Grows old new → (context : Option Kind) (o : Option ℕ) → IsHeadPointer (labels old) context o →
+    IsHeadPointer (labels new) context o
+head_grown_at old new grows context None h = h
+head_grown_at old new grows context (Some n) h = grows_at head old new grows n h
 
 pub pointers_grown : (old new : List Node) → Grows old new → (es : List Entry) (form : FormPointer) (found h : Option ℕ)
     (context : Option Kind) →
@@ -115,8 +121,7 @@ pointers_grown old new grows es form found h context p = record {
   entries = listed_grown old new grows es p.entries;
   form_is = form_grown old new grows form p.form_is;
   found_is = found_grown old new grows found p.found_is;
-  head_is = head_grown_at old new grows h p.head_is;
-  page = p.page;
+  head_is = head_grown_at old new grows context h p.head_is;
 }
 
 grown : (k : Sort) (claim : Bool) (t : GrowingTree) (nodes : List Node) → Grows t.nodes nodes → Good k claim t →
@@ -198,7 +203,6 @@ reopened_good k claim (n ∷ ns) t h good =
         form_is = inner.2.form_is;
         found_is = inner.2.found_is;
         head_is = inner.2.head_is;
-        page = inner.2.page;
       },
     )
   where
@@ -250,7 +254,6 @@ good_listed k claim t es h good = (
     form_is = good.2.form_is;
     found_is = good.2.found_is;
     head_is = good.2.head_is;
-    page = good.2.page;
   },
 )
 
@@ -452,7 +455,6 @@ good_form k claim t form h good = (
     form_is = h;
     found_is = good.2.found_is;
     head_is = good.2.head_is;
-    page = good.2.page;
   },
 )
 
@@ -466,6 +468,5 @@ good_found k claim t o h good = (
     form_is = good.2.form_is;
     found_is = h;
     head_is = good.2.head_is;
-    page = good.2.page;
   },
 )

@@ -16,7 +16,7 @@ use Rattle.standard_order.proofs.Labels.{Is as IsAt, Label, kind_at, labels, nev
 use Rattle.standard_order.proofs.StandingStacks.{Closed, IsHead, IsRoot, Stands, allowed, head, html, never, same_number}
 use Rattle.standard_order.proofs.GoodTrees.{IsHeadPointer}
 use Rattle.standard_order.proofs.Levels.{Above, Head, Held, Loose, Nothing, Plain, Root, Shape, Std, own}
-use Rattle.standard_order.proofs.LevelFacts.{Stk, TreeIs, Turn, TurnIs}
+use Rattle.standard_order.proofs.LevelFacts.{Stk, TreeIs, Turn, TurnIs, never_empty}
 use Rattle.standard_order.proofs.LevelTrees.{topmost_html}
 use Rattle.standard_order.proofs.Carried.{closed_not_head, html_not_head}
 use Rattle.standard_order.proofs.StandingStacks.{Inside}
@@ -33,17 +33,6 @@ html_of_head ls [] h = absurd h
 html_of_head ls (n ∷ []) h = absurd h.1
 html_of_head ls (n ∷ r ∷ []) h = h.1
 html_of_head ls (n ∷ r ∷ m ∷ ns) h = absurd h.1
-
-pub never_empty : (shape : Shape) (ls : List Label) → Stk shape ls [] → ⊥
-never_empty Nothing ls h = h
-never_empty Root ls h = h
-never_empty Head ls h = h
-never_empty Loose ls (inl h) = h
-never_empty Loose ls (inr h) = h
-never_empty (Std k claim) ls h = h.0
-never_empty (Held shape) ls h = h
-never_empty (Plain shape) ls h = h
-never_empty (Above shape) ls h = h
 
 -- the shapes of modes
 html_of_own : (shape : Shape) (ls : List Label) (s : List ℕ) → Stk shape ls s → IsAt html ls (topmost s)
@@ -92,8 +81,8 @@ no_head ls n h (m ∷ ms) (inr (inr a)) =
 head_closed : (b : Building) → TreeIs (Std Closed false) b.tree → head_is_closed b ≡ true
 head_closed b h = by b.tree.head h.1.head_is
   where
-    by : (o : Option ℕ) → IsHeadPointer (labels b.tree.nodes) o → option_map_or (λ n. not (is_member n b.tree.stack)) o true ≡ true
-    by None k = absurd k
+    by : (o : Option ℕ) → IsHeadPointer (labels b.tree.nodes) b.tree.context o → option_map_or (λ n. not (is_member n b.tree.stack)) o true ≡ true
+    by None k = refl
     by (Some n) k = ap not (no_head (labels b.tree.nodes) n k b.tree.stack h.0.0)
 
 -- ---- turns

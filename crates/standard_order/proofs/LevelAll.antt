@@ -13,7 +13,7 @@ use Rattle.standard_trees.specs.RuleWords.{Dispatcher, InHead, InHeadNoscript, A
 use Rattle.standard_trees.specs.RuleWords.{InColumnGroup, InTableBody, InRow, InCell, InTemplate, AfterBody, InFrameset, AfterFrameset}
 use Rattle.standard_trees.specs.RuleWords.{AfterAfterBody, AfterAfterFrameset, ForeignContent}
 use Rattle.standard_trees.specs.TreeStore.{EndOf, Html, Place, NodeAttr}
-use Rattle.standard_trees.specs.GrowingTree.{GrowingTree, beyond, current, ends_scope, has_in_scope, implied_of}
+use Rattle.standard_trees.specs.GrowingTree.{FormAt, FormOfContext, FormPointer, GrowingTree, NoForm, beyond, current, ends_scope, has_in_scope, implied_of}
 use Rattle.standard_trees.specs.GrowingTree.{in_scope, inserted, inserted_at, is_among, is_one, lower, past, place, put}
 use Rattle.standard_trees.specs.GrowingTree.{created_element, fresh, top, with_stack}
 use Rattle.standard_trees.specs.Formatting.{local_of}
@@ -39,7 +39,7 @@ use Rattle.standard_order.proofs.LevelTrees.{inside_own, place_inside, pop_held}
 use Rattle.standard_order.proofs.StandingStacks.{named_apart}
 use Rattle.standard_order.proofs.Labels.{label_of}
 use Rattle.standard_order.proofs.LevelNext.{same_one}
-use Rattle.standard_order.proofs.LevelFacts.{root_grown}
+use Rattle.standard_order.proofs.LevelFacts.{is_at_node, root_grown}
 
 -- ---- elements in scope
 
@@ -257,13 +257,17 @@ head_set b h = (
   h.0,
   record {
     entries = subst (AllListed (labels b.tree.nodes)) (sym h.1.0) tt;
-    form_is = subst (IsForm (labels b.tree.nodes)) (sym h.1.1) tt;
+    form_is = form b.tree.form h.1.1;
     found_is = subst (IsFound (labels b.tree.nodes)) (sym h.1.2) tt;
     head_is = by b.tree.stack h.0;
-    page = h.1.3;
   },
 )
   where
+    form : (form : FormPointer) → is_at_node form ≡ false → IsForm (labels b.tree.nodes) form
+    form NoForm e = tt
+    form FormOfContext e = tt
+    form (FormAt n) e = cc
+
     by : (s : List ℕ) → IsHead (labels b.tree.nodes) s → IsAt head (labels b.tree.nodes) (top s)
     by [] k = absurd k
     by (n ∷ ns) k = k.0

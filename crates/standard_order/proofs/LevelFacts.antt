@@ -14,8 +14,8 @@ use Rattle.standard_trees.specs.RuleWords.{ClearListToMarker, FosterOff, FosterO
 use Rattle.standard_trees.specs.RuleWords.{AfterHead, BeforeHead, BeforeHtml}
 use Rattle.standard_trees.specs.RuleWords.{InTableText, Initial, Mode, Text}
 use Rattle.standard_trees.specs.TreeStore.{DoctypeNode, EndOf, Node, CommentNode, removed}
-use Rattle.standard_trees.specs.GrowingTree.{Entry, GrowingTree, Marker, NoForm, has_in_scope, is_among, is_one, own_before_html, place}
-use Rattle.standard_trees.specs.GrowingTree.{top, topmost, second, with_char, with_chars, with_comment}
+use Rattle.standard_trees.specs.GrowingTree.{Entry, FormAt, FormOfContext, FormPointer, GrowingTree, Marker, NoForm, has_in_scope, is_among, is_one, own_before_html, place}
+use Rattle.standard_trees.specs.GrowingTree.{is_single, top, topmost, second, with_char, with_chars, with_comment}
 use Rattle.standard_trees.specs.Formatting.{cleared}
 use Rattle.standard_trees.specs.Building.{Building, body_removed, char_of, comment_of, names_for, own_name, perform, with_doctype}
 use Rattle.standard_trees.specs.Building.{with_tree}
@@ -23,8 +23,8 @@ use Rattle.standard_order.proofs.Labels.{Grows, Is as IsAt, Label, OnlyNodes, gr
 use Rattle.standard_order.proofs.Labels.{only_chars, only_created_at, only_merged, only_same}
 use Rattle.standard_order.proofs.StandingStacks.{Closed, Framed, Inside, IsHead, IsRoot, Sort, Stands, both, cell, cells, has_grown}
 use Rattle.standard_order.proofs.StandingStacks.{head_grown, html, loose, loose_plain, pushed_on, plain_allowed, stands_grown}
-use Rattle.standard_order.proofs.StandingStacks.{allowed, fewer}
-use Rattle.standard_order.proofs.GoodTrees.{AllListed, Celled, PointersOf, held, held_loose, pointers_grown}
+use Rattle.standard_order.proofs.StandingStacks.{allowed, fewer, opposite}
+use Rattle.standard_order.proofs.GoodTrees.{AllListed, Celled, PointersOf, held, held_loose, is_whole, pointers_grown}
 use Rattle.standard_order.proofs.GoodEnds.{cleared_listed}
 use Rattle.standard_order.proofs.Levels.{Above, Bare, Before, Behind, Exact, Fine, Fixed, Foreign, Frames, Head, HeadMade, Held, In, Late}
 use Rattle.standard_order.proofs.Levels.{Level, Loose, Never, Nothing, Nowhere, Of, OfHeld, OfPlain, Opened, OpenedFree, Plain, Rel, Root}
@@ -32,7 +32,7 @@ use Rattle.standard_order.proofs.Levels.{RootMade}
 use Rattle.standard_order.proofs.Levels.{Scoped, Shape, Sorted, Std, TableText, TextMode, Where, has_sort, is_cell, is_content, is_first}
 use Rattle.standard_order.proofs.Levels.{is_framed, is_in, is_inside, is_mild, is_still, own, takes_mild, takes_still, weak, same_sort}
 use Rattle.standard_order.proofs.StandingStacks.{framing, on_head}
-use Rattle.standard_order.proofs.Labels.{weaker_at, is_at}
+use Rattle.standard_order.proofs.Labels.{holder, is_at, never_at, weaker_at}
 
 -- ---- shapes
 
@@ -79,9 +79,14 @@ tree_nodes shape old new only h = subst (TreeIs shape) (sym only.only) (
   pointers_grown old.nodes new.nodes only.grows old.listed old.form old.found old.head old.context h.1,
 )
 
+abbrev pub is_at_node : FormPointer → Bool
+is_at_node (FormAt n) = true
+is_at_node FormOfContext = false
+is_at_node NoForm = false
+
 -- before there is a head element
 abbrev pub Early : GrowingTree → Type 0
-Early t = (t.listed ≡ []) × (t.form ≡ NoForm) × (t.found ≡ None) × (t.context ≡ None)
+Early t = (t.listed ≡ []) × (is_at_node t.form ≡ false) × (t.found ≡ None) × (is_whole t.context ≡ true)
 
 abbrev pub EarlyIs : (List Label → List ℕ → Type 0) → GrowingTree → Type 0
 EarlyIs shape t = shape (labels t.nodes) t.stack × Early t
@@ -121,8 +126,9 @@ abbrev pub LateAt : Where → Rel → Bool → Building → Type 0
 LateAt where_ rel kept b = Is where_ b.mode b.token × Content b.template_modes × TreeIs (shape_for rel b.mode) b.tree × (kept ≡ true →
     b.original ≡ b.mode)
 
-abbrev pub in_html : Label → Bool
-in_html l = l.html
+-- an element in HTML other than `html`
+abbrev pub inner : Label → Bool
+inner l = holder (codes "html" ∷ []) l
 
 -- how the stack ends where a turn begins in that mode
 abbrev pub TurnIs : Mode → Building → Type 0
@@ -130,7 +136,7 @@ TurnIs Initial b = EarlyIs IsBare b.tree
 TurnIs BeforeHtml b = EarlyIs IsBare b.tree
 TurnIs BeforeHead b = EarlyIs IsRoot b.tree
 TurnIs Text b = TreeIs (Held (own b.original)) b.tree
-TurnIs InTableText b = TreeIs (own b.original) b.tree × (is_inside b.original ≡ true) × IsAt in_html (labels b.tree.nodes)
+TurnIs InTableText b = TreeIs (own b.original) b.tree × (is_inside b.original ≡ true) × IsAt inner (labels b.tree.nodes)
     (top b.tree.stack)
 TurnIs mode b = TreeIs (own mode) b.tree
 
@@ -147,7 +153,7 @@ At Before b = (b.mode ≡ BeforeHead) × Content b.template_modes × EarlyIs IsR
 At HeadMade b = Content b.template_modes × EarlyIs IsHead b.tree
 At TextMode b = (b.mode ≡ Text) × Content b.template_modes × TreeIs (Held (own b.original)) b.tree
 At TableText b = (b.mode ≡ InTableText) × Content b.template_modes × TreeIs (own b.original) b.tree × (is_inside b.original ≡ true) ×
-    IsAt in_html (labels b.tree.nodes) (top b.tree.stack)
+    IsAt inner (labels b.tree.nodes) (top b.tree.stack)
 At Behind b = Content b.template_modes × TreeIs (own b.original) b.tree
 At Never b = ⊥
 At (Late place rel kept) b = LateAt place rel kept b
@@ -158,6 +164,36 @@ At (Opened place) b = (is_in place ≡ true) × LateAt place Of false b × (list
 At (OpenedFree place) b = (is_in place ≡ true) × LateAt place (Fixed (Std Inside false)) false b ×
     (list_any (is_one b.tree (codes "template" ∷ [])) b.tree.stack ≡ true)
 At (Foreign place) b = (has_sort place ≡ true) × LateAt place Of false b × (own_before_html b.tree (own_name b.token) b.tree.stack ≡ true)
+
+-- ---- stacks with more than one element
+
+pub never_empty : (shape : Shape) (ls : List Label) → Stk shape ls [] → ⊥
+never_empty Nothing ls h = h
+never_empty Root ls h = h
+never_empty Head ls h = h
+never_empty Loose ls (inl h) = h
+never_empty Loose ls (inr h) = h
+never_empty (Std k claim) ls h = h.0
+never_empty (Held shape) ls h = h
+never_empty (Plain shape) ls h = h
+never_empty (Above shape) ls h = h
+
+pub held_more : (shape : Shape) (ls : List Label) (s : List ℕ) → Stk (Held shape) ls s → is_single s ≡ false
+held_more shape ls [] h = absurd h
+held_more shape ls (n ∷ []) h = absurd (never_empty shape ls h.1)
+held_more shape ls (n ∷ m ∷ ns) h = refl
+
+pub head_more : (ls : List Label) (s : List ℕ) → IsHead ls s → is_single s ≡ false
+head_more ls [] h = absurd h
+head_more ls (n ∷ []) h = absurd h.1
+head_more ls (n ∷ m ∷ ns) h = refl
+
+pub inner_more : (k : Sort) (ls : List Label) (s : List ℕ) → Stands k ls s → IsAt inner ls (top s) → is_single s ≡ false
+inner_more k ls [] st h = absurd st
+inner_more k ls (n ∷ []) (inl root) h = absurd (never_at html inner (λ l e f. opposite (html l) (both l.html (not (html l)) f).1 e) ls n root.0 h)
+inner_more k ls (n ∷ []) (inr (inl a)) h = absurd a.2
+inner_more k ls (n ∷ []) (inr (inr a)) h = absurd a.1
+inner_more k ls (n ∷ m ∷ ns) st h = refl
 
 -- ---- weaker shapes
 
@@ -289,7 +325,7 @@ at_nodes TableText b t h only at = (
   at.1,
   tree_nodes (own b.original) b.tree t only at.2,
   at.3,
-  subst (λ (u : GrowingTree). IsAt in_html (labels u.nodes) (top u.stack)) (sym only.only) (grows_at in_html b.tree.nodes t.nodes only.grows
+  subst (λ (u : GrowingTree). IsAt inner (labels u.nodes) (top u.stack)) (sym only.only) (grows_at inner b.tree.nodes t.nodes only.grows
       (top b.tree.stack) at.4),
 )
 at_nodes Behind b t h only at = (at.0, tree_nodes (own b.original) b.tree t only at.1)
@@ -341,7 +377,7 @@ other TableText b c e h at = (
   subst Content (sym e.2) at.1,
   subst (λ m. TreeIs (own m) c.tree) (sym e.1) (subst (TreeIs (own b.original)) (sym e.4) at.2),
   ap is_inside e.1 ∙ at.3,
-  subst (λ (t : GrowingTree). IsAt in_html (labels t.nodes) (top t.stack)) (sym e.4) at.4,
+  subst (λ (t : GrowingTree). IsAt inner (labels t.nodes) (top t.stack)) (sym e.4) at.4,
 )
 other Behind b c e h at = (
   subst Content (sym e.2) at.0,
@@ -399,7 +435,6 @@ tree_listed shape t es h at = (
     form_is = at.1.form_is;
     found_is = at.1.found_is;
     head_is = at.1.head_is;
-    page = at.1.page;
   },
 )
 

@@ -22,7 +22,7 @@ use Rattle.standard_trees.specs.GrowingTree.{is_among, is_foreign, is_one, past,
 use Rattle.standard_trees.specs.Formatting.{last_listed}
 use Rattle.standard_trees.specs.Building.{Building, is_met, names_for, own_name, perform, renamed, reset_from, with_tree}
 use Rattle.standard_order.proofs.Labels.{Is as IsAt, is_at, labels}
-use Rattle.standard_order.proofs.StandingStacks.{Inside, IsHead, Sort, Stands, both, cell, cells, fixed, framing}
+use Rattle.standard_order.proofs.StandingStacks.{Closed, Framed, Inside, IsHead, Sort, Stands, both, cell, cells, fixed, framing}
 use Rattle.standard_order.proofs.StandingStacks.{never, only_apart, past_stands}
 use Rattle.standard_order.proofs.GoodTrees.{Good, IsForm, IsFound, apart, cell_is_one, cells_end, good_beyond, good_form}
 use Rattle.standard_order.proofs.GoodTrees.{good_form_ended, good_found, good_implied, good_past, good_reconstructed, good_without_found}
@@ -34,7 +34,7 @@ use Rattle.standard_order.proofs.Levels.{inside_next, is_content, is_cell, is_in
 use Rattle.standard_order.proofs.Levels.{named_if, names_among, names_apart, no_cell, own, own_apart, settled, until}
 use Rattle.standard_order.proofs.Levels.{until_if, weak, is_table_scope, Start}
 use Rattle.standard_order.proofs.LevelFacts.{At, Content, Is, LateAt, Stk, TreeIs, Turn, TurnIs, keeps_cells, shape_for, tree_listed}
-use Rattle.standard_order.proofs.LevelFacts.{weak_stk}
+use Rattle.standard_order.proofs.LevelFacts.{stands_weaker, weak_stk}
 use Rattle.standard_order.proofs.LevelTrees.{foreign_pushed, good_of, good_other_end, holds_of, inside_op, of_good, only_foreign}
 use Rattle.standard_order.proofs.LevelTrees.{own_apart_so, own_within_so, sorted_op, sorted_own, place_sorted, place_inside, topmost_html}
 use Rattle.standard_order.proofs.LevelTrees.{upto_stands, inside_own}
@@ -43,9 +43,9 @@ use Rattle.standard_order.proofs.LevelSteps.{some_at, switched_at}
 use Rattle.standard_order.proofs.ResetModes.{head_resets, reset_fits}
 use Rattle.standard_order.proofs.Levels.{Frames, Sorted, Nowhere, Space, Remark, Typed, Other, Plain}
 use Rattle.standard_trees.specs.GrowingTree.{inserted, top, key}
-use Rattle.standard_order.proofs.GoodTrees.{good_inserted_at, label_for, IsHeadPointer, among_more, ends_at_cells}
+use Rattle.standard_order.proofs.GoodTrees.{good_inserted_at, label_for, among_more, ends_at_cells}
 use Rattle.standard_order.proofs.StandingStacks.{plain_allowed, fewer}
-use Rattle.standard_order.proofs.ResetModes.{Fits}
+use Rattle.standard_order.proofs.ResetModes.{Fits, is_last}
 use Rattle.standard_trees.specs.RuleWords.{Scope, ListItemScope, ButtonScope}
 
 abbrev pub after : List Test → Action → Building → Building
@@ -278,7 +278,6 @@ tree_form shape t form h at = (
     form_is = h;
     found_is = at.1.found_is;
     head_is = at.1.head_is;
-    page = at.1.page;
   },
 )
 
@@ -316,17 +315,10 @@ list_at place (Fixed shape) kept b new e at = none_some e
 
 -- ---- "reset the insertion mode appropriately"
 
-reset_turn : (b : Building) → TreeIs Loose b.tree → Content b.template_modes →
+pub reset_turn : (b : Building) → TreeIs Loose b.tree → Content b.template_modes →
     Turn (record b { mode = reset_from b.tree b.template_modes b.tree.stack })
 reset_turn b h content = (content, by h.0)
   where
-    set : (h : ℕ) × (b.tree.head ≡ Some h)
-    set = find b.tree.head h.1.head_is
-      where
-        find : (o : Option ℕ) → IsHeadPointer (labels b.tree.nodes) o → (h : ℕ) × (o ≡ Some h)
-        find None e = absurd e
-        find (Some n) e = (n, refl)
-
     new : Mode
     new = reset_from b.tree b.template_modes b.tree.stack
 
@@ -359,11 +351,16 @@ reset_turn b h content = (content, by h.0)
     by : Stands Inside (labels b.tree.nodes) b.tree.stack ⊎ IsHead (labels b.tree.nodes) b.tree.stack → TurnIs new (record b { mode = new })
     by (inr at_head) = subst (λ m. TurnIs m (record b { mode = new })) (sym (head_resets b.tree b.template_modes b.tree.stack at_head))
         (at_head, h.1)
-    by (inl stands) = fits (reset_fits b.tree b.template_modes set.0 h.1.page set.1 content b.tree.stack stands)
+    by (inl stands) = fits (reset_fits b.tree b.template_modes h.1.head_is content b.tree.stack stands)
       where
         fits : Fits b.tree b.tree.stack new → TurnIs new (record b { mode = new })
         fits (inl f) = inside new refl f.0 stands f.1
-        fits (inr f) = subst (λ m. TurnIs m (record b { mode = new })) (sym f.0) ((f.1, λ k. never k), h.1)
+        fits (inr f) = last new f.0
+          where
+            last : (m : Mode) → is_last m ≡ true → TurnIs m (record b { mode = new })
+            last AfterHead e = ((f.1, λ k. never k), h.1)
+            last InFrameset e = ((stands_weaker Closed Framed refl (labels b.tree.nodes) b.tree.stack f.1, λ k. never k), h.1)
+            last _ e = never e
 
 -- ---- popping up to an element
 

@@ -49,3 +49,13 @@ pub mod PartBegun
 pub mod PartSteps
 pub mod PartTemplates
 pub mod PartRows
+pub mod PartStates
+pub mod PartPhases
+pub mod PartPasses
+pub mod PartInner
+pub mod PartPopped
+pub mod PartOuter
+pub mod PartBegins
+pub mod PartUses
+pub mod PartRuns
+pub mod PartPages

@@ -20,9 +20,10 @@ use Rattle.standard_trees.specs.GrowingTree.{GrowingTree, NoForm, merged_into, p
 use Rattle.standard_trees.specs.GrowingTree.{with_chars, with_comment}
 use Rattle.standard_trees.specs.Formatting.{cleared, open_item}
 use Rattle.standard_trees.specs.Building.{Building, body_removed, char_of, comment_of, each_char, fits, gone, is_line_feed, is_met}
-use Rattle.standard_trees.specs.Building.{own_name, perform, performed, start, taken, tree_step, tree_steps, with_doctype, with_next}
+use Rattle.standard_trees.specs.Building.{own_name, perform, performed, taken, tree_step, tree_steps, with_doctype, with_next}
 use Rattle.standard_trees.specs.Building.{run, with_token}
 use Rattle.standard_order.specs.ListedOnce.{ListingNeedsNoTest, TurnsListOnce, is_below, listed_too, lists_each_once, lists_once}
+use Rattle.standard_order.specs.Beginnings.{Beginning, OfFragment, OfPage, first_building}
 use Rattle.standard_order.specs.Turns.{is_barred, run_while, tree_step_while, tree_steps_while}
 use Rattle.standard_order.proofs.Labels.{only_chars, only_created_at, only_merged}
 use Rattle.standard_order.proofs.StandingStacks.{both, never}
@@ -259,8 +260,14 @@ steps_listed test d (token ∷ more) b once =
     (λ x k. steps_listed test d more x k) (tree_step_while test d b token) (tree_step_while (listed_too test) d b token)
     (step_listed test d b token once)
 
+-- before a text none is listed
+begins_listed : (beginning : Beginning) → Listed (first_building beginning)
+begins_listed (OfPage scripting) = (refl, refl)
+begins_listed (OfFragment scripting around) = (refl, refl)
+
 pub listing_needs_no_test : ListingNeedsNoTest
-listing_needs_no_test test depth scripting tokens end h = (steps_listed test depth tokens (start scripting) (refl, refl) end h).0
+listing_needs_no_test test depth beginning tokens end h =
+    (steps_listed test depth tokens (first_building beginning) (begins_listed beginning) end h).0
 
 -- ---- runs without a test
 
@@ -298,4 +305,4 @@ any_steps d (token ∷ more) b once =
     (λ x k. any_steps d more x k) (tree_step d b token) (tree_step_while lists_each_once d b token) (any_step d b token once)
 
 pub turns_list_once : TurnsListOnce
-turns_list_once depth scripting tokens end h = (any_steps depth tokens (start scripting) (refl, refl) end h).0
+turns_list_once depth beginning tokens end h = (any_steps depth tokens (first_building beginning) (begins_listed beginning) end h).0

@@ -19,8 +19,8 @@ use Rattle.standard_order.proofs.GoodEnds.{copy_placed, entry_held}
 use Rattle.standard_order.proofs.NodeTags.{Cls, Keeps, Tag, class_at, class_kept, is_element, name_class, tags, tags_changed, tags_put}
 use Rattle.standard_order.proofs.TreeTops.{Elements, created_only, element_off, elements_past, fresh_passes}
 use Rattle.standard_order.proofs.AdoptionTops.{NoneIs, elements_below, elements_replaced, is_not, member_replaced, member_without}
-use Rattle.standard_order.proofs.Chains.{AllPlain, Scoping, chain, is_deep, is_plain, of, of_replaced, plain_before, rest_below, rest_without}
-use Rattle.standard_order.proofs.PartTrees.{In, PlainListed, Step, cls, in_nodes, in_rest, listed_kept, parts_for, plain_element, plain_root, plainly_for, step_both, step_kids}
+use Rattle.standard_order.proofs.Chains.{AllPlain, Scoping, Site, chain, is_deep, is_plain, of, of_replaced, plain_before, rest_below, rest_without}
+use Rattle.standard_order.proofs.PartTrees.{In, PlainListed, Step, cls, in_nodes, in_rest, listed_kept, parts_for, plain_element, plain_root, plain_single, plainly_for, step_both, step_kids}
 use Rattle.standard_order.proofs.PartTrees.{step_made, step_put, deep_off, doc_in}
 use Rattle.standard_order.proofs.PartOps.{copy_plain, in_listed, in_unlisted}
 use Rattle.standard_order.proofs.PartPops.{in_past, in_unstacked, scope_ends}
@@ -73,19 +73,19 @@ plain_kept ts us keeps ns h =
 
 -- ---- the inner loop
 
-pub record PartClimbs (r : ℕ) (c : Cls) (formatting : ℕ) (t : GrowingTree) (end : Climb) : Type 0 where
+pub record PartClimbs (r : ℕ) (c : Site) (formatting : ℕ) (t : GrowingTree) (end : Climb) : Type 0 where
   pub now : In r c end.tree
   pub last : is_plain (class_at (tags end.tree.nodes) end.last) ≡ true
   pub open_ : is_member formatting end.tree.stack ≡ true
   pub keeps : Keeps (tags t.nodes) (tags end.tree.nodes)
 
-pub record PartCopies (r : ℕ) (c : Cls) (formatting : ℕ) (t u : GrowingTree) (new : ℕ) : Type 0 where
+pub record PartCopies (r : ℕ) (c : Site) (formatting : ℕ) (t u : GrowingTree) (new : ℕ) : Type 0 where
   pub now : In r c u
   pub last : is_plain (class_at (tags u.nodes) new) ≡ true
   pub open_ : is_member formatting u.stack ≡ true
   pub keeps : Keeps (tags t.nodes) (tags u.nodes)
 
-part_copies : (r : ℕ) (c : Cls) (formatting node last : ℕ) (t : GrowingTree) → Is held (labels t.nodes) node → is_plain (class_at (tags t.nodes) node) ≡ true →
+part_copies : (r : ℕ) (c : Site) (formatting node last : ℕ) (t : GrowingTree) → Is held (labels t.nodes) node → is_plain (class_at (tags t.nodes) node) ≡ true →
     nat_eq node formatting ≡ false → In r c t → is_plain (class_at (tags t.nodes) last) ≡ true → is_member formatting t.stack ≡ true →
     PartCopies r c formatting t (put last (EndOf (fresh t)) (replaced node (fresh t) (copied node t))) (fresh t)
 part_copies r c formatting node last t h p off i q open_ =
@@ -97,6 +97,7 @@ part_copies r c formatting node last t h p off i q open_ =
             chained = ap chain same ∙ middle.chained;
             within = ap Rattle.standard_order.proofs.Chains.context same;
             body = ap Rattle.standard_order.proofs.Chains.has_body same;
+            few = ap Rattle.standard_order.proofs.Chains.templates_in same;
           }) (elements_replaced (tags nodes) node (fresh t) (plain_element _ new_plain) t.stack middle.open_) middle);
       last = new_plain;
       open_ = member_replaced formatting node (fresh t) t.stack off open_;
@@ -110,7 +111,7 @@ part_copies r c formatting node last t h p off i q open_ =
     mid = (copied node t).nodes
 
     made : Step r (parts_for (cls t)) t.nodes mid
-    made = step_made r (parts_for (cls t)) Html (local_of t node) (attrs_of t node) t (λ contents. plain_root _ copy)
+    made = step_made r (parts_for (cls t)) Html (local_of t node) (attrs_of t node) t (λ contents. plain_single _ copy)
 
     mid_plain : is_plain (class_at (tags mid) (fresh t)) ≡ true
     mid_plain = fresh_passes is_plain refl Html (local_of t node) (attrs_of t node) (λ contents. copy) t
@@ -139,7 +140,7 @@ part_copies r c formatting node last t h p off i q open_ =
     same : of (class_at (tags nodes)) (map (replaced_node node (fresh t)) t.stack) ≡ of (class_at (tags nodes)) t.stack
     same = of_replaced (class_at (tags nodes)) node (fresh t) (class_kept is_plain refl (tags t.nodes) (tags nodes) whole.keeps node p) new_plain t.stack
 
-pub part_climbs : (r : ℕ) (c : Cls) (claim : Bool) (formatting : ℕ) (nodes : List ℕ) (count last : ℕ) (mark : Option ℕ) (t : GrowingTree) →
+pub part_climbs : (r : ℕ) (c : Site) (claim : Bool) (formatting : ℕ) (nodes : List ℕ) (count last : ℕ) (mark : Option ℕ) (t : GrowingTree) →
     AllLoose (labels t.nodes) nodes → AllPlain (class_at (tags t.nodes)) nodes → NoneIs formatting nodes → Good Inside claim t → In r c t →
     is_plain (class_at (tags t.nodes) last) ≡ true → is_member formatting t.stack ≡ true → PartClimbs r c formatting t (climb nodes count last mark t)
 part_climbs r c claim formatting [] count last mark t all plain none good i q open_ = record {
@@ -204,7 +205,7 @@ abbrev pub OtherName : List ℕ → Cls → Type 0
 OtherName name c = (d : Cls) → name_class name ≡ d → is_plain d ≡ false → (d ≡ c → ⊥)
 
 -- an element that ends the scope of the adoption agency algorithm
-pub scope_only : (r : ℕ) (c : Cls) (t : GrowingTree) (n : ℕ) → is_plain (class_at (tags t.nodes) n) ≡ true → In r c t →
+pub scope_only : (r : ℕ) (c : Site) (t : GrowingTree) (n : ℕ) → is_plain (class_at (tags t.nodes) n) ≡ true → In r c t →
     Scoping (class_at (tags t.nodes)) (nat_eq n) (ends_scope Scope t)
 scope_only r c t n p i = record {
   only = λ m h. subst (λ j. is_plain (class_at (tags t.nodes) j) ≡ true) (same_number n m h) p;
@@ -212,7 +213,7 @@ scope_only r c t n p i = record {
 }
 
 -- without a furthest block
-pub in_adopted_plainly : (r : ℕ) (c : Cls) (t : GrowingTree) (formatting : ℕ) → is_plain (class_at (tags t.nodes) formatting) ≡ true →
+pub in_adopted_plainly : (r : ℕ) (c : Site) (t : GrowingTree) (formatting : ℕ) → is_plain (class_at (tags t.nodes) formatting) ≡ true →
     in_scope (nat_eq formatting) (ends_scope Scope t) t.stack ≡ true → In r c t → In r c (unlisted formatting (with_stack t (past (nat_eq formatting) t.stack)))
 in_adopted_plainly r c t formatting p scoped i =
     in_unlisted r c formatting (with_stack t (past (nat_eq formatting) t.stack)) (in_past r c t (nat_eq formatting) (ends_scope Scope t) (scope_only r c t formatting p i) scoped i)
@@ -272,7 +273,7 @@ suffix_past f n (m ∷ ms) p h e = by ms (nat_eq n m) refl h e (λ k l. suffix_p
         record { chained = rest.chained; deep = rest.deep; host = λ w. either_host (Rattle.standard_order.proofs.Chains.is_host (f m)) (rest.host w) }
 
 -- the place of the last node
-ancestor_off : (r : ℕ) (c : Cls) (t : GrowingTree) (formatting : ℕ) → is_plain (class_at (tags t.nodes) formatting) ≡ true → is_member formatting t.stack ≡ true →
+ancestor_off : (r : ℕ) (c : Site) (t : GrowingTree) (formatting : ℕ) → is_plain (class_at (tags t.nodes) formatting) ≡ true → is_member formatting t.stack ≡ true →
     In r c t → Rattle.standard_order.proofs.PartTrees.Off r (place_in t (top (behind_in formatting t.stack)))
 ancestor_off r c t formatting p open_ i = (
   Rattle.standard_order.proofs.TreeTops.place_off Rattle.standard_order.proofs.NodeTops.Rooted t ancestor (doc_in r c t i)
@@ -307,7 +308,7 @@ ancestor_off r c t formatting p open_ i = (
         (Rattle.standard_order.proofs.PartPlaces.one_at Rattle.standard_order.proofs.Chains.is_tabled Rattle.standard_trees.specs.NameLists.fostering_names refl (λ name. refl)
         (λ name. refl) refl t n (both (is_element (class_at (tags t.nodes) n)) (list_all (λ j. is_element (class_at (tags t.nodes) j)) ns) e).0 o) h
 
-pub in_adopted : (r : ℕ) (c : Cls) (formatting block : ℕ) (end : Climb) → Is held (labels end.tree.nodes) formatting →
+pub in_adopted : (r : ℕ) (c : Site) (formatting block : ℕ) (end : Climb) → Is held (labels end.tree.nodes) formatting →
     is_plain (class_at (tags end.tree.nodes) formatting) ≡ true → is_plain (class_at (tags end.tree.nodes) block) ≡ true → In r c end.tree →
     is_plain (class_at (tags end.tree.nodes) end.last) ≡ true → is_member formatting end.tree.stack ≡ true → In r c (adopted_by formatting block end)
 in_adopted r c formatting block end f_held f_plain b_plain i l_plain open_ =
@@ -342,7 +343,7 @@ in_adopted r c formatting block end f_held f_plain b_plain i l_plain open_ =
     made = (copied formatting placed).nodes
 
     two : Step r (parts_for (cls end.tree)) placed.nodes made
-    two = step_made r (parts_for (cls end.tree)) Html (local_of placed formatting) (attrs_of placed formatting) placed (λ contents. plain_root _ copy)
+    two = step_made r (parts_for (cls end.tree)) Html (local_of placed formatting) (attrs_of placed formatting) placed (λ contents. plain_single _ copy)
 
     new_plain : is_plain (class_at (tags made) new) ≡ true
     new_plain = fresh_passes is_plain refl Html (local_of placed formatting) (attrs_of placed formatting) (λ contents. copy) placed

@@ -20,7 +20,7 @@ use Rattle.standard_order.proofs.GoodEnds.{Climbed, adopted_good, block_loose, c
 use Rattle.standard_order.proofs.NodeTags.{Cls, Tag, class_at, class_kept, is_element, kind_class, name_class, tag_at, tag_of, tag_there, tags, there}
 use Rattle.standard_order.proofs.TreeTops.{Elements, elements_past}
 use Rattle.standard_order.proofs.AdoptionTops.{is_not, none_before}
-use Rattle.standard_order.proofs.Chains.{AllPlain, Rest, chain, context, is_plain, of, plain_before, rest_both, rest_tail}
+use Rattle.standard_order.proofs.Chains.{AllPlain, Rest, Site, chain, context, is_plain, of, plain_before, rest_both, rest_tail}
 use Rattle.standard_order.proofs.PartTrees.{In, in_rest}
 use Rattle.standard_order.proofs.PartPlaces.{class_is_one, current_deep, deep_element}
 use Rattle.standard_order.proofs.PartOps.{in_unlisted}
@@ -139,7 +139,7 @@ other_beyond name t n (m ∷ ms) h = by (is_one t implied m && not (is_one t (na
     by true e go = go (under (is_not (is_one t (name ∷ []) m) (both (is_one t implied m) (not (is_one t (name ∷ []) m)) e).1) (is_one t special m) h)
     by false e go = h
 
-pub in_other_end : (r : ℕ) (c : Cls) (name : List ℕ) (t : GrowingTree) → OtherName name c → In r c t → In r c (any_other_end name t)
+pub in_other_end : (r : ℕ) (c : Site) (name : List ℕ) (t : GrowingTree) → OtherName name c.inner → In r c t → In r c (any_other_end name t)
 in_other_end r c name t other i = by (ends_other t name t.stack) refl
   where
     test : ℕ → Bool
@@ -154,7 +154,7 @@ in_other_end r c name t other i = by (ends_other t name t.stack) refl
     by (Some n) e =
         let less : List ℕ = beyond (λ m. is_one t implied m && not (is_one t (name ∷ []) m)) t.stack in
         in_rest r c (with_stack t less) (past (nat_eq n) less)
-        (other_rest c name t n less other after.within after.chained after.open_ (other_beyond name t n t.stack e))
+        (other_rest c.inner name t n less other after.within after.chained after.open_ (other_beyond name t n t.stack e))
         (elements_past (tags t.nodes) (nat_eq n) less after.open_) after
 
 -- ---- items of lists
@@ -211,7 +211,7 @@ item_beyond names t n (m ∷ ms) h = by (is_one t implied m && not (is_one t (ke
         (is_one t special m && not (is_one t crossed_by_items m)) h)
     by false e go = h
 
-pub in_closed_items : (r : ℕ) (c : Cls) (names : List (List ℕ)) (t : GrowingTree) → OnlyPlain t (is_one t names) → In r c t →
+pub in_closed_items : (r : ℕ) (c : Site) (names : List (List ℕ)) (t : GrowingTree) → OnlyPlain t (is_one t names) → In r c t →
     In r c (closed_item (open_item t names t.stack) t)
 in_closed_items r c names t plain i = by (open_item t names t.stack) refl
   where
@@ -243,7 +243,7 @@ class_foreign [] n h = never (sym h)
 class_foreign (node ∷ nodes) zero h = kind_foreign node.kind h
 class_foreign (node ∷ nodes) (suc n) h = class_foreign nodes n h
 
-pub in_foreign_popped : (r : ℕ) (c : Cls) (t : GrowingTree) → In r c t → In r c (with_stack t (beyond (is_foreign t) t.stack))
+pub in_foreign_popped : (r : ℕ) (c : Site) (t : GrowingTree) → In r c t → In r c (with_stack t (beyond (is_foreign t) t.stack))
 in_foreign_popped r c t i = in_beyond r c t (is_foreign t) (λ n h. class_foreign t.nodes n (is_not (is_html (space_in (kind_of t n))) (outside n h))) i
   where
     cut : (x y z : Bool) → x && not y && not z ≡ true → x ≡ true
@@ -268,7 +268,7 @@ own_rest name t (n ∷ ns) h found = by (is_html (space_in (kind_of t n))) refl 
     by false e g go = rest_over (class_at (tags t.nodes)) (λ m. bytes_eq (lower (local_of t m)) name) n ns (class_foreign t.nodes n e) h
         (λ off rest. go rest.chained (sym (ap (λ x. x || own_before_html t name ns) off) ∙ g))
 
-pub in_own_popped : (r : ℕ) (c : Cls) (name : List ℕ) (t : GrowingTree) → own_before_html t name t.stack ≡ true → In r c t →
+pub in_own_popped : (r : ℕ) (c : Site) (name : List ℕ) (t : GrowingTree) → own_before_html t name t.stack ≡ true → In r c t →
     In r c (with_stack t (past (λ n. bytes_eq (lower (local_of t n)) name) t.stack))
 in_own_popped r c name t found i =
     in_rest r c t (past (λ n. bytes_eq (lower (local_of t n)) name) t.stack) (own_rest name t t.stack i.chained found)
@@ -276,7 +276,7 @@ in_own_popped r c name t found i =
 
 -- ---- the adoption agency algorithm
 
-plain_other : (name : List ℕ) (c : Cls) → is_plain (name_class name) ≡ true → OtherName name c
+pub plain_other : (name : List ℕ) (c : Cls) → is_plain (name_class name) ≡ true → OtherName name c
 plain_other name c p d e off same = never (sym off ∙ subst (λ x. is_plain x ≡ true) e p)
 
 special_there : (t : GrowingTree) (seen : Option ℕ) (s : List ℕ) (block : ℕ) → last_special t seen s ≡ Some block →
@@ -309,14 +309,14 @@ member_plain f block (n ∷ ns) all h = by (nat_eq block n) refl h (λ g. member
     by true e g go = subst (λ i. is_plain (f i) ≡ true) (sym (same_number block n e)) two.0
     by false e g go = go g
 
-in_adopt : (r : ℕ) (c : Cls) (claim : Bool) (times : ℕ) (name : List ℕ) (t : GrowingTree) → is_plain (name_class name) ≡ true → Good Inside claim t →
+in_adopt : (r : ℕ) (c : Site) (claim : Bool) (times : ℕ) (name : List ℕ) (t : GrowingTree) → is_plain (name_class name) ≡ true → Good Inside claim t →
     In r c t → In r c (adopt times name t)
 in_adopt r c claim zero name t plain good i = i
 in_adopt r c claim (suc times) name t plain good i = by (last_listed t (name ∷ []) t.listed) refl (λ u g j. in_adopt r c claim times name u plain g j)
   where
     by : (o : Option ℕ) → last_listed t (name ∷ []) t.listed ≡ o → ((u : GrowingTree) → Good Inside claim u → In r c u → In r c (adopt times name u)) →
         In r c (adopted_for o name (adopt times name) t)
-    by None e again = in_other_end r c name t (plain_other name c plain) i
+    by None e again = in_other_end r c name t (plain_other name c.inner plain) i
     by (Some formatting) e again = by_place (is_member formatting t.stack) (in_scope (nat_eq formatting) (ends_scope Scope t) t.stack) refl refl
       where
         f_held : Is held (labels t.nodes) formatting
@@ -365,7 +365,7 @@ in_adopt r c claim (suc times) name t plain good i = by (last_listed t (name ∷
         by_place true false o f = i
         by_place true true o f = once (last_special t None (before_in formatting t.stack)) refl o f
 
-pub in_popped : (r : ℕ) (c : Cls) (t : GrowingTree) → is_plain (class_at (tags t.nodes) (current t)) ≡ true → In r c t → In r c (with_stack t (drop 1 t.stack))
+pub in_popped : (r : ℕ) (c : Site) (t : GrowingTree) → is_plain (class_at (tags t.nodes) (current t)) ≡ true → In r c t → In r c (with_stack t (drop 1 t.stack))
 in_popped r c t p i = by t.stack i.chained i.open_ p
     (λ s rest elements. in_rest r c t s rest elements i)
   where
@@ -384,7 +384,7 @@ named_plain name t n p e one = by (is_plain (class_at (tags t.nodes) n)) refl
     by true k = k
     by false k = never (sym k ∙ subst (λ d. is_plain d ≡ true) (class_named name t n e k one) p)
 
-pub in_adoption : (r : ℕ) (c : Cls) (claim : Bool) (name : List ℕ) (t : GrowingTree) → is_plain (name_class name) ≡ true → Good Inside claim t → In r c t →
+pub in_adoption : (r : ℕ) (c : Site) (claim : Bool) (name : List ℕ) (t : GrowingTree) → is_plain (name_class name) ≡ true → Good Inside claim t → In r c t →
     In r c (adoption name t)
 in_adoption r c claim name t plain good i = by (is_one t (name ∷ []) (current t)) (not (is_listed t (current t))) refl
   where

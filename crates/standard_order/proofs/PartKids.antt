@@ -26,9 +26,9 @@ is_frameset _ = false
 abbrev pub is_part : Cls → Bool
 is_part c = is_head c || is_body c
 
--- none; a head; a head and a body; a head, a frameset, and any others
+-- none; a head; a head and a body; a head, where the body has been removed; a head, a frameset, and any others
 pub data Parts : Type 0 where
-  Bald Headed Bodied Framed : Parts
+  Bald Headed Bodied Emptied Framed : Parts
 
 abbrev pub fits : Parts → List Cls → Bool
 fits Bald [] = true
@@ -36,6 +36,9 @@ fits Bald (c ∷ cs) = false
 fits Headed [] = false
 fits Headed (c ∷ []) = is_head c
 fits Headed (c ∷ d ∷ cs) = false
+fits Emptied [] = false
+fits Emptied (c ∷ []) = is_head c
+fits Emptied (c ∷ d ∷ cs) = false
 fits Bodied [] = false
 fits Bodied (c ∷ []) = false
 fits Bodied (c ∷ d ∷ []) = is_head c && is_body d
@@ -258,6 +261,9 @@ all_parts Bald ts (n ∷ ns) p h = never h
 all_parts Headed ts [] p h = never h
 all_parts Headed ts (n ∷ []) p h = ap (λ x. x && true) (head_part (class_at ts n) h)
 all_parts Headed ts (n ∷ m ∷ ns) p h = never h
+all_parts Emptied ts [] p h = never h
+all_parts Emptied ts (n ∷ []) p h = ap (λ x. x && true) (head_part (class_at ts n) h)
+all_parts Emptied ts (n ∷ m ∷ ns) p h = never h
 all_parts Bodied ts [] p h = never h
 all_parts Bodied ts (n ∷ []) p h = never h
 all_parts Bodied ts (n ∷ m ∷ []) p h =

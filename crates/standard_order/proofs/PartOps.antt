@@ -12,23 +12,23 @@ use Rattle.standard_trees.specs.Formatting.{closed_entries, is_entry, local_of, 
 use Rattle.standard_order.proofs.Labels.{Grows, kind_at, labels}
 use Rattle.standard_order.proofs.StandingStacks.{never}
 use Rattle.standard_order.proofs.GoodTrees.{held}
-use Rattle.standard_order.proofs.NodeTags.{Cls, Tag, class_at, kind_class, name_class, tag_there, tags, tags_attrs}
+use Rattle.standard_order.proofs.NodeTags.{Keeps, Tag, class_at, class_kept, kind_class, name_class, tag_there, tags, tags_attrs}
 use Rattle.standard_order.proofs.NodeTags.{tags_text, there}
 use Rattle.standard_order.proofs.NodeKids.{target}
 use Rattle.standard_order.proofs.NodeTops.{same_leaf_at}
 use Rattle.standard_order.proofs.TreeTops.{no_document, same_comment}
-use Rattle.standard_order.proofs.Chains.{is_plain}
+use Rattle.standard_order.proofs.Chains.{Site, is_plain}
 use Rattle.standard_order.proofs.PartTrees.{In, PlainForm, PlainFound, PlainListed, cls, doc_in, in_nodes, parts_for, step_kind}
 use Rattle.standard_order.proofs.PartTrees.{step_leaf}
 
 -- ---- characters, comments, attributes
 
-pub in_leaf : (r : ℕ) (c : Cls) (t : GrowingTree) (text : List ℕ) (spot : Place) → (target spot ≡ 0 → ⊥) → In r c t → In r c (created_at spot (TextNode text) t)
+pub in_leaf : (r : ℕ) (c : Site) (t : GrowingTree) (text : List ℕ) (spot : Place) → (target spot ≡ 0 → ⊥) → In r c t → In r c (created_at spot (TextNode text) t)
 in_leaf r c t text spot off i =
     in_nodes r c t (put_at (length t.nodes) spot (t.nodes ++ leaf (TextNode text) ∷ []))
     (step_leaf r (parts_for (cls t)) (TextNode text) spot t.nodes (same_leaf_at (TextNode text) spot t.nodes off refl) refl refl refl refl) i
 
-pub in_char : (r : ℕ) (c : Cls) (x : ℕ) (t : GrowingTree) → In r c t → In r c (with_char x t)
+pub in_char : (r : ℕ) (c : Site) (x : ℕ) (t : GrowingTree) → In r c t → In r c (with_char x t)
 in_char r c x t i = by (place_is_document t (place t)) refl
   where
     in_text : (n : ℕ) → (target (place t) ≡ 0 → ⊥) → (o : Option (List ℕ)) → text_in (kind_of t n) ≡ o →
@@ -53,21 +53,21 @@ in_char r c x t i = by (place_is_document t (place t)) refl
     by true e = i
     by false e = behind (node_before t.nodes (place t)) (no_document Rattle.standard_order.proofs.NodeTops.Rooted t (doc_in r c t i) (place t) e)
 
-pub in_chars : (r : ℕ) (c : Cls) (xs : List ℕ) (t : GrowingTree) → In r c t → In r c (with_chars xs t)
+pub in_chars : (r : ℕ) (c : Site) (xs : List ℕ) (t : GrowingTree) → In r c t → In r c (with_chars xs t)
 in_chars r c [] t i = i
 in_chars r c (x ∷ xs) t i = in_chars r c xs (with_char x t) (in_char r c x t i)
 
-pub in_comment : (r : ℕ) (c : Cls) (text : List ℕ) (spot : Place) (t : GrowingTree) → (target spot ≡ 0 → ⊥) → In r c t → In r c (with_comment text spot t)
+pub in_comment : (r : ℕ) (c : Site) (text : List ℕ) (spot : Place) (t : GrowingTree) → (target spot ≡ 0 → ⊥) → In r c t → In r c (with_comment text spot t)
 in_comment r c text spot t off i =
     in_nodes r c t (put_at (length t.nodes) spot (t.nodes ++ leaf (CommentNode text) ∷ []))
     (step_leaf r (parts_for (cls t)) (CommentNode text) spot t.nodes (same_leaf_at (CommentNode text) spot t.nodes off refl) refl refl refl refl) i
 
-pub in_remark : (r : ℕ) (c : Cls) (text : List ℕ) (t : GrowingTree) → In r c t → In r c (with_comment text (EndOf 0) t)
+pub in_remark : (r : ℕ) (c : Site) (text : List ℕ) (t : GrowingTree) → In r c t → In r c (with_comment text (EndOf 0) t)
 in_remark r c text t i =
     in_nodes r c t (put_at (length t.nodes) (EndOf 0) (t.nodes ++ leaf (CommentNode text) ∷ []))
     (step_leaf r (parts_for (cls t)) (CommentNode text) (EndOf 0) t.nodes (same_comment text t.nodes) refl refl refl refl) i
 
-pub in_merged : (r : ℕ) (c : Cls) (o : Option ℕ) (new : List NodeAttr) (t : GrowingTree) → In r c t → In r c (merged_into o new t)
+pub in_merged : (r : ℕ) (c : Site) (o : Option ℕ) (new : List NodeAttr) (t : GrowingTree) → In r c t → In r c (merged_into o new t)
 in_merged r c None new t i = i
 in_merged r c (Some n) new t i =
     in_nodes r c t (merged_into (Some n) new t).nodes
@@ -75,39 +75,45 @@ in_merged r c (Some n) new t i =
 
 -- ---- the list of active formatting elements
 
-pub in_listed : (r : ℕ) (c : Cls) (t : GrowingTree) (es : List Entry) → PlainListed (tags t.nodes) es → In r c t → In r c (record t { listed = es })
+pub in_listed : (r : ℕ) (c : Site) (t : GrowingTree) (es : List Entry) → PlainListed (tags t.nodes) es → In r c t → In r c (record t { listed = es })
 in_listed r c t es h i = record {
   nodes = i.nodes;
   open_ = i.open_;
   chained = i.chained;
   within = i.within;
+  few = i.few;
   inner = i.inner;
   listed = h;
   form = i.form;
+  page = i.page;
   found = i.found;
 }
 
-pub in_form : (r : ℕ) (c : Cls) (t : GrowingTree) (form : FormPointer) → PlainForm (tags t.nodes) form → In r c t → In r c (record t { form = form })
+pub in_form : (r : ℕ) (c : Site) (t : GrowingTree) (form : FormPointer) → PlainForm (tags t.nodes) form → In r c t → In r c (record t { form = form })
 in_form r c t form h i = record {
   nodes = i.nodes;
   open_ = i.open_;
   chained = i.chained;
   within = i.within;
+  few = i.few;
   inner = i.inner;
   listed = i.listed;
   form = h;
+  page = i.page;
   found = i.found;
 }
 
-pub in_found : (r : ℕ) (c : Cls) (t : GrowingTree) (o : Option ℕ) → PlainFound (tags t.nodes) o → In r c t → In r c (record t { found = o })
+pub in_found : (r : ℕ) (c : Site) (t : GrowingTree) (o : Option ℕ) → PlainFound (tags t.nodes) o → In r c t → In r c (record t { found = o })
 in_found r c t o h i = record {
   nodes = i.nodes;
   open_ = i.open_;
   chained = i.chained;
   within = i.within;
+  few = i.few;
   inner = i.inner;
   listed = i.listed;
   form = i.form;
+  page = i.page;
   found = h;
 }
 
@@ -121,12 +127,16 @@ plain_filtered ts n (Formatting m ∷ es) h = by (nat_eq m n) (plain_filtered ts
     by true k = k
     by false k = (h.0, k)
 
-pub in_unlisted : (r : ℕ) (c : Cls) (n : ℕ) (t : GrowingTree) → In r c t → In r c (unlisted n t)
+pub in_unlisted : (r : ℕ) (c : Site) (n : ℕ) (t : GrowingTree) → In r c t → In r c (unlisted n t)
 in_unlisted r c n t i = in_listed r c t (filter (λ entry. not (is_entry n entry)) t.listed) (plain_filtered (tags t.nodes) n t.listed i.listed) i
 
 abbrev pub PlainAll : List Tag → List ℕ → Type 0
 PlainAll ts [] = Unit {0}
 PlainAll ts (n ∷ ns) = (is_plain (class_at ts n) ≡ true) × PlainAll ts ns
+
+pub all_plain_kept : (ts us : List Tag) → Keeps ts us → (ns : List ℕ) → PlainAll ts ns → PlainAll us ns
+all_plain_kept ts us keeps [] h = tt
+all_plain_kept ts us keeps (n ∷ ns) h = (class_kept is_plain refl ts us keeps n h.0, all_plain_kept ts us keeps ns h.1)
 
 pub closed_plain : (ts : List Tag) (stack : List ℕ) (es : List Entry) → PlainListed ts es → PlainAll ts (closed_entries stack es)
 closed_plain ts stack [] h = tt

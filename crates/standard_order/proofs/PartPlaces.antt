@@ -16,9 +16,9 @@ use Rattle.standard_order.proofs.NodeKids.{counted_member, kids, target}
 use Rattle.standard_order.proofs.NodeTops.{Rooted, is_root}
 use Rattle.standard_order.proofs.TreeTops.{Elements, Filled, created_only, fresh_passes, place_off}
 use Rattle.standard_order.proofs.PartKids.{all_parts, is_part, parts_in}
-use Rattle.standard_order.proofs.Chains.{chain, first, first_deep, is_deep, is_host, is_inner, is_plain, is_table, is_tabled, is_template, of, on}
+use Rattle.standard_order.proofs.Chains.{Site, chain, first, first_deep, is_deep, is_host, is_inner, is_plain, is_table, is_tabled, is_template, of, on}
 use Rattle.standard_order.proofs.Chains.{tabled_host}
-use Rattle.standard_order.proofs.PartTrees.{In, Off, cls, deep_off, doc_in, in_contents_html, in_nodes, in_pushed, named_class, parts_for, plain_root}
+use Rattle.standard_order.proofs.PartTrees.{In, Off, cls, deep_off, doc_in, in_contents_html, in_nodes, in_pushed, named_class, parts_for, plain_single}
 use Rattle.standard_order.proofs.PartTrees.{plainly_for, step_element}
 
 -- ---- names and classes
@@ -136,7 +136,7 @@ table_part c t p = by c t p
 
 -- ---- foster parenting
 
-above_html : (r : ℕ) (c : Cls) (t : GrowingTree) (n : ℕ) (d : Cls) → In r c t → on (class_at (tags t.nodes) n) d ≡ true → n ≡ r → ⊥
+above_html : (r : ℕ) (c : Site) (t : GrowingTree) (n : ℕ) (d : Cls) → In r c t → on (class_at (tags t.nodes) n) d ≡ true → n ≡ r → ⊥
 above_html r c t n d i h e = clash (class_at (tags t.nodes) r) i.nodes.frame.root (subst (λ m. on (class_at (tags t.nodes) m) d ≡ true) e h)
   where
     clash : (x : Cls) → x ≡ HtmlC → on x d ≡ true → ⊥
@@ -150,7 +150,7 @@ table_deep : (c d : Cls) → is_table c ≡ true → on c d ≡ true → is_deep
 table_deep Rattle.standard_order.proofs.NodeTags.TableC d t h = h
 table_deep _ d t h = never t
 
-pub foster_html : (r : ℕ) (c : Cls) (t : GrowingTree) → In r c t → (s : List ℕ) → Elements (tags t.nodes) s → chain (of (class_at (tags t.nodes)) s) ≡ true →
+pub foster_html : (r : ℕ) (c : Site) (t : GrowingTree) → In r c t → (s : List ℕ) → Elements (tags t.nodes) s → chain (of (class_at (tags t.nodes)) s) ≡ true →
     list_any is_host (of (class_at (tags t.nodes)) s) ≡ true → target (foster_place t s) ≡ r → ⊥
 foster_html r c t i [] e h host same = never h
 foster_html r c t i (n ∷ []) e h host same = host_or_root (class_at (tags t.nodes) n) h host
@@ -202,7 +202,7 @@ foster_html r c t i (n ∷ m ∷ ns) e h host same =
 
 -- ---- the appropriate place
 
-pub place_html : (r : ℕ) (c : Cls) (t : GrowingTree) (x : ℕ) → In r c t → is_deep (class_at (tags t.nodes) x) ≡ true →
+pub place_html : (r : ℕ) (c : Site) (t : GrowingTree) (x : ℕ) → In r c t → is_deep (class_at (tags t.nodes) x) ≡ true →
     (is_one t fostering_names x ≡ true → list_any is_host (cls t) ≡ true) → target (place_in t x) ≡ r → ⊥
 place_html r c t x i deep host =
     in_contents_html r c t i (elim (t.fostering && is_one t fostering_names x) as (λ _. Place) [ true ↦ foster_place t t.stack | false ↦ EndOf x ])
@@ -225,19 +225,19 @@ deep_element c h = by c h
     by Rattle.standard_order.proofs.NodeTags.ContentsC k = never k
     by _ k = refl
 
-pub stack_filled : (r : ℕ) (c : Cls) (t : GrowingTree) → In r c t → Filled t.stack
+pub stack_filled : (r : ℕ) (c : Site) (t : GrowingTree) → In r c t → Filled t.stack
 stack_filled r c t i e = never (subst (λ s. chain (of (class_at (tags t.nodes)) s) ≡ true) e i.chained)
 
-first_of : (f : ℕ → Cls) (s : List ℕ) → Filled s → f (top s) ≡ first (of f s)
+pub first_of : (f : ℕ → Cls) (s : List ℕ) → Filled s → f (top s) ≡ first (of f s)
 first_of f [] filled = absurd (filled refl)
 first_of f (n ∷ ns) filled = refl
 
-pub current_deep : (r : ℕ) (c : Cls) (t : GrowingTree) → In r c t → is_deep (class_at (tags t.nodes) (current t)) ≡ true
+pub current_deep : (r : ℕ) (c : Site) (t : GrowingTree) → In r c t → is_deep (class_at (tags t.nodes) (current t)) ≡ true
 current_deep r c t i =
     subst (λ d. is_deep d ≡ true) (sym (first_of (class_at (tags t.nodes)) t.stack (stack_filled r c t i)))
     (first_deep (cls t) (subst (λ d. is_inner d ≡ true) (sym i.within) i.inner))
 
-current_host : (r : ℕ) (c : Cls) (t : GrowingTree) → In r c t → is_one t fostering_names (current t) ≡ true → list_any is_host (cls t) ≡ true
+current_host : (r : ℕ) (c : Site) (t : GrowingTree) → In r c t → is_one t fostering_names (current t) ≡ true → list_any is_host (cls t) ≡ true
 current_host r c t i one = by t.stack i.open_ i.chained one
   where
     by : (s : List ℕ) → Elements (tags t.nodes) s → chain (of (class_at (tags t.nodes)) s) ≡ true → is_one t fostering_names (top s) ≡ true →
@@ -247,7 +247,7 @@ current_host r c t i one = by t.stack i.open_ i.chained one
         tabled_host (class_at (tags t.nodes) n) (of (class_at (tags t.nodes)) ns)
         (one_at is_tabled fostering_names refl (λ name. refl) (λ name. refl) refl t n (both (is_element (class_at (tags t.nodes) n)) _ e).0 o) h
 
-pub current_place : (r : ℕ) (c : Cls) (t : GrowingTree) → In r c t → Off r (place t)
+pub current_place : (r : ℕ) (c : Site) (t : GrowingTree) → In r c t → Off r (place t)
 current_place r c t i = (
   place_off Rooted t (current t) (doc_in r c t i) (stack_filled r c t i) (deep_element _ (current_deep r c t i)),
   place_html r c t (current t) i (current_deep r c t i) (current_host r c t i),
@@ -255,12 +255,12 @@ current_place r c t i = (
 
 -- ---- ordinary elements that are inserted
 
-pub in_inserted : (r : ℕ) (c : Cls) (space : Space) (name : List ℕ) (attrs : List NodeAttr) (t : GrowingTree) →
+pub in_inserted : (r : ℕ) (c : Site) (space : Space) (name : List ℕ) (attrs : List NodeAttr) (t : GrowingTree) →
     ((contents : Option ℕ) → is_plain (kind_class (ElementNode space name attrs contents)) ≡ true) → In r c t → In r c (inserted space name attrs t)
 in_inserted r c space name attrs t plain i =
     subst (λ (made : GrowingTree). In r c (pushed (fresh t) (put (fresh t) (place t) made))) (sym (created_only space name attrs t))
     (in_pushed r c (record t { nodes = nodes }) (fresh t) new (in_nodes r c t nodes
-    (step_element r (parts_for (cls t)) (place t) space name attrs t (current_place r c t i) (λ contents. plain_root _ (plain contents))) i))
+    (step_element r (parts_for (cls t)) (place t) space name attrs t (current_place r c t i) (λ contents. plain_single _ (plain contents))) i))
   where
     nodes : List Node
     nodes = put_at (fresh t) (place t) (created_element space name attrs t).nodes

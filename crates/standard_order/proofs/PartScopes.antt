@@ -17,7 +17,7 @@ use Rattle.standard_order.proofs.NodeTags.{tag_at, tag_of, tag_there, tags, ther
 use Rattle.standard_order.proofs.NodeTops.{is_root}
 use Rattle.standard_order.proofs.TreeTops.{Elements, elements_past}
 use Rattle.standard_order.proofs.PartKids.{is_body}
-use Rattle.standard_order.proofs.Chains.{chain, context, first, has_body, is_deep, is_group, is_inner, is_plain, is_row, is_table, is_template, of, on}
+use Rattle.standard_order.proofs.Chains.{Site, at_most, chain, context, counted_on, first, has_body, is_deep, is_group, is_inner, is_plain, is_row, is_table, is_template, of, on, site_of, templates_in}
 use Rattle.standard_order.proofs.PartTrees.{In, cls, named_class}
 use Rattle.standard_order.proofs.PartPlaces.{class_among}
 use Rattle.standard_order.proofs.PartTables.{deep_inner, in_turned}
@@ -50,6 +50,7 @@ pub record Below (f : ℕ → Cls) (wants : Cls → Bool) (s q : List ℕ) : Typ
   pub chained : chain (of f q) ≡ true
   pub stood : (c : Cls) × (wants c ≡ true) × (on c (first (of f q)) ≡ true)
   pub body : has_body (of f q) ≡ has_body (of f s)
+  pub fewer : at_most (templates_in (of f q)) (templates_in (of f s)) ≡ true
 
 tabular_body : (c : Cls) → is_tabular c ≡ true → is_body c ≡ false
 tabular_body BodyC h = never h
@@ -63,6 +64,22 @@ not_asked f wants wanted ends asked n rest off end h = by (wanted n) (ends n) re
     by true y e k l = never (sym off ∙ asked.tabular (f n) (asked.only n e))
     by false true e k l = never l
     by false false e k l = never k
+
+pub most_self : (n : ℕ) → at_most n n ≡ true
+most_self zero = refl
+most_self (suc n) = most_self n
+
+pub most_more : (n m : ℕ) → at_most n m ≡ true → at_most n (suc m) ≡ true
+most_more zero m h = refl
+most_more (suc n) zero h = never h
+most_more (suc n) (suc m) h = most_more n m h
+
+pub most_on : (c : Cls) (n m : ℕ) → at_most n m ≡ true → at_most n (counted_on c m) ≡ true
+most_on c n m h = by (is_template c)
+  where
+    by : (x : Bool) → at_most n (elim x as (λ _. ℕ) [ true ↦ suc m | false ↦ m ]) ≡ true
+    by true = most_more n m h
+    by false = h
 
 root_end : (c : Cls) → is_root c ≡ true → (is_tabular c ≡ false) × (ends_table c ≡ true)
 root_end HtmlC h = (refl, refl)
@@ -93,11 +110,17 @@ scoped_below f wants wanted ends asked (n ∷ m ∷ ms) h scope =
       chained = links.1;
       stood = (f n, asked.only n e, links.0);
       body = sym (ap (λ x. x || has_body (of f (m ∷ ms))) (tabular_body (f n) (asked.tabular (f n) (asked.only n e))));
+      fewer = most_on (f n) (templates_in (of f (m ∷ ms))) (templates_in (of f (m ∷ ms))) (most_self (templates_in (of f (m ∷ ms))));
     }
     by false true e k go = never k
     by false false e k go =
         let rest : Below f wants (m ∷ ms) (past wanted (m ∷ ms)) = go k in
-        record { chained = rest.chained; stood = rest.stood; body = rest.body ∙ sym (ap (λ x. x || has_body (of f (m ∷ ms))) (body_off k)) }
+        record {
+          chained = rest.chained;
+          stood = rest.stood;
+          body = rest.body ∙ sym (ap (λ x. x || has_body (of f (m ∷ ms))) (body_off k));
+          fewer = most_on (f n) (templates_in (of f (past wanted (m ∷ ms)))) (templates_in (of f (m ∷ ms))) rest.fewer;
+        }
 
 host_deep : (d : Cls) → is_table d || is_template d ≡ true → is_deep d ≡ true
 host_deep TableC h = refl
@@ -123,21 +146,23 @@ tabular_deep CellC d h o = row_deep d o
 tabular_deep _ d h o = never h
 
 -- the first of these is popped, with all above it
-pub record Popped (r : ℕ) (wants : Cls → Bool) (t : GrowingTree) : Type 0 where
-  pub inner : Cls
-  pub now : In r inner t
+pub record Popped (r : ℕ) (wants : Cls → Bool) (open_ : ℕ) (t : GrowingTree) : Type 0 where
+  pub site : Site
+  pub now : In r site t
+  pub fewer : at_most site.templates open_ ≡ true
   pub stood : (c : Cls) × (wants c ≡ true) × (on c (first (cls t)) ≡ true)
 
-pub in_scoped_past : (r : ℕ) (c : Cls) (t : GrowingTree) (wants : Cls → Bool) (wanted ends : ℕ → Bool) → Asked (class_at (tags t.nodes)) wants wanted ends →
-    in_scope wanted ends t.stack ≡ true → In r c t → Popped r wants (with_stack t (past wanted t.stack))
+pub in_scoped_past : (r : ℕ) (c : Site) (t : GrowingTree) (wants : Cls → Bool) (wanted ends : ℕ → Bool) → Asked (class_at (tags t.nodes)) wants wanted ends →
+    in_scope wanted ends t.stack ≡ true → In r c t → Popped r wants c.templates (with_stack t (past wanted t.stack))
 in_scoped_past r c t wants wanted ends asked scope i =
     let below : Below (class_at (tags t.nodes)) wants t.stack (past wanted t.stack) =
     scoped_below (class_at (tags t.nodes)) wants wanted ends asked t.stack i.chained scope in
     record {
-      inner = context (of (class_at (tags t.nodes)) (past wanted t.stack));
-      now = in_turned r c (context (of (class_at (tags t.nodes)) (past wanted t.stack))) t (past wanted t.stack) below.chained refl
+      site = site_of (of (class_at (tags t.nodes)) (past wanted t.stack));
+      now = in_turned r c (site_of (of (class_at (tags t.nodes)) (past wanted t.stack))) t (past wanted t.stack) below.chained refl
           (deep_inner (of (class_at (tags t.nodes)) (past wanted t.stack)) below.chained
-          (tabular_deep below.stood.0 _ (asked.tabular below.stood.0 below.stood.1) below.stood.2)) below.body (elements_past (tags t.nodes) wanted t.stack i.open_) i;
+          (tabular_deep below.stood.0 _ (asked.tabular below.stood.0 below.stood.1) below.stood.2)) below.body refl (elements_past (tags t.nodes) wanted t.stack i.open_) i;
+      fewer = subst (λ k. at_most (templates_in (of (class_at (tags t.nodes)) (past wanted t.stack))) k ≡ true) i.few below.fewer;
       stood = below.stood;
     }
 

@@ -14,7 +14,7 @@ use Rattle.standard_order.proofs.NodeTags.{is_there, kind_class, name_class, non
 use Rattle.standard_order.proofs.NodeKids.{AllThere, counted, kids}
 use Rattle.standard_order.proofs.NodeTops.{Rooted, are_tops, is_counted, is_doctype, is_root, tops}
 use Rattle.standard_order.proofs.TreeTops.{name_element}
-use Rattle.standard_order.proofs.PartKids.{Bald, Bodied, Framed, Headed, Parts, fits, is_body, is_frameset, is_head, parts_in}
+use Rattle.standard_order.proofs.PartKids.{Bald, Bodied, Emptied, Framed, Headed, Parts, fits, is_body, is_frameset, is_head, parts_in}
 use Rattle.standard_order.proofs.Chains.{chain, context, has_body, is_deep, is_inner, is_plain, is_template, on}
 use Rattle.standard_order.proofs.PartTrees.{Nodes}
 use Rattle.standard_order.proofs.PartPlaces.{class_among, names_have}
@@ -82,6 +82,7 @@ abbrev pub is_whole : Parts → Bool
 is_whole Bald = false
 is_whole Headed = false
 is_whole Bodied = true
+is_whole Emptied = false
 is_whole Framed = true
 
 either : (x : Bool) {y : Bool} → y ≡ true → x || y ≡ true
@@ -92,6 +93,7 @@ parts_test : (parts : Parts) (nodes : List Node) (ns : List ℕ) → is_whole pa
     are_page_parts nodes ns ≡ true
 parts_test Bald nodes ns w h = never w
 parts_test Headed nodes ns w h = never w
+parts_test Emptied nodes ns w h = never w
 parts_test Bodied nodes [] w h = never h
 parts_test Bodied nodes (n ∷ []) w h = never h
 parts_test Bodied nodes (n ∷ m ∷ []) w h =

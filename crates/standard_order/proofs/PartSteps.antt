@@ -8,7 +8,7 @@ use Rattle.standard_trees.specs.RuleWords.{Action, AdjustForeignAttributes, Adju
 use Rattle.standard_trees.specs.RuleWords.{CloseItems, CloseP, DropFound, EndForm, FindListed, FosterOff, FosterOn, FramesetNotOk, ImpliedEndTags, ImpliedEndTagsBut}
 use Rattle.standard_trees.specs.RuleWords.{InsertCharacter, InsertComment, InsertCommentInDocument, InsertCommentInHtml, InsertElement, InsertMathmlElement, InsertNamed}
 use Rattle.standard_trees.specs.RuleWords.{InsertPending, InsertReplacement, InsertSvgElement, KeepMode, ListElement, ListMarker, MergeAttributesIntoBody}
-use Rattle.standard_trees.specs.RuleWords.{MergeAttributesIntoHtml, Names, Own, Pop, PopForeignElements, ReconstructFormatting, Rename, ScopeKind}
+use Rattle.standard_trees.specs.RuleWords.{MergeAttributesIntoHtml, Names, Own, Pop, PopForeignElements, ReconstructFormatting, Rename}
 use Rattle.standard_trees.specs.RuleWords.{SetFormPointer, SkipNextLineFeed, Stop, Test, These, TokenizerTo, EmptyPending, AddToPending}
 use Rattle.standard_trees.specs.TreeStore.{CommentNode, ContentsNode, DoctypeNode, DocumentNode, ElementNode, EndOf, Html, Kind, MathMl, Node, Svg, TextNode, key_in, node_at}
 use Rattle.standard_trees.specs.GrowingTree.{Entry, FormAt, Formatting, GrowingTree, Marker, NoForm, current, ends_scope, in_scope, is_among, is_one, place, popped_until, topmost}
@@ -17,7 +17,7 @@ use Rattle.standard_trees.specs.Building.{Building, char_of, comment_of, names_f
 use Rattle.standard_order.proofs.Labels.{labels}
 use Rattle.standard_order.proofs.StandingStacks.{both, never}
 use Rattle.standard_order.proofs.GoodTrees.{AllListed, among_more}
-use Rattle.standard_order.proofs.Levels.{End, Info, Late, Level, Never, Scoped, Start, Where, is_cell, names_among, next_of, own_apart}
+use Rattle.standard_order.proofs.Levels.{End, Info, Late, Level, Never, Scoped, Start, is_cell, names_among, next_of, own_apart}
 use Rattle.standard_order.proofs.LevelFacts.{At}
 use Rattle.standard_order.proofs.LevelTrees.{holds_of, own_apart_so}
 use Rattle.standard_order.proofs.NodeTags.{Cls, Entry as ClassEntry, PlainC, Tag, class_at, class_in, class_of, classes, kind_class, name_class, tags}
@@ -25,11 +25,11 @@ use Rattle.standard_order.proofs.NodeTops.{Rooted}
 use Rattle.standard_order.proofs.TreeTops.{element_off}
 use Rattle.standard_order.proofs.TopSteps.{good_at, topmost_element}
 use Rattle.standard_order.proofs.AdoptionTops.{is_not}
-use Rattle.standard_order.proofs.Chains.{is_plain}
+use Rattle.standard_order.proofs.Chains.{Site, is_plain}
 use Rattle.standard_order.proofs.PartTrees.{In, PlainFound, PlainListed}
 use Rattle.standard_order.proofs.PartPlaces.{current_place, in_inserted, stack_filled}
 use Rattle.standard_order.proofs.PartOps.{in_char, in_chars, in_comment, in_form, in_found, in_listed, in_merged, in_remark}
-use Rattle.standard_order.proofs.PartPops.{OnlyPlain, in_form_ended, in_implied, in_past, in_reconstructed, in_without_found, in_without_p, is_wide, scope_ends}
+use Rattle.standard_order.proofs.PartPops.{OnlyPlain, in_form_ended, in_implied, in_reconstructed, in_without_found, in_without_p}
 use Rattle.standard_order.proofs.PartAdoption.{last_plain}
 use Rattle.standard_order.proofs.PartEnds.{in_adoption, in_closed_items, in_foreign_popped, in_popped}
 
@@ -133,7 +133,7 @@ names_plain_so info (These names) token h p = p
 
 -- ---- popped until one in scope
 
-in_scope_more : (some others ends : ℕ → Bool) → ((n : ℕ) → some n ≡ true → others n ≡ true) → (s : List ℕ) → in_scope some ends s ≡ true →
+pub in_scope_more : (some others ends : ℕ → Bool) → ((n : ℕ) → some n ≡ true → others n ≡ true) → (s : List ℕ) → in_scope some ends s ≡ true →
     in_scope others ends s ≡ true
 in_scope_more some others ends more [] h = h
 in_scope_more some others ends more (n ∷ ns) h = by (some n) (others n) (ends n) refl refl h (λ k. in_scope_more some others ends more ns k)
@@ -152,18 +152,6 @@ names_more t Own Own token h n k = k
 names_more t (These some) (These others) token h n k = among_more _ some others h k
 names_more t Own (These others) token h n k = never h
 names_more t (These some) Own token h n k = never h
-
-pub in_scoped_until : (r : ℕ) (c : Cls) (info : Info) (place : Where) (kind : ScopeKind) (wanted names : Names) (b : Building) → holds_of info b.token ≡ true →
-    At (Scoped place kind wanted) b → names_among wanted names ≡ true → is_wide kind ≡ true → names_plain info names ≡ true → In r c b.tree →
-    In r c (popped_until (names_for names b.token) b.tree)
-in_scoped_until r c info place kind wanted names b h at among wide plain i =
-    in_past r c b.tree (is_one b.tree (names_for names b.token)) (ends_scope kind b.tree)
-    (record {
-      only = only_these (names_for names b.token) (names_plain_so info names b.token h plain) b.tree;
-      ending = scope_ends kind wide b.tree;
-    })
-    (in_scope_more (is_one b.tree (names_for wanted b.token)) (is_one b.tree (names_for names b.token)) (ends_scope kind b.tree)
-    (names_more b.tree wanted names b.token among) b.tree.stack at.2) i
 
 -- ---- the list of active formatting elements
 
@@ -197,7 +185,7 @@ found_plain ts t names es h = by (last_listed t names es) (λ n e. last_plain ts
 none_some : {A P : Type 0} {x : A} → None ≡ Some x → P
 none_some e = cc
 
-entries_at : (level : Level) (info : Info) (tests : List Test) (new : Level) (b : Building) → next_of level info ReconstructFormatting tests ≡ Some new → At level b →
+pub entries_at : (level : Level) (info : Info) (tests : List Test) (new : Level) (b : Building) → next_of level info ReconstructFormatting tests ≡ Some new → At level b →
     AllListed (labels b.tree.nodes) b.tree.listed
 entries_at (Late place rel kept) info tests new b e at = at.2.1.entries
 entries_at (Scoped place kind Own) info tests new b e at = at.1.2.1.entries
@@ -252,19 +240,21 @@ is_ordinary now info AddToPending = true
 is_ordinary now info Stop = true
 is_ordinary now info action = false
 
-same_in : (r : ℕ) (c : Cls) (t : GrowingTree) (fostering : Bool) → In r c t → In r c (record t { fostering = fostering })
+pub same_in : (r : ℕ) (c : Site) (t : GrowingTree) (fostering : Bool) → In r c t → In r c (record t { fostering = fostering })
 same_in r c t fostering i = record {
   nodes = i.nodes;
   open_ = i.open_;
   chained = i.chained;
   within = i.within;
+  few = i.few;
   inner = i.inner;
   listed = i.listed;
   form = i.form;
+  page = i.page;
   found = i.found;
 }
 
-pub in_performed : (r : ℕ) (c : Cls) (now : Bool) (level : Level) (info : Info) (action : Action) (tests : List Test) (b : Building) (new : Level) →
+pub in_performed : (r : ℕ) (c : Site) (now : Bool) (level : Level) (info : Info) (action : Action) (tests : List Test) (b : Building) (new : Level) →
     is_ordinary now info action ≡ true → (now ≡ true → is_plain (class_at (tags b.tree.nodes) (current b.tree)) ≡ true) → holds_of info b.token ≡ true →
     next_of level info action tests ≡ Some new → At level b → In r c b.tree → In r c (perform action b).tree
 unfolding perform

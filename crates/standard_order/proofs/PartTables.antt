@@ -7,21 +7,21 @@ use Rattle.standard_trees.specs.GrowingTree.{GrowingTree, beyond, created_elemen
 use Rattle.standard_trees.specs.GrowingTree.{popped_up_to, pushed, put, with_stack}
 use Rattle.standard_order.proofs.StandingStacks.{both, never}
 use Rattle.standard_order.proofs.NodeTags.{BodyC, CaptionC, CellC, Cls, GroupC, PlainC, RowC, TableC, TemplateC, Tag, class_at, classes, is_element, name_class, tags, tags_put}
-use Rattle.standard_order.proofs.NodeTops.{is_root}
 use Rattle.standard_order.proofs.TreeTops.{Elements, created_only, elements_beyond, fresh_passes}
 use Rattle.standard_order.proofs.PartKids.{is_body}
-use Rattle.standard_order.proofs.Chains.{Rest, chain, chain_cons, context, first, has_body, is_deep, is_inner, is_plain, of, on}
-use Rattle.standard_order.proofs.Chains.{rest_both, rest_same, rest_tail}
-use Rattle.standard_order.proofs.PartTrees.{In, cls, in_nodes, in_rest, parts_for, step_element}
+use Rattle.standard_order.proofs.Chains.{Rest, Site, above, chain, chain_cons, context, first, has_body, is_deep, is_inner, is_plain, of, on}
+use Rattle.standard_order.proofs.Chains.{counted_on, rest_both, rest_same, rest_tail, site_of, templates_in}
+use Rattle.standard_order.proofs.PartTrees.{In, cls, in_nodes, in_rest, is_single, parts_for, step_element}
 use Rattle.standard_order.proofs.PartPlaces.{class_is_one, current_place, deep_element, names_have}
 use Rattle.standard_order.proofs.PartPops.{one_any}
 
 -- ---- another innermost element
 
-pub in_turned : (r : ℕ) (c d : Cls) (t : GrowingTree) (s : List ℕ) → chain (of (class_at (tags t.nodes)) s) ≡ true →
-    context (of (class_at (tags t.nodes)) s) ≡ d → is_inner d ≡ true → has_body (of (class_at (tags t.nodes)) s) ≡ has_body (cls t) →
+pub in_turned : (r : ℕ) (c d : Site) (t : GrowingTree) (s : List ℕ) → chain (of (class_at (tags t.nodes)) s) ≡ true →
+    context (of (class_at (tags t.nodes)) s) ≡ d.inner → is_inner d.inner ≡ true → has_body (of (class_at (tags t.nodes)) s) ≡ has_body (cls t) →
+    templates_in (of (class_at (tags t.nodes)) s) ≡ d.templates →
     Elements (tags t.nodes) s → In r c t → In r d (with_stack t s)
-in_turned r c d t s chained within inner body elements i = record {
+in_turned r c d t s chained within inner body few elements i = record {
   nodes = subst (λ x. Rattle.standard_order.proofs.PartTrees.Nodes r (elim x as (λ _. Rattle.standard_order.proofs.PartKids.Parts) [
     | true ↦ Rattle.standard_order.proofs.PartKids.Bodied
     | false ↦ Rattle.standard_order.proofs.PartKids.Headed
@@ -29,9 +29,11 @@ in_turned r c d t s chained within inner body elements i = record {
   open_ = elements;
   chained = chained;
   within = within;
+  few = few;
   inner = inner;
   listed = i.listed;
   form = i.form;
+  page = i.page;
   found = i.found;
 }
 
@@ -40,7 +42,7 @@ abbrev pub is_opened : Cls → Bool
 is_opened BodyC = false
 is_opened c = is_inner c
 
-opened_inner : (d : Cls) → is_opened d ≡ true → is_inner d ≡ true
+pub opened_inner : (d : Cls) → is_opened d ≡ true → is_inner d ≡ true
 opened_inner BodyC h = never h
 opened_inner PlainC h = never h
 opened_inner TemplateC h = refl
@@ -59,11 +61,12 @@ opened_body : (d : Cls) → is_opened d ≡ true → is_body d ≡ false
 opened_body BodyC h = never h
 opened_body _ h = refl
 
-inner_root : (d : Cls) → is_inner d ≡ true → is_root d ≡ false
-inner_root Rattle.standard_order.proofs.NodeTags.HtmlC h = never h
-inner_root _ h = refl
+opened_single : (d : Cls) → is_opened d ≡ true → is_single d ≡ false
+opened_single BodyC h = never h
+opened_single Rattle.standard_order.proofs.NodeTags.HtmlC h = never h
+opened_single _ h = refl
 
-inner_element : (d : Cls) → is_inner d ≡ true → is_element d ≡ true
+pub inner_element : (d : Cls) → is_inner d ≡ true → is_element d ≡ true
 inner_element d h = deep_element d (ap (λ x. x || is_inner d) (inner_odd d h) ∙ h)
 
 -- two classes are equal, and are of inner elements
@@ -77,7 +80,7 @@ same_inner CaptionC CaptionC = true
 same_inner BodyC BodyC = true
 same_inner _ _ = false
 
-same_none : (d : Cls) → same_inner d Rattle.standard_order.proofs.NodeTags.NoC ≡ false
+pub same_none : (d : Cls) → same_inner d Rattle.standard_order.proofs.NodeTags.NoC ≡ false
 same_none TemplateC = refl
 same_none TableC = refl
 same_none GroupC = refl
@@ -87,7 +90,7 @@ same_none CaptionC = refl
 same_none BodyC = refl
 same_none _ = refl
 
-same_self : (d : Cls) → is_inner d ≡ true → same_inner d d ≡ true
+pub same_self : (d : Cls) → is_inner d ≡ true → same_inner d d ≡ true
 same_self TemplateC h = refl
 same_self TableC h = refl
 same_self GroupC h = refl
@@ -97,7 +100,7 @@ same_self CaptionC h = refl
 same_self BodyC h = refl
 same_self _ h = never h
 
-same_is : (d x : Cls) → same_inner d x ≡ true → x ≡ d
+pub same_is : (d x : Cls) → same_inner d x ≡ true → x ≡ d
 same_is TemplateC TemplateC h = refl
 same_is TableC TableC h = refl
 same_is GroupC GroupC h = refl
@@ -108,22 +111,23 @@ same_is BodyC BodyC h = refl
 same_is _ _ h = never h
 
 -- such an element is pushed
-pub in_pushed_inner : (r : ℕ) (c d : Cls) (t : GrowingTree) (n : ℕ) → class_at (tags t.nodes) n ≡ d → is_opened d ≡ true →
-    on d (first (cls t)) ≡ true → In r c t → In r d (pushed n t)
+pub in_pushed_inner : (r : ℕ) (c : Site) (d : Cls) (t : GrowingTree) (n : ℕ) → class_at (tags t.nodes) n ≡ d → is_opened d ≡ true →
+    on d (first (cls t)) ≡ true → In r c t → In r (above d c) (pushed n t)
 in_pushed_inner r c d t n e o stands i =
-    in_turned r c d t (n ∷ t.stack)
+    in_turned r c (above d c) t (n ∷ t.stack)
     (ap (λ x. chain (x ∷ cls t)) e ∙ chain_cons d (cls t) stands i.chained)
     (ap (λ x. elim (is_plain x) as (λ _. Cls) [ true ↦ context (cls t) | false ↦ x ]) e ∙ ap (λ x. elim x as (λ _. Cls) [ true ↦ context (cls t) | false ↦ d ])
     (inner_odd d (opened_inner d o)))
     (opened_inner d o)
     (ap (λ x. is_body x || has_body (cls t)) e ∙ ap (λ x. x || has_body (cls t)) (opened_body d o))
+    (ap (λ x. counted_on x (templates_in (cls t))) e ∙ ap (counted_on d) i.few)
     (ap (λ x. is_element x && list_all (λ j. is_element (class_at (tags t.nodes) j)) t.stack) e
     ∙ ap (λ x. x && list_all (λ j. is_element (class_at (tags t.nodes) j)) t.stack) (inner_element d (opened_inner d o)) ∙ i.open_) i
 
-pub in_opened : (r : ℕ) (c d : Cls) (name : List ℕ) (attrs : List NodeAttr) (t : GrowingTree) → name_class name ≡ d → is_opened d ≡ true →
-    on d (first (cls t)) ≡ true → In r c t → In r d (inserted Html name attrs t)
+pub in_opened : (r : ℕ) (c : Site) (d : Cls) (name : List ℕ) (attrs : List NodeAttr) (t : GrowingTree) → name_class name ≡ d → is_opened d ≡ true →
+    on d (first (cls t)) ≡ true → In r c t → In r (above d c) (inserted Html name attrs t)
 in_opened r c d name attrs t e o stands i =
-    subst (λ (made : GrowingTree). In r d (pushed (fresh t) (put (fresh t) (place t) made))) (sym (created_only Html name attrs t))
+    subst (λ (made : GrowingTree). In r (above d c) (pushed (fresh t) (put (fresh t) (place t) made))) (sym (created_only Html name attrs t))
     (in_pushed_inner r c d (record t { nodes = nodes }) (fresh t) new o (subst (λ cs. on d (first cs) ≡ true) (sym same) stands)
     (in_nodes r c t nodes step i))
   where
@@ -131,7 +135,7 @@ in_opened r c d name attrs t e o stands i =
     nodes = put_at (fresh t) (place t) (created_element Html name attrs t).nodes
 
     step : Rattle.standard_order.proofs.PartTrees.Step r (parts_for (cls t)) t.nodes (put_at (fresh t) (place t) (created_element Html name attrs t).nodes)
-    step = step_element r (parts_for (cls t)) (place t) Html name attrs t (current_place r c t i) (λ contents. ap is_root e ∙ inner_root d (opened_inner d o))
+    step = step_element r (parts_for (cls t)) (place t) Html name attrs t (current_place r c t i) (λ contents. ap is_single e ∙ opened_single d o)
 
     same : of (class_at (tags nodes)) t.stack ≡ cls t
     same = Rattle.standard_order.proofs.PartKids.classes_kept (tags t.nodes) (tags nodes) step.keeps t.stack
@@ -209,17 +213,17 @@ pub class_has : (test : Cls → Bool) (names : List (List ℕ)) → names_have t
     (t : GrowingTree) (c : Cls) → test c ≡ true → (n : ℕ) → is_element (class_at (tags t.nodes) n) ≡ true → class_at (tags t.nodes) n ≡ c → is_one t names n ≡ true
 class_has test names all off t c h n e same = class_is_one test names all off t n e (ap test same ∙ h)
 
-pub record InAt (r : ℕ) (c : Cls) (t : GrowingTree) : Type 0 where
+pub record InAt (r : ℕ) (c : Site) (t : GrowingTree) : Type 0 where
   pub now : In r c t
-  pub top_ : first (cls t) ≡ c
+  pub top_ : first (cls t) ≡ c.inner
 
 -- "clear the stack back to a table context" and the like
-pub in_up_to : (r : ℕ) (c : Cls) (t : GrowingTree) (names : List (List ℕ)) → OddNames names →
-    ((n : ℕ) → is_element (class_at (tags t.nodes) n) ≡ true → class_at (tags t.nodes) n ≡ c → is_one t names n ≡ true) → In r c t →
+pub in_up_to : (r : ℕ) (c : Site) (t : GrowingTree) (names : List (List ℕ)) → OddNames names →
+    ((n : ℕ) → is_element (class_at (tags t.nodes) n) ≡ true → class_at (tags t.nodes) n ≡ c.inner → is_one t names n ≡ true) → In r c t →
     InAt r c (popped_up_to names t)
 in_up_to r c t names odd has i =
-    let up : Up (class_at (tags t.nodes)) c t.stack (beyond (λ n. not (is_one t names n)) t.stack) =
-    up_to t c names odd (inner_odd c i.inner) has t.stack i.chained i.open_ i.within in
+    let up : Up (class_at (tags t.nodes)) c.inner t.stack (beyond (λ n. not (is_one t names n)) t.stack) =
+    up_to t c.inner names odd (inner_odd c.inner i.inner) has t.stack i.chained i.open_ i.within in
     record {
       now = in_rest r c t (beyond (λ n. not (is_one t names n)) t.stack) up.rest
           (elements_beyond (tags t.nodes) (λ n. not (is_one t names n)) t.stack i.open_) i;
@@ -247,21 +251,21 @@ abbrev pub tail : List Cls → List Cls
 tail [] = []
 tail (c ∷ cs) = cs
 
-pub in_popped_inner : (r : ℕ) (c : Cls) (t : GrowingTree) → InAt r c t → is_opened c ≡ true → is_deep (first (tail (cls t))) ≡ true →
-    In r (context (tail (cls t))) (with_stack t (drop 1 t.stack))
-in_popped_inner r c t at o deep = by t.stack at.now.chained at.now.open_ at.top_ deep (λ s k w j b e. in_turned r c w t s k j b.0 b.1 e at.now)
+pub in_popped_inner : (r : ℕ) (c : Site) (t : GrowingTree) → InAt r c t → is_opened c.inner ≡ true → is_deep (first (tail (cls t))) ≡ true →
+    In r (site_of (tail (cls t))) (with_stack t (drop 1 t.stack))
+in_popped_inner r c t at o deep = by t.stack at.now.chained at.now.open_ at.top_ deep (λ s k j b e. in_turned r c (site_of (of (class_at (tags t.nodes)) s)) t s k refl j b refl e at.now)
   where
     f : ℕ → Cls
     f = class_at (tags t.nodes)
 
-    by : (s : List ℕ) → chain (of f s) ≡ true → Elements (tags t.nodes) s → first (of f s) ≡ c → is_deep (first (tail (of f s))) ≡ true →
-        ((q : List ℕ) → chain (of f q) ≡ true → (d : Cls) → context (of f q) ≡ d → (is_inner d ≡ true) × (has_body (of f q) ≡ has_body (of f s)) →
-        Elements (tags t.nodes) q → In r d (with_stack t q)) →
-        In r (context (tail (of f s))) (with_stack t (drop 1 s))
+    by : (s : List ℕ) → chain (of f s) ≡ true → Elements (tags t.nodes) s → first (of f s) ≡ c.inner → is_deep (first (tail (of f s))) ≡ true →
+        ((q : List ℕ) → chain (of f q) ≡ true → is_inner (context (of f q)) ≡ true → has_body (of f q) ≡ has_body (of f s) →
+        Elements (tags t.nodes) q → In r (site_of (of f q)) (with_stack t q)) →
+        In r (site_of (tail (of f s))) (with_stack t (drop 1 s))
     by [] h e k d go = never h
     by (n ∷ []) h e k d go = never d
     by (n ∷ m ∷ ms) h e k d go =
         let links : (on (f n) (f m) ≡ true) × (chain (of f (m ∷ ms)) ≡ true) = both (on (f n) (f m)) (chain (of f (m ∷ ms))) h in
-        go (m ∷ ms) links.1 (context (of f (m ∷ ms))) refl
-        (deep_inner (of f (m ∷ ms)) links.1 d, sym (ap (λ x. is_body x || has_body (of f (m ∷ ms))) k ∙ ap (λ x. x || has_body (of f (m ∷ ms))) (opened_body c o)))
+        go (m ∷ ms) links.1 (deep_inner (of f (m ∷ ms)) links.1 d)
+        (sym (ap (λ x. is_body x || has_body (of f (m ∷ ms))) k ∙ ap (λ x. x || has_body (of f (m ∷ ms))) (opened_body c.inner o)))
         (both (is_element (f n)) (list_all (λ j. is_element (f j)) (m ∷ ms)) e).1

@@ -1,25 +1,23 @@
--- In the modes of the body, a template that is closed; and elements that are inserted in framesets.
-use Rattle.std.specs.Prelude.{◌≡◌, ◌&&◌, ◌||◌, ◌⊎◌, refl, ℕ, Bool, true, false, not, List, [], ◌∷◌, bytes_eq, codes, nat_eq, unwrap_or}
+-- In the modes of the body, a template that is closed.
+use Rattle.std.specs.Prelude.{◌≡◌, ◌&&◌, ◌||◌, ◌⊎◌, refl, ℕ, suc, Bool, true, false, not, List, [], ◌∷◌, bytes_eq, codes}
 use Rattle.std.proofs.Common.{inl, inr}
 use Rattle.std.specs.List.{list_any}
 use Rattle.std.proofs.lemmas.Slice.Eq.{bytes_eq-Decides}
 use mathlib.Core.Path.{◌∙◌, sym, ap, subst}
 use Rattle.standard_trees.specs.NameLists.{thoroughly_implied}
-use Rattle.standard_trees.specs.TreeStore.{EndOf, Html, NodeAttr, contents_in, put_at}
-use Rattle.standard_trees.specs.GrowingTree.{GrowingTree, beyond, created_element, current, fresh, implied_of, inserted, is_among, is_one, key, kind_of, past, place, popped_until}
-use Rattle.standard_trees.specs.GrowingTree.{pushed, put, with_stack}
-use Rattle.standard_order.proofs.StandingStacks.{both, never, same_number}
-use Rattle.standard_order.proofs.GoodEnds.{same_again}
-use Rattle.standard_order.proofs.NodeTags.{BodyC, Cls, HeadC, HtmlC, TemplateC, class_at, is_element, name_class, tags}
-use Rattle.standard_order.proofs.NodeKids.{target}
-use Rattle.standard_order.proofs.NodeTops.{Rooted, is_root}
-use Rattle.standard_order.proofs.TreeTops.{Elements, Filled, created_only, elements_past, name_element, place_off}
+use Rattle.standard_trees.specs.GrowingTree.{GrowingTree, beyond, implied_of, is_among, is_one, key, past, popped_until}
+use Rattle.standard_trees.specs.GrowingTree.{with_stack}
+use Rattle.standard_order.proofs.StandingStacks.{both, never}
+use Rattle.standard_order.proofs.NodeTags.{BodyC, Cls, HeadC, HtmlC, TemplateC, class_at, tags}
+use Rattle.standard_order.proofs.NodeTops.{is_root}
+use Rattle.standard_order.proofs.TreeTops.{Elements, elements_past}
 use Rattle.standard_order.proofs.PartKids.{Framed, Headed, is_body, is_head}
-use Rattle.standard_order.proofs.Chains.{chain, context, first, has_body, is_deep, is_tabled, is_template, of, on}
-use Rattle.standard_order.proofs.PartTrees.{In, Nodes, cls, step_element}
+use Rattle.standard_order.proofs.Chains.{Site, at_most, chain, first, has_body, is_deep, is_template, of, on, site_of, templates_in}
+use Rattle.standard_order.proofs.PartTrees.{In, Nodes, cls}
 use Rattle.standard_order.proofs.PartPops.{one_any}
+use Rattle.standard_order.proofs.PartScopes.{most_on, most_self}
 use Rattle.standard_order.proofs.PartTables.{deep_inner, in_turned}
-use Rattle.standard_order.proofs.PartBegun.{Open, adds_any, nodes_end, place_at}
+use Rattle.standard_order.proofs.PartBegun.{Open}
 
 -- ---- what a template stands on
 
@@ -30,6 +28,7 @@ pub record Left (f : ℕ → Cls) (s q : List ℕ) : Type 0 where
   pub chained : chain (of f q) ≡ true
   pub stood : bears_template (first (of f q)) ≡ true
   pub body : has_body (of f q) ≡ has_body (of f s)
+  pub fewer : at_most (suc (templates_in (of f q))) (templates_in (of f s)) ≡ true
 
 template_on : (c d : Cls) → is_template c ≡ true → on c d ≡ true → bears_template d ≡ true
 template_on TemplateC d h o = o
@@ -79,10 +78,19 @@ template_past f test only (n ∷ m ∷ ms) h any = by (test n) refl any (λ k. t
       chained = links.1;
       stood = template_on (f n) (f m) (only n e) links.0;
       body = sym (ap (λ x. x || has_body (of f (m ∷ ms))) (template_body (f n) (only n e)));
+      fewer = ap (λ x. at_most (suc (templates_in (of f (m ∷ ms)))) (elim x as (λ _. ℕ) [
+        | true ↦ suc (templates_in (of f (m ∷ ms)))
+        | false ↦ templates_in (of f (m ∷ ms))
+      ])) (only n e) ∙ most_self (templates_in (of f (m ∷ ms)));
     }
     by false e k go =
         let rest : Left f (m ∷ ms) (past test (m ∷ ms)) = go k in
-        record { chained = rest.chained; stood = rest.stood; body = rest.body ∙ sym (ap (λ x. x || has_body (of f (m ∷ ms))) (body_off k)) }
+        record {
+          chained = rest.chained;
+          stood = rest.stood;
+          body = rest.body ∙ sym (ap (λ x. x || has_body (of f (m ∷ ms))) (body_off k));
+          fewer = most_on (f n) (suc (templates_in (of f (past test (m ∷ ms))))) (templates_in (of f (m ∷ ms))) rest.fewer;
+        }
 
 -- elements that are popped before it are popped with it, too
 pub past_implied : (test other : ℕ → Bool) → ((n : ℕ) → other n ≡ true → test n ≡ false) → (s : List ℕ) → past test (beyond other s) ≡ past test s
@@ -97,13 +105,13 @@ past_implied test other apart (n ∷ ns) = by (other n) refl (past_implied test 
 -- ---- a template that is closed
 
 -- another mode of the body is told; or the head is open; or `html` alone is
-abbrev pub Closing : ℕ → GrowingTree → Type 0
-Closing r t =
-    ((c : Cls) × In r c t)
+abbrev pub Closing : ℕ → ℕ → GrowingTree → Type 0
+Closing r open_ t =
+    ((c : Site) × In r c t × (at_most (suc c.templates) open_ ≡ true))
     ⊎ (((h : ℕ) × Open r Headed (h ∷ r ∷ []) t × (is_head (class_at (tags t.nodes) h) ≡ true)) ⊎ Open r Headed (r ∷ []) t)
 
-pub template_closed : (r : ℕ) (c : Cls) (t : GrowingTree) → list_any (is_one t (codes "template" ∷ [])) t.stack ≡ true → In r c t →
-    Closing r (popped_until (codes "template" ∷ []) t)
+pub template_closed : (r : ℕ) (c : Site) (t : GrowingTree) → list_any (is_one t (codes "template" ∷ [])) t.stack ≡ true → In r c t →
+    Closing r c.templates (popped_until (codes "template" ∷ []) t)
 template_closed r c t any i = by (past test t.stack) left (elements_past (tags t.nodes) test t.stack i.open_)
   where
     test : ℕ → Bool
@@ -123,7 +131,7 @@ template_closed r c t any i = by (past test t.stack) left (elements_past (tags t
         | false ↦ Headed
       ]) t.nodes) (sym same ∙ none) i.nodes;
       stack_is = e;
-      plainly = record { listed = i.listed; form = i.form; found = i.found };
+      plainly = record { listed = i.listed; form = i.form; page = i.page; found = i.found };
     }
 
     head_body : (c : Cls) → is_head c ≡ true → is_body c ≡ false
@@ -146,12 +154,12 @@ template_closed r c t any i = by (past test t.stack) left (elements_past (tags t
     alone x [] k h = ap (λ m. m ∷ []) (i.nodes.unique x k)
     alone x (y ∷ ys) k h = absurd (root_last (f x) (f y) k (both (on (f x) (f y)) (chain (of f (y ∷ ys))) h).0)
 
-    by : (q : List ℕ) → Left f t.stack q → Elements (tags t.nodes) q → Closing r (with_stack t q)
+    by : (q : List ℕ) → Left f t.stack q → Elements (tags t.nodes) q → Closing r c.templates (with_stack t q)
     by [] l e = never l.chained
     by (n ∷ ns) l e = cut (is_deep (f n)) (is_head (f n)) (is_root (f n)) refl refl refl l.stood
       where
         in_head : (ms : List ℕ) → is_head (f n) ≡ true → chain (of f (n ∷ ms)) ≡ true → has_body (of f (n ∷ ms)) ≡ has_body (cls t) →
-            Closing r (with_stack t (n ∷ ms))
+            Closing r c.templates (with_stack t (n ∷ ms))
         in_head [] h k same = absurd (head_root (f n) h k)
         in_head (m ∷ ms) h k same =
             let links : (on (f n) (f m) ≡ true) × (chain (of f (m ∷ ms)) ≡ true) = both (on (f n) (f m)) (chain (of f (m ∷ ms))) k in
@@ -164,11 +172,11 @@ template_closed r c t any i = by (past test t.stack) left (elements_past (tags t
               h,
             ))
 
-        cut : (x y z : Bool) → is_deep (f n) ≡ x → is_head (f n) ≡ y → is_root (f n) ≡ z → x || (y || z) ≡ true → Closing r (with_stack t (n ∷ ns))
+        cut : (x y z : Bool) → is_deep (f n) ≡ x → is_head (f n) ≡ y → is_root (f n) ≡ z → x || (y || z) ≡ true → Closing r c.templates (with_stack t (n ∷ ns))
         cut true y z d h k s = inl (
-          context (of f (n ∷ ns)),
-          in_turned r c (context (of f (n ∷ ns))) t (n ∷ ns) l.chained refl
-              (deep_inner (of f (n ∷ ns)) l.chained d) l.body e i,
+          site_of (of f (n ∷ ns)),
+          in_turned r c (site_of (of f (n ∷ ns))) t (n ∷ ns) l.chained refl (deep_inner (of f (n ∷ ns)) l.chained d) l.body refl e i,
+          subst (λ k. at_most (suc (templates_in (of f (n ∷ ns)))) k ≡ true) i.few l.fewer,
         )
         cut false true z d h k s = in_head ns h l.chained l.body
         cut false false true d h k s = inr (inr (open_html (n ∷ ns) (r ∷ []) (alone n ns k l.chained)
@@ -184,35 +192,9 @@ implied_apart t n h = by (bytes_eq (key t n) (codes "template")) refl
     by false e = refl
 
 -- behind the end tags that are implied thoroughly
-pub template_ended : (r : ℕ) (c : Cls) (t : GrowingTree) → list_any (is_one t (codes "template" ∷ [])) t.stack ≡ true → In r c t →
-    Closing r (popped_until (codes "template" ∷ []) (implied_of thoroughly_implied [] t))
+pub template_ended : (r : ℕ) (c : Site) (t : GrowingTree) → list_any (is_one t (codes "template" ∷ [])) t.stack ≡ true → In r c t →
+    Closing r c.templates (popped_until (codes "template" ∷ []) (implied_of thoroughly_implied [] t))
 template_ended r c t any i =
-    subst (λ q. Closing r (with_stack t q))
+    subst (λ q. Closing r c.templates (with_stack t q))
     (sym (past_implied (is_one t (codes "template" ∷ [])) (λ n. is_one t thoroughly_implied n && not (is_one t [] n)) (implied_apart t) t.stack))
     (template_closed r c t any i)
-
--- ---- framesets
-
--- an element behind the children of any element
-pub nodes_framed : (r q : ℕ) (name : List ℕ) (attrs : List NodeAttr) (t : GrowingTree) → (q ≡ 0 → ⊥) → is_root (name_class name) ≡ false → Nodes r Framed t.nodes →
-    Nodes r Framed (put_at (fresh t) (EndOf q) (created_element Html name attrs t).nodes)
-nodes_framed r q name attrs t off odd h = by (nat_eq q r) refl
-  where
-    away : nat_eq q r ≡ false → q ≡ r → ⊥
-    away e same = never (sym (subst (λ i. nat_eq q i ≡ false) (sym same) e) ∙ same_again q)
-
-    by : (x : Bool) → nat_eq q r ≡ x → Nodes r Framed (put_at (fresh t) (EndOf q) (created_element Html name attrs t).nodes)
-    by true e = subst (λ i. Nodes r Framed (put_at (fresh t) (EndOf i) (created_element Html name attrs t).nodes)) (sym (same_number q r e))
-        (nodes_end r Framed Framed is_element name attrs t refl (name_element name) odd (adds_any is_element) h)
-    by false e = (step_element r Framed (EndOf q) Html name attrs t (off, away e) (λ contents. odd)).nodes h
-
--- an element in the current node
-pub framed_inserted : (r : ℕ) (name : List ℕ) (attrs : List NodeAttr) (t : GrowingTree) → is_tabled (class_at (tags t.nodes) (current t)) ≡ false →
-    is_element (class_at (tags t.nodes) (current t)) ≡ true → Elements (tags t.nodes) t.stack → Filled t.stack → is_root (name_class name) ≡ false →
-    Nodes r Framed t.nodes → Nodes r Framed (inserted Html name attrs t).nodes
-framed_inserted r name attrs t flat element open_ filled odd h =
-    subst (λ (made : GrowingTree). Nodes r Framed (pushed (fresh t) (put (fresh t) (place t) made)).nodes) (sym (created_only Html name attrs t))
-    (subst (λ spot. Nodes r Framed (put_at (fresh t) spot (created_element Html name attrs t).nodes)) (sym (place_at t (current t) flat))
-    (nodes_framed r (unwrap_or (contents_in (kind_of t (current t))) (current t)) name attrs t
-    (subst (λ spot. target spot ≡ 0 → ⊥) (place_at t (current t) flat)
-    (place_off Rooted t (current t) (record { top = h.top; open_ = open_ }) filled element)) odd h))

@@ -12,9 +12,10 @@ use Rattle.standard_trees.specs.RuleWords.{Dispatcher, Initial, BeforeHtml, Befo
 use Rattle.standard_trees.specs.RuleWords.{InTable, InTableText, InCaption, InColumnGroup, InTableBody, InRow, InCell, InTemplate}
 use Rattle.standard_trees.specs.RuleWords.{AfterBody, InFrameset, AfterFrameset, AfterAfterBody, AfterAfterFrameset, ForeignContent}
 use Rattle.standard_trees.specs.TreeRules.{rules}
-use Rattle.standard_trees.specs.Building.{Building, char_of, each_char, fits, gone, is_line_feed, is_met, is_space, perform, performed, start}
+use Rattle.standard_trees.specs.Building.{Building, char_of, each_char, fits, gone, is_line_feed, is_met, is_space, perform, performed}
 use Rattle.standard_trees.specs.Building.{taken, with_next, with_token}
 use Rattle.standard_order.specs.Pending.{NoNullIsPending, without_nulls, without_nulls_too}
+use Rattle.standard_order.specs.Beginnings.{Beginning, OfFragment, OfPage, first_building}
 use Rattle.standard_order.specs.Turns.{is_barred, run_while, tree_step_while, tree_steps_while}
 use Rattle.standard_order.proofs.StandingStacks.{both}
 use Rattle.standard_order.proofs.LevelNext.{after}
@@ -205,4 +206,9 @@ steps_clean test d (token ∷ more) b clean =
     (step_clean test d b token clean)
 
 pub no_null_is_pending : NoNullIsPending
-no_null_is_pending test depth scripting tokens end h = (steps_clean test depth tokens (start scripting) refl end h).0
+no_null_is_pending test depth beginning tokens end h =
+    (steps_clean test depth tokens (first_building beginning) (begins beginning) end h).0
+  where
+    begins : (beginning : Beginning) → Clean (first_building beginning)
+    begins (OfPage scripting) = refl
+    begins (OfFragment scripting around) = refl

@@ -1,23 +1,23 @@
 -- The pending characters of a table: where they become pending, and where each is processed using the rules for "in body".
-use Rattle.std.specs.Prelude.{◌≡◌, ◌||◌, refl, ℕ, Bool, true, false, ◌==◌, List, [], ◌∷◌, Option, reverse}
+use Rattle.std.specs.Prelude.{◌≡◌, ◌||◌, ◌&&◌, refl, ℕ, Bool, true, false, not, ◌==◌, List, [], ◌∷◌, Option, codes, reverse}
 use Rattle.std.proofs.Common.{inl}
 use Rattle.std.specs.List.{list_all}
 use Rattle.std.proofs.lemmas.Option.{same_Some}
-use mathlib.Core.Path.{subst}
+use mathlib.Core.Path.{◌∙◌, ap, subst}
 use Rattle.standard_tokens.specs.Tokens.{AChar}
 use Rattle.standard_trees.specs.RuleWords.{Act, CurrentNode, FramesetNotOk, InBody, InTableText, InsertCharacter, Mode}
 use Rattle.standard_trees.specs.RuleWords.{ReconstructFormatting, Test, These, UseForEachPending, does, is}
 use Rattle.standard_trees.specs.TreeRules.{rules}
 use Rattle.standard_trees.specs.TreeStore.{key_in}
-use Rattle.standard_trees.specs.GrowingTree.{GrowingTree, current, is_one, kind_of, top, with_chars}
+use Rattle.standard_trees.specs.GrowingTree.{GrowingTree, current, is_among, is_one, key, kind_of, top, with_chars}
 use Rattle.standard_trees.specs.Formatting.{reconstructed}
 use Rattle.standard_trees.specs.Building.{Building, char_of, each_char, gone, is_met, is_space, perform, performed, taken, with_token}
 use Rattle.standard_trees.specs.Building.{with_tree}
-use Rattle.standard_order.proofs.Labels.{Is as IsAt, at_kind, labels, only_chars}
-use Rattle.standard_order.proofs.StandingStacks.{Inside, Stands, both, never, valid}
+use Rattle.standard_order.proofs.Labels.{Is as IsAt, at_kind, label_of, labels, only_chars}
+use Rattle.standard_order.proofs.StandingStacks.{Inside, Stands, both, named_apart, never, valid}
 use Rattle.standard_order.proofs.GoodTrees.{Good, among_more, good_reconstructed}
 use Rattle.standard_order.proofs.Levels.{In, Late, Level, Of, is_cell, is_inside, is_inside_level, is_tabled, own, tabled_names}
-use Rattle.standard_order.proofs.LevelFacts.{At, Content, TreeIs, Turn, in_html, tree_nodes}
+use Rattle.standard_order.proofs.LevelFacts.{At, Content, TreeIs, Turn, inner, tree_nodes}
 use Rattle.standard_order.proofs.LevelTrees.{good_of, inside_own, of_good}
 use Rattle.standard_order.proofs.Follows.{Follows, mapped, then_follows}
 use Rattle.standard_order.proofs.RulesUsed.{tabled_in_html}
@@ -36,9 +36,12 @@ tabled_now (is (CurrentNode (These names)) ∷ []) b h met = among_more (key_in 
 tabled_now _ b h met = never h
 
 html_top : (t : GrowingTree) (c : Bool) (s : List ℕ) → Stands Inside (labels t.nodes) s → is_one t tabled_names (top s) ≡ true →
-    IsAt in_html (labels t.nodes) (top s)
+    IsAt inner (labels t.nodes) (top s)
 html_top t c [] st h = absurd st
-html_top t c (n ∷ ns) st h = at_kind (λ l. true) in_html t.nodes n (valid Inside (labels t.nodes) n ns st) (tabled_in_html (kind_of t n) h)
+html_top t c (n ∷ ns) st h =
+    at_kind (λ l. true) inner t.nodes n (valid Inside (labels t.nodes) n ns st)
+    (ap (λ x. x && not (is_among (key t n) (codes "html" ∷ []))) (tabled_in_html (kind_of t n) h)
+    ∙ named_apart tabled_names (codes "html" ∷ []) refl (label_of (kind_of t n)) h)
 
 pub turn_pending : (level : Level) (tests : List Test) (b : Building) → is_inside_level level ≡ true → is_tabled tests ≡ true →
     list_all (is_met b) tests ≡ true → At level b →

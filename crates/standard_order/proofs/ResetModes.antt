@@ -8,7 +8,7 @@ use Rattle.std.proofs.lemmas.Slice.Eq.{bytes_eq-Decides}
 use mathlib.Core.Path.{◌∙◌, sym, ap, subst}
 use Rattle.standard_trees.specs.RuleWords.{AfterAfterBody, AfterAfterFrameset, AfterBody, AfterFrameset, AfterHead, BeforeHead, BeforeHtml}
 use Rattle.standard_trees.specs.RuleWords.{Dispatcher, ForeignContent, InBody, InCaption, InCell, InColumnGroup, InFrameset, InHead}
-use Rattle.standard_trees.specs.RuleWords.{InHeadNoscript}
+use Rattle.standard_trees.specs.RuleWords.{Always, HeadPointerIsSet, InHeadNoscript, NodeTest, NotTopmost}
 use Rattle.standard_trees.specs.RuleWords.{InRow, InTable, InTableBody, InTableText, InTemplate, Initial, Mode, Reset, Text, reset_to}
 use Rattle.standard_trees.specs.RuleWords.{reset_to_template_mode}
 use Rattle.standard_trees.specs.TreeRules.{resets}
@@ -20,11 +20,11 @@ use Rattle.standard_order.proofs.StandingStacks.{Closed, Has, Inside, IsHead, St
 use Rattle.standard_order.proofs.StandingStacks.{opposite, plain, template, pushed_on}
 use Rattle.standard_order.proofs.Levels.{has_all, is_cell, is_content, is_inside}
 use Rattle.standard_order.proofs.LevelFacts.{Content}
-use Rattle.standard_order.proofs.GoodTrees.{among_more}
+use Rattle.standard_order.proofs.GoodTrees.{IsHeadPointer, among_more, is_whole}
 use Rattle.standard_order.proofs.Labels.{at_both}
 use Rattle.standard_order.proofs.LevelTrees.{plain_from}
 
-key_is : (one name : List ℕ) → is_among name (one ∷ []) ≡ true → name ≡ one
+pub key_is : (one name : List ℕ) → is_among name (one ∷ []) ≡ true → name ≡ one
 key_is one name h = by (bytes_eq name one) refl h
   where
     by : (x : Bool) → bytes_eq name one ≡ x → x || false ≡ true → name ≡ one
@@ -119,29 +119,109 @@ template_decides name is modes h above e = clash (sym (ap (λ n. reset_by resets
     clash : Some (top_mode modes) ≡ None → ⊥
     clash f = cc
 
+-- ---- at the outermost element
+
+-- the modes for `html`, and for a context element of that name
+abbrev pub is_last : Mode → Bool
+is_last AfterHead = true
+is_last InFrameset = true
+is_last _ = false
+
+-- a mode inside in which no cell is claimed, or one of those
+abbrev pub is_outer : Mode → Bool
+is_outer mode = (is_inside mode && not (is_cell mode)) || is_last mode
+
+abbrev pub needs_more : NodeTest → Bool
+needs_more NotTopmost = true
+needs_more Always = false
+needs_more HeadPointerIsSet = false
+
+abbrev pub outer_all : Reset → Bool
+outer_all (reset_to names test mode) = has_all names (codes "html" ∷ []) || (needs_more test || is_outer mode)
+outer_all (reset_to_template_mode names) = true
+
+top_outer : (modes : List Mode) → Content modes → is_outer (top_mode modes) ≡ true
+top_outer modes content =
+    ap (λ x. (x && not (is_cell (top_mode modes))) || is_last (top_mode modes)) (top_inside modes content).0
+    ∙ ap (λ x. not x || is_last (top_mode modes)) (top_inside modes content).1
+
+reset_outer : (rs : List Reset) → list_all outer_all rs ≡ true → (name : List ℕ) → is_among name (codes "html" ∷ []) ≡ false →
+    (modes : List Mode) → Content modes → (h : Option ℕ) → is_outer (unwrap_or (reset_by rs name modes h []) InBody) ≡ true
+reset_outer [] all name other modes content h = refl
+reset_outer (reset_to_template_mode names ∷ more) all name other modes content h =
+    by (is_among name names) (reset_outer more all name other modes content h)
+  where
+    by : (x : Bool) → is_outer (unwrap_or (reset_by more name modes h []) InBody) ≡ true →
+        is_outer (unwrap_or (elim x as (λ _. Option Mode) [ true ↦ Some (top_mode modes) | false ↦ reset_by more name modes h [] ]) InBody) ≡ true
+    by true go = top_outer modes content
+    by false go = go
+reset_outer (reset_to names test one ∷ more) all name other modes content h =
+    by (is_among name names) (node_test test h []) refl refl (reset_outer more parts.1 name other modes content h)
+  where
+    parts : (outer_all (reset_to names test one) ≡ true) × (list_all outer_all more ≡ true)
+    parts = both (outer_all (reset_to names test one)) (list_all outer_all more) all
+
+    outer : is_among name names ≡ true → (x : Bool) → has_all names (codes "html" ∷ []) ≡ x → x || is_outer one ≡ true → is_outer one ≡ true
+    outer f true a k = never (sym other ∙ among_more name names (codes "html" ∷ []) a f)
+    outer f false a k = k
+
+    at_node : (when : NodeTest) → test ≡ when → is_among name names ≡ true → node_test when h [] ≡ true → is_outer one ≡ true
+    at_node NotTopmost e f k = never k
+    at_node Always e f k = outer f (has_all names (codes "html" ∷ [])) refl
+        (ap (λ w. has_all names (codes "html" ∷ []) || (needs_more w || is_outer one)) (sym e) ∙ parts.0)
+    at_node HeadPointerIsSet e f k = outer f (has_all names (codes "html" ∷ [])) refl
+        (ap (λ w. has_all names (codes "html" ∷ []) || (needs_more w || is_outer one)) (sym e) ∙ parts.0)
+
+    by : (x y : Bool) → is_among name names ≡ x → node_test test h [] ≡ y → is_outer (unwrap_or (reset_by more name modes h []) InBody) ≡ true →
+        is_outer (unwrap_or (elim (x && y) as (λ _. Option Mode) [ true ↦ Some one | false ↦ reset_by more name modes h [] ]) InBody) ≡ true
+    by true true f k go = at_node test refl f k
+    by true false f k go = go
+    by false y f k go = go
+
 -- the mode for a stack
 abbrev pub Fits : GrowingTree → List ℕ → Mode → Type 0
-Fits t s mode = ((is_inside mode ≡ true) × (is_cell mode ≡ true → Has cell (labels t.nodes) s)) ⊎ ((mode ≡ AfterHead) × Stands Closed
+Fits t s mode = ((is_inside mode ≡ true) × (is_cell mode ≡ true → Has cell (labels t.nodes) s)) ⊎ ((is_last mode ≡ true) × Stands Closed
     (labels t.nodes) s)
 
-at_last : (t : GrowingTree) (modes : List Mode) (n h : ℕ) → t.context ≡ None → t.head ≡ Some h → IsAt html (labels t.nodes) n →
-    reset_from t modes (n ∷ []) ≡ AfterHead
-at_last t modes n h page set at =
-    ap (λ o. unwrap_or (reset_by resets (key_in (unwrap_or t.context (kind_of t n))) modes o []) InBody) set
-    ∙ ap (λ (c : Option Kind). unwrap_or (reset_by resets (key_in (unwrap_or c (kind_of t n))) modes (Some h) []) InBody) page
-    ∙ ap (λ name. unwrap_or (reset_by resets name modes (Some h) []) InBody) (key_is (codes "html") (key t n) (kind_at html t.nodes n at))
+outer_fits : (t : GrowingTree) (n : ℕ) (mode : Mode) → Stands Closed (labels t.nodes) (n ∷ []) → is_outer mode ≡ true → Fits t (n ∷ []) mode
+outer_fits t n mode st h = by (is_inside mode) (is_cell mode) refl refl h
+  where
+    by : (x y : Bool) → is_inside mode ≡ x → is_cell mode ≡ y → (x && not y) || is_last mode ≡ true → Fits t (n ∷ []) mode
+    by true false e f k = inl (e, λ c. never (sym f ∙ c))
+    by true true e f k = inr (k, st)
+    by false y e f k = inr (k, st)
 
-pub reset_fits : (t : GrowingTree) (modes : List Mode) (h : ℕ) → t.context ≡ None → t.head ≡ Some h → Content modes → (s : List ℕ) →
+at_last : (t : GrowingTree) (modes : List Mode) (n : ℕ) → IsHeadPointer (labels t.nodes) t.context t.head → Content modes →
+    IsAt html (labels t.nodes) n → is_outer (reset_from t modes (n ∷ [])) ≡ true
+at_last t modes n pointer content at = by t.context t.head pointer
+  where
+    named : (name : List ℕ) (h : ℕ) → is_among name (codes "html" ∷ []) ≡ true →
+        is_outer (unwrap_or (reset_by resets name modes (Some h) []) InBody) ≡ true
+    named name h e = ap (λ x. is_outer (unwrap_or (reset_by resets x modes (Some h) []) InBody)) (key_is (codes "html") name e)
+
+    by : (o : Option Kind) (h : Option ℕ) → IsHeadPointer (labels t.nodes) o h →
+        is_outer (unwrap_or (reset_by resets (key_in (unwrap_or o (kind_of t n))) modes h []) InBody) ≡ true
+    by None (Some h) p = named (key t n) h (kind_at html t.nodes n at)
+    by None None p = never (sym p)
+    by (Some kind) h p = other (is_whole (Some kind)) refl h p
+      where
+        other : (x : Bool) → is_whole (Some kind) ≡ x → (h : Option ℕ) → IsHeadPointer (labels t.nodes) (Some kind) h →
+            is_outer (unwrap_or (reset_by resets (key_in kind) modes h []) InBody) ≡ true
+        other false e h p = reset_outer resets refl (key_in kind) e modes content h
+        other true e (Some h) p = named (key_in kind) h e
+        other true e None p = never (sym p ∙ e)
+
+pub reset_fits : (t : GrowingTree) (modes : List Mode) → IsHeadPointer (labels t.nodes) t.context t.head → Content modes → (s : List ℕ) →
     Stands Inside (labels t.nodes) s → Fits t s (reset_from t modes s)
-reset_fits t modes h page set content [] st = absurd st
-reset_fits t modes h page set content (n ∷ []) (inl at_html) = inr (at_last t modes n h page set at_html.0, inl at_html)
-reset_fits t modes h page set content (n ∷ []) (inr (inl at_head)) = absurd at_head.2
-reset_fits t modes h page set content (n ∷ []) (inr (inr above)) = absurd above.1
-reset_fits t modes h page set content (n ∷ m ∷ ns) (inl at_html) = absurd (no_more at_html.1)
+reset_fits t modes pointer content [] st = absurd st
+reset_fits t modes pointer content (n ∷ []) (inl at_html) = outer_fits t n (reset_from t modes (n ∷ [])) (inl at_html) (at_last t modes n pointer content at_html.0)
+reset_fits t modes pointer content (n ∷ []) (inr (inl at_head)) = absurd at_head.2
+reset_fits t modes pointer content (n ∷ []) (inr (inr above)) = absurd above.1
+reset_fits t modes pointer content (n ∷ m ∷ ns) (inl at_html) = absurd (no_more at_html.1)
   where
     no_more : m ∷ ns ≡ [] → ⊥
     no_more e = cc
-reset_fits t modes h page set content (n ∷ m ∷ ns) (inr (inl at_head)) =
+reset_fits t modes pointer content (n ∷ m ∷ ns) (inr (inl at_head)) =
     inl (subst (λ mode. (is_inside mode ≡ true) × (is_cell mode ≡ true → Has cell (labels t.nodes) (n ∷ m ∷ ns))) (sym is) (
       two.0,
       λ c. never (sym two.1 ∙ c),
@@ -156,8 +236,8 @@ reset_fits t modes h page set content (n ∷ m ∷ ns) (inr (inl at_head)) =
       | None ↦ reset_from t modes
           (m ∷ ns)
     ]) (key_is (codes "template") (key t n) (kind_at template t.nodes n at_head.1))
-reset_fits t modes h page set content (n ∷ m ∷ ns) (inr (inr above)) = by (reset_by resets (key t n) modes t.head (m ∷ ns)) refl
-    (reset_fits t modes h page set content (m ∷ ns) above.1)
+reset_fits t modes pointer content (n ∷ m ∷ ns) (inr (inr above)) = by (reset_by resets (key t n) modes t.head (m ∷ ns)) refl
+    (reset_fits t modes pointer content (m ∷ ns) above.1)
   where
     ls : List Label
     ls = labels t.nodes

@@ -231,7 +231,7 @@ not_in : (x : Bool) → x ≡ false → not x ≡ true
 not_in true h = cc
 not_in false h = refl
 
-info_holds : (starts ends_ : List (List ℕ)) (pattern : Pattern) (t : Token) → rules_out starts ends_ t → fits pattern t ≡ true →
+pub info_holds : (starts ends_ : List (List ℕ)) (pattern : Pattern) (t : Token) → rules_out starts ends_ t → fits pattern t ≡ true →
     holds_of (info_of starts ends_ pattern) t ≡ true
 info_holds starts ends_ WhiteSpace (AChar c) out f = f
 info_holds starts ends_ Null (AChar c) out f = refl
@@ -265,7 +265,7 @@ negated_met b (isnt c) h = back (holds c b) h
     back true k = refl
     back false k = cc
 
-prior_met : (prior : Prior) (pattern : Pattern) (b : Building) → PriorSo prior b → fits pattern b.token ≡ true →
+pub prior_met : (prior : Prior) (pattern : Pattern) (b : Building) → PriorSo prior b → fits pattern b.token ≡ true →
     list_all (is_met b) (prior_facts prior pattern) ≡ true
 prior_met NoPrior pattern b so f = refl
 prior_met (PriorTo patterns test) pattern b so f = by (list_any (same_pattern pattern) patterns) refl
@@ -300,15 +300,15 @@ any_holds (ADoctype d) = refl
 any_holds AnEof = refl
 
 -- a pattern that is skipped doesn't fit
-within_not : (name : List ℕ) (some starts : List (List ℕ)) → has_all some starts ≡ true → is_among name some ≡ true →
+pub within_not : (name : List ℕ) (some starts : List (List ℕ)) → has_all some starts ≡ true → is_among name some ≡ true →
     is_among name starts ≡ false → ⊥
 within_not name some starts all h out = never (sym out ∙ among_more name some starts all h)
 
-apart_not : (name : List ℕ) (some others : List (List ℕ)) → apart some others ≡ true → is_among name some ≡ true →
+pub apart_not : (name : List ℕ) (some others : List (List ℕ)) → apart some others ≡ true → is_among name some ≡ true →
     is_among name others ≡ true → ⊥
 apart_not name some others off h k = opposite (is_among name others) (named_apart some others off (record { name = name; html = true }) h) k
 
-skipped : (asked : Info) (starts ends_ : List (List ℕ)) (pattern : Pattern) (t : Token) → rules_out starts ends_ t →
+pub skipped : (asked : Info) (starts ends_ : List (List ℕ)) (pattern : Pattern) (t : Token) → rules_out starts ends_ t →
     holds_of asked t ≡ true → fits pattern t ≡ true → skips asked starts ends_ pattern ≡ true → ⊥
 skipped (Start some) starts ends_ (StartTagOf names) (AStart name attrs closing) out h f s = apart_not name some names s h f
 skipped (Start some) starts ends_ AnyStartTag (AStart name attrs closing) out h f s = within_not name some starts s h out
@@ -331,7 +331,7 @@ skipped (End some) starts ends_ pattern AnEof out h f s = cc
 skipped asked starts ends_ pattern t out h f s = cc
 
 -- one of the patterns fits
-fitting : (f g : Pattern → Bool) (ps : List Pattern) → list_all f ps ≡ true → list_any g ps ≡ true → (p : Pattern) × (f p ≡ true) ×
+pub fitting : (f g : Pattern → Bool) (ps : List Pattern) → list_all f ps ≡ true → list_any g ps ≡ true → (p : Pattern) × (f p ≡ true) ×
     (g p ≡ true)
 fitting f g [] all any = cc
 fitting f g (p ∷ ps) all any = by (g p) refl any (λ k. fitting f g ps (both (f p) (list_all f ps) all).1 k)
@@ -341,7 +341,7 @@ fitting f g (p ∷ ps) all any = by (g p) refl any (λ k. fitting f g ps (both (
     by true e k go = (p, (both (f p) (list_all f ps) all).0, e)
     by false e k go = go k
 
-second : (x y : Bool) → (x ≡ true → ⊥) → x || y ≡ true → y ≡ true
+pub second : (x y : Bool) → (x ≡ true → ⊥) → x || y ≡ true → y ≡ true
 second true y none h = absurd (none refl)
 second false y none h = h
 
@@ -376,7 +376,7 @@ ends_out name (EndTagOf names ∷ ps) h =
     more_names name names (end_names ps) two.0 (ends_out name ps two.1)
 ends_out name (p ∷ ps) h = ends_out name ps (either_not (fits p (AnEnd name)) (list_any (λ q. fits q (AnEnd name)) ps) h).1
 
-out_more : (starts ends_ : List (List ℕ)) (ps : List Pattern) (tests : List Test) (t : Token) → rules_out starts ends_ t →
+pub out_more : (starts ends_ : List (List ℕ)) (ps : List Pattern) (tests : List Test) (t : Token) → rules_out starts ends_ t →
     list_any (λ p. fits p t) ps ≡ false →
     rules_out (ruled_out tests (start_names ps) starts) (ruled_out tests (end_names ps) ends_) t
 out_more starts ends_ ps [] (AStart name attrs closing) out h = more_names name (start_names ps) starts (starts_out name attrs closing ps h)
@@ -388,19 +388,19 @@ out_more starts ends_ ps [] (ADoctype d) out h = tt
 out_more starts ends_ ps [] AnEof out h = tt
 out_more starts ends_ ps (test ∷ tests) t out h = out
 
-out_same : (starts ends_ some others : List (List ℕ)) (tests : List Test) (b : Building) → list_all (is_met b) tests ≡ false →
+pub out_same : (starts ends_ some others : List (List ℕ)) (tests : List Test) (b : Building) → list_all (is_met b) tests ≡ false →
     rules_out starts ends_ b.token →
     rules_out (ruled_out tests some starts) (ruled_out tests others ends_) b.token
 out_same starts ends_ some others [] b h out = cc
 out_same starts ends_ some others (test ∷ tests) b h out = out
 
-prior_unfit : (ps : List Pattern) (tests : List Test) (b : Building) → list_any (λ p. fits p b.token) ps ≡ false →
+pub prior_unfit : (ps : List Pattern) (tests : List Test) (b : Building) → list_any (λ p. fits p b.token) ps ≡ false →
     PriorSo (prior_of ps tests) b
 prior_unfit ps [] b h = tt
 prior_unfit ps (test ∷ []) b h = λ k. never (sym h ∙ k)
 prior_unfit ps (test ∷ other ∷ tests) b h = tt
 
-prior_unmet : (ps : List Pattern) (tests : List Test) (b : Building) → list_all (is_met b) tests ≡ false → PriorSo (prior_of ps tests) b
+pub prior_unmet : (ps : List Pattern) (tests : List Test) (b : Building) → list_all (is_met b) tests ≡ false → PriorSo (prior_of ps tests) b
 prior_unmet ps [] b h = tt
 prior_unmet ps (test ∷ []) b h = λ k. first (is_met b test) h
   where

@@ -17,7 +17,7 @@ use Rattle.standard_trees.specs.GrowingTree.{current, is_among, is_single, kind_
 use Rattle.standard_trees.specs.Building.{Building, fits, holds, is_empty, is_met, perform, taken}
 use Rattle.standard_order.proofs.Labels.{kind_at, labels}
 use Rattle.standard_order.proofs.StandingStacks.{Framed, Inside, IsHead, IsRoot, Sort, both, head, html, never}
-use Rattle.standard_order.proofs.GoodTrees.{among_more, held}
+use Rattle.standard_order.proofs.GoodTrees.{Good, among_more, held, is_whole}
 use Rattle.standard_order.proofs.Levels.{Any, Bare, Before, Behind, End, Exact, Fine, Fixed, Foreign, Frames, Head, HeadMade, Held}
 use Rattle.standard_order.proofs.Levels.{In, Info, Late, Level, Never, NoPrior, Nowhere, Of, OfHeld, OfPlain, Opened, OpenedFree}
 use Rattle.standard_order.proofs.Levels.{Rel, Remark, RootMade, Scoped, Shape, Sorted, Space, Start, Std}
@@ -33,7 +33,7 @@ use Rattle.standard_order.proofs.Passes.{passes_AfterHead, passes_InBody, passes
 use Rattle.standard_order.proofs.Passes.{passes_InColumnGroup, passes_InTableBody, passes_InRow, passes_InCell, passes_InTemplate}
 use Rattle.standard_order.proofs.Passes.{passes_AfterBody, passes_InFrameset, passes_AfterFrameset, passes_AfterAfterBody}
 use Rattle.standard_order.proofs.Passes.{passes_AfterAfterFrameset, passes_ForeignContent}
-use Rattle.standard_order.proofs.LevelFacts.{At, Content, Is, LateAt, Stk, TreeIs, Turn, TurnIs, in_html, keeps_cells, mild_kept}
+use Rattle.standard_order.proofs.LevelFacts.{At, Content, Is, LateAt, Stk, TreeIs, Turn, TurnIs, held_more, head_more, inner, inner_more, keeps_cells, mild_kept}
 use Rattle.standard_order.proofs.LevelFacts.{sorted_mode, still_kept, weak_stk}
 use Rattle.standard_order.proofs.LevelTrees.{ends_no_cell_so, good_of, of_good, holds_of, inside_own, place_inside, place_sorted}
 use Rattle.standard_order.proofs.LevelTrees.{sorted_own}
@@ -155,7 +155,7 @@ ends_turn (Foreign place) b h at = in_turn place false b at.1
 
 -- ---- where the rules for a mode are used
 
-none_out : (t : Token) → rules_out [] [] t
+pub none_out : (t : Token) → rules_out [] [] t
 none_out (AStart name attrs closing) = refl
 none_out (AnEnd name) = refl
 none_out (AChar c) = tt
@@ -177,7 +177,7 @@ starts_so names (Start some) (ADoctype d) s h = never h
 starts_so names (Start some) AnEof s h = never h
 starts_so names _ t s h = never s
 
-ends_so : (info : Info) (t : Token) → ends_template info ≡ true → holds_of info t ≡ true → holds_of (End (codes "template" ∷ [])) t ≡ true
+pub ends_so : (info : Info) (t : Token) → ends_template info ≡ true → holds_of info t ≡ true → holds_of (End (codes "template" ∷ [])) t ≡ true
 ends_so (End some) (AnEnd name) s h = among_more name some (codes "template" ∷ []) s h
 ends_so (End some) (AStart name attrs closing) s h = never h
 ends_so (End some) (AChar c) s h = never h
@@ -187,12 +187,12 @@ ends_so (End some) AnEof s h = never h
 ends_so _ t s h = never s
 
 -- a rule without tests that the token fits, and one that it doesn't fit
-taken_first : (b : Building) (ps : List Pattern) (acts : List Act) (more : List Rule) → list_any (λ p. fits p b.token) ps ≡ true →
+pub taken_first : (b : Building) (ps : List Pattern) (acts : List Act) (more : List Rule) → list_any (λ p. fits p b.token) ps ≡ true →
     taken b (rule ps [] acts ∷ more) ≡ acts
 unfolding taken
 taken_first b ps acts more e = ap (λ x. elim x as (λ _. List Act) [ true ↦ acts | false ↦ taken b more ]) e
 
-taken_next : (b : Building) (ps : List Pattern) (tests : List Test) (acts : List Act) (more : List Rule) →
+pub taken_next : (b : Building) (ps : List Pattern) (tests : List Test) (acts : List Act) (more : List Rule) →
     list_any (λ p. fits p b.token) ps ≡ false → taken b (rule ps tests acts ∷ more) ≡ taken b more
 unfolding taken
 taken_next b ps tests acts more e = ap (λ x. elim x as (λ _. List Act) [
@@ -305,11 +305,11 @@ use_plain Typed b i h at = by_token (λ u. holds_of Typed u.token ≡ true → L
     typed_plain b h at
 use_plain _ b i h at = never i
 
-both_cells : (x : Bool) → x ≡ false → x ≡ true → ⊥
+pub both_cells : (x : Bool) → x ≡ false → x ≡ true → ⊥
 both_cells true e f = cc
 both_cells false e f = cc
 
-in_any : (place : Where) (kept : Bool) (info : Info) (b : Building) → is_in place ≡ true → (no_cell place ≡ true) ⊎
+pub in_any : (place : Where) (kept : Bool) (info : Info) (b : Building) → is_in place ≡ true → (no_cell place ≡ true) ⊎
     (ends_no_cell info ≡ true) → holds_of info b.token ≡ true → LateAt place Of kept b → LateAt (In true) Of false b
 in_any place kept info b i one h at = (
   (place_inside place b.mode b.token i at.0, λ k. never (sym k), cells_kept one),
@@ -374,7 +374,7 @@ use_at _ info mode b m h at = never m
 
 -- ---- in the current mode
 
-late : (place : Where) (b : Building) (m : Mode) → b.mode ≡ m → Is place m b.token → Content b.template_modes → TreeIs (own m) b.tree →
+pub late : (place : Where) (b : Building) (m : Mode) → b.mode ≡ m → Is place m b.token → Content b.template_modes → TreeIs (own m) b.tree →
     LateAt place Of false b
 late place b m e here c h = (subst (λ q. Is place q b.token) (sym e) here, c, subst (λ q. TreeIs (own q) b.tree) (sym e) h, no_keep b)
 
@@ -450,16 +450,26 @@ tabled_in_html (ElementNode Svg name attrs contents) h = never h
 tabled_in_html (ElementNode MathMl name attrs contents) h = never h
 tabled_in_html _ h = refl
 
-no_context : (x : Bool) (o : Option Kind) (k : Kind) → o ≡ None → cond x (unwrap_or o k) k ≡ k
-no_context true None k e = refl
-no_context false o k e = refl
-no_context true (Some other) k e = cc
-
--- the current node is in HTML
-current_in_html : (b : Building) → b.tree.context ≡ None → is_html (space_in (kind_of b.tree (current b.tree))) ≡ true →
+-- the current node is in HTML, and more elements are open; or it is `html`, and so is the context element, if there is one
+current_in_html : (b : Building) → is_single b.tree.stack ≡ false → is_html (space_in (kind_of b.tree (current b.tree))) ≡ true →
     holds AdjustedCurrentNodeInHtml b ≡ true
-current_in_html b none h =
-    ap (λ k. is_html (space_in k)) (no_context (is_single b.tree.stack) b.tree.context (kind_of b.tree (current b.tree)) none) ∙ h
+current_in_html b more h =
+    ap (λ x. is_html (space_in (cond x (unwrap_or b.tree.context (kind_of b.tree (current b.tree))) (kind_of b.tree (current b.tree))))) more ∙ h
+
+whole_in_html : (b : Building) → is_whole b.tree.context ≡ true → is_html (space_in (kind_of b.tree (current b.tree))) ≡ true →
+    holds AdjustedCurrentNodeInHtml b ≡ true
+whole_in_html b whole h = by (is_single b.tree.stack) b.tree.context whole
+  where
+    by : (x : Bool) (o : Option Kind) → is_whole o ≡ true →
+        is_html (space_in (cond x (unwrap_or o (kind_of b.tree (current b.tree))) (kind_of b.tree (current b.tree)))) ≡ true
+    by true None w = h
+    by true (Some kind) w = html_in_html kind w
+    by false o w = h
+
+-- no context element is there
+pub page_in_html : (b : Building) → b.tree.context ≡ None → is_html (space_in (kind_of b.tree (current b.tree))) ≡ true →
+    holds AdjustedCurrentNodeInHtml b ≡ true
+page_in_html b none h = whole_in_html b (ap is_whole none) h
 
 root_current : (b : Building) → (s : List ℕ) → IsRoot (labels b.tree.nodes) s → is_html (space_in (kind_of b.tree (top s))) ≡ true
 root_current b [] h = absurd h
@@ -484,25 +494,31 @@ clash true e f = cc
 clash false e f = cc
 
 -- where neither lets the rules for the current mode be used, the mode is one whose stack has such an end
-sorted_turns : (b : Building) → Turn b → holds NoOpenElements b ≡ false → holds AdjustedCurrentNodeInHtml b ≡ false →
+pub sorted_turns : (b : Building) → Turn b → holds NoOpenElements b ≡ false → holds AdjustedCurrentNodeInHtml b ≡ false →
     LateAt Sorted Of false b
 sorted_turns b turn filled foreign = by b.mode refl turn.1
   where
     here : (m : Mode) → b.mode ≡ m → sorted_mode m ≡ true → TreeIs (own m) b.tree → LateAt Sorted Of false b
     here m e s h = late Sorted b m e s turn.0 h
 
-    none : b.tree.context ≡ None → is_html (space_in (kind_of b.tree (current b.tree))) ≡ true → LateAt Sorted Of false b
-    none context h = clash (holds AdjustedCurrentNodeInHtml b) (current_in_html b context h) foreign
+    none : is_single b.tree.stack ≡ false → is_html (space_in (kind_of b.tree (current b.tree))) ≡ true → LateAt Sorted Of false b
+    none more h = clash (holds AdjustedCurrentNodeInHtml b) (current_in_html b more h) foreign
+
+    tabled : is_inside b.original ≡ true → TreeIs (own b.original) b.tree → Good Inside (is_cell b.original) b.tree
+    tabled i h = good_of Inside (is_cell b.original) b.original Of b.tree (inside_own b.original i) (inl refl) h
 
     by : (m : Mode) → b.mode ≡ m → TurnIs m b → LateAt Sorted Of false b
     by Dispatcher e h = absurd h.0
     by Initial e h = absurd (empty_now b.tree.stack h.0 filled)
     by BeforeHtml e h = absurd (empty_now b.tree.stack h.0 filled)
-    by BeforeHead e h = none h.1.3 (root_current b b.tree.stack h.0)
-    by InHead e h = none h.1.page (head_current b b.tree.stack h.0)
-    by InHeadNoscript e h = none h.1.page (held_current Head b b.tree.stack h.0)
-    by Text e h = none h.1.page (held_current (own b.original) b b.tree.stack h.0)
-    by InTableText e h = none h.0.1.page (kind_at in_html b.tree.nodes (top b.tree.stack) h.2)
+    by BeforeHead e h =
+        clash (holds AdjustedCurrentNodeInHtml b) (whole_in_html b h.1.3 (root_current b b.tree.stack h.0)) foreign
+    by InHead e h = none (head_more (labels b.tree.nodes) b.tree.stack h.0) (head_current b b.tree.stack h.0)
+    by InHeadNoscript e h = none (held_more Head (labels b.tree.nodes) b.tree.stack h.0) (held_current Head b b.tree.stack h.0)
+    by Text e h = none (held_more (own b.original) (labels b.tree.nodes) b.tree.stack h.0) (held_current (own b.original) b b.tree.stack h.0)
+    by InTableText e h =
+        none (inner_more Inside (labels b.tree.nodes) b.tree.stack (tabled h.1 h.0).0 h.2)
+        (both (is_html (space_in (kind_of b.tree (current b.tree)))) _ (kind_at inner b.tree.nodes (top b.tree.stack) h.2)).0
     by ForeignContent e h = absurd h.0
     by AfterHead e h = here AfterHead e refl h
     by InBody e h = here InBody e refl h
@@ -523,7 +539,7 @@ abbrev pub EachActs : (List Act → Type 0) → List Rule → Type 0
 EachActs P [] = P []
 EachActs P (rule ps tests acts ∷ more) = P acts × EachActs P more
 
-taken_among : (P : List Act → Type 0) (b : Building) (rs : List Rule) → EachActs P rs → P (taken b rs)
+pub taken_among : (P : List Act → Type 0) (b : Building) (rs : List Rule) → EachActs P rs → P (taken b rs)
 unfolding taken
 taken_among P b [] h = h
 taken_among P b (rule ps tests acts ∷ more) h = by (list_any (λ p. fits p b.token) ps) (list_all (is_met b) tests)
@@ -546,7 +562,7 @@ pub anything_met : (b : Building) (test : Test) (acts : List Act) (more : List R
 unfolding taken
 anything_met b test acts more e = ap (λ x. elim (x && true) as (λ _. List Act) [ true ↦ acts | false ↦ taken b more ]) e
 
-anything_unmet : (b : Building) (test : Test) (acts : List Act) (more : List Rule) → is_met b test ≡ false →
+pub anything_unmet : (b : Building) (test : Test) (acts : List Act) (more : List Rule) → is_met b test ≡ false →
     taken b (rule (Anything ∷ []) (test ∷ []) acts ∷ more) ≡ taken b more
 unfolding taken
 anything_unmet b test acts more e = ap (λ x. elim (x && true) as (λ _. List Act) [ true ↦ acts | false ↦ taken b more ]) e

@@ -18,7 +18,7 @@ use Rattle.standard_trees.specs.Formatting.{reconstructed}
 use Rattle.standard_trees.specs.Building.{Building, char_of, each_char, fits, gone, is_met, is_space, own_name, perform, performed, run, taken, with_head, with_token}
 use Rattle.standard_trees.specs.Building.{with_tree}
 use Rattle.standard_order.proofs.Labels.{Is as IsAt, labels}
-use Rattle.standard_order.proofs.StandingStacks.{both, head, never}
+use Rattle.standard_order.proofs.StandingStacks.{Closed, Stands, both, head, never}
 use Rattle.standard_order.proofs.GoodTrees.{Good}
 use Rattle.standard_order.proofs.Levels.{Any, Behind, Exact, Fine, Info, Late, Level, Of, Start, TableText, acts_pass, heads, info_after, is_after_head, is_carried}
 use Rattle.standard_order.proofs.Levels.{is_cell, is_first, is_inside, is_inside_level, is_pending, is_table_text, is_tabled, may_use, next_of, own, starts_one}
@@ -27,9 +27,9 @@ use Rattle.standard_order.proofs.LevelTrees.{holds_of}
 use Rattle.standard_order.proofs.LevelNext.{after}
 use Rattle.standard_order.proofs.RulesPassed.{Ready, any_holds}
 use Rattle.standard_order.proofs.RulesUsed.{Uses, ends_turn, holds_after, next_of_at, ready, starts_so, use_at, uses_current}
-use Rattle.standard_order.proofs.Carried.{Carries, HeadActs, head_acts}
+use Rattle.standard_order.proofs.Carried.{Carries, HeadActs, IsHeadIn, head_acts}
 use Rattle.standard_order.proofs.PendingRun.{PendingAt, body_acts, body_taken, turn_pending, with_char}
-use Rattle.standard_order.proofs.TurnsRun.{after_head_is, all_in_order, carried_acts, carried_holds, carried_is, pending_acts, pending_is, table_text_is}
+use Rattle.standard_order.proofs.TurnsRun.{after_head_is, all_in_order, carried_acts, carried_holds, carried_is, head_in, pending_acts, pending_is, table_text_is}
 use Rattle.standard_order.proofs.NodeTags.{class_at, is_element, kind_class, tags}
 use Rattle.standard_order.proofs.NodeTops.{Rooted}
 use Rattle.standard_order.proofs.TreeTops.{Doc, Elements, Filled, doc_chars, doc_inserted, doc_reconstructed, doc_stack, elements_dropped, elements_without}
@@ -87,7 +87,7 @@ all_proper ForeignContent h = refl
 
 pub record TopRuns (f : Mode → Building → Option Building) : Type 0 where
   pub uses : (mode : Mode) (b c : Building) → Uses mode b → is_first mode ≡ false → Settled b → f mode b ≡ Some c → Turn c × Settled c
-  pub carries : (n : ℕ) (s : List ℕ) (b c : Building) → Carries n s b → holds_of (Start heads) b.token ≡ true → Settled b → f InHead b ≡ Some c →
+  pub carries : (o : Option ℕ) (s : List ℕ) (b c : Building) → Carries o s b → holds_of (Start heads) b.token ≡ true → Settled b → f InHead b ≡ Some c →
       Settled c
   pub chars : (x : ℕ) (b c : Building) → PendingAt b → Settled b → f InBody (with_char x b) ≡ Some c → PendingAt c × Settled c
 
@@ -96,7 +96,7 @@ pub then_some : (f : Building → Option Building) (o : Option Building) (c : Bu
 then_some f None c e = cc
 then_some f (Some x) c e = (x, refl, e)
 
-map_some : (f : Building → Building) (o : Option Building) (c : Building) → option_map f o ≡ Some c → (x : Building) × (o ≡ Some x) × (f x ≡ c)
+pub map_some : (f : Building → Building) (o : Option Building) (c : Building) → option_map f o ≡ Some c → (x : Building) × (o ≡ Some x) × (f x ≡ c)
 map_some f None c e = cc
 map_some f (Some x) c e = (x, refl, same_Some (f x) c e)
 
@@ -118,7 +118,7 @@ pending_settled f runs b c p s e =
     map_some (with_token b.token b.attrs) (each_char (f InBody) (reverse b.pending) b) c e in
     subst (λ u. PendingAt u × Settled u) one.2 (each_settled f runs (reverse b.pending) b one.0 p s one.1)
 
-pending_filled : (b : Building) → PendingAt b → Filled b.tree.stack
+pub pending_filled : (b : Building) → PendingAt b → Filled b.tree.stack
 pending_filled b p = shape_filled (own b.original) (labels b.tree.nodes) b.tree.stack p.1.0
 
 body_settled : (f : Mode → Building → Option Building) (x : ℕ) (b c : Building) → PendingAt b → Settled b → performed f (body_acts x) b ≡ Some c → Settled c
@@ -217,16 +217,18 @@ head_element (node ∷ nodes) zero h = by node.kind h
     by (ElementNode MathMl name attrs contents) k = refl
     by _ k = never k
 
-stack_filled : (n : ℕ) (s q : List ℕ) → q ≡ n ∷ s → Filled q
-stack_filled n s q e f = no_cons (sym f ∙ e)
+stack_filled : (o : Option ℕ) (s : List ℕ) (b : Building) → Carries o s b → Filled b.tree.stack
+stack_filled o s b carries f = by o s (sym f ∙ carries.stack_is) carries.below
   where
-    no_cons : [] ≡ n ∷ s → ⊥
-    no_cons g = cc
+    by : (o : Option ℕ) (s : List ℕ) → [] ≡ with_head o s → Stands Closed (labels b.tree.nodes) s → ⊥
+    by None [] g st = st
+    by None (n ∷ ns) g st = cc
+    by (Some n) s g st = cc
 
-head_settled : (f : Mode → Building → Option Building) (acts : List Act) (n : ℕ) (s : List ℕ) (b c : Building) → HeadActs (own_name b.token) acts →
-    Carries n s b → Settled b → performed f acts b ≡ Some c → Settled c
+head_settled : (f : Mode → Building → Option Building) (acts : List Act) (o : Option ℕ) (s : List ℕ) (b c : Building) → HeadActs (own_name b.token) acts →
+    Carries o s b → Settled b → performed f acts b ≡ Some c → Settled c
 unfolding perform
-head_settled f acts n s b c (inl is) carries settled e =
+head_settled f acts o s b c (inl is) carries settled e =
     subst Settled (same_Some _ c (subst (λ a. performed f a b ≡ Some c) is e))
     (doc_stack Rooted now (Rattle.std.specs.Prelude.drop 1 now.stack) (elements_dropped (tags now.nodes) now.stack new.open_) new, settled.1)
   where
@@ -234,30 +236,29 @@ head_settled f acts n s b c (inl is) carries settled e =
     now = inserted Html (own_name b.token) b.attrs b.tree
 
     new : Doc Rooted (inserted Html (own_name b.token) b.attrs b.tree)
-    new = doc_inserted Rooted Html (own_name b.token) b.attrs b.tree (stack_filled n s b.tree.stack carries.stack_is) settled.0
-head_settled f acts n s b c (inr (inl one)) carries settled e =
+    new = doc_inserted Rooted Html (own_name b.token) b.attrs b.tree (stack_filled o s b carries) settled.0
+head_settled f acts o s b c (inr (inl one)) carries settled e =
     subst Settled (same_Some _ c (subst (λ a. performed f a b ≡ Some c) one.1 e))
-    (doc_inserted Rooted Html (own_name b.token) b.attrs b.tree (stack_filled n s b.tree.stack carries.stack_is) settled.0, refl)
-head_settled f acts n s b c (inr (inr one)) carries settled e =
+    (doc_inserted Rooted Html (own_name b.token) b.attrs b.tree (stack_filled o s b carries) settled.0, refl)
+head_settled f acts o s b c (inr (inr one)) carries settled e =
     subst Settled (same_Some _ c (subst (λ a. performed f a b ≡ Some c) one.0 e))
-    (doc_inserted Rooted Html (own_name b.token) b.attrs _ (stack_filled n s b.tree.stack carries.stack_is) (record { top = settled.0.top; open_ = settled.0.open_ }), refl)
+    (doc_inserted Rooted Html (own_name b.token) b.attrs _ (stack_filled o s b carries) (record { top = settled.0.top; open_ = settled.0.open_ }), refl)
 
 carried_settled : (f : Mode → Building → Option Building) → TopRuns f → (b c : Building) → LateAt (Exact AfterHead) Of false b →
     holds_of (Start heads) b.token ≡ true → Settled b → performed f carried_acts b ≡ Some c → Settled c
 unfolding perform
 carried_settled f runs b c at h s e =
-    let node : (n : ℕ) × (b.tree.head ≡ Some n) × IsAt head (labels b.tree.nodes) n = Rattle.standard_order.proofs.TurnsRun.head_node b.tree at.2.1 in
     let pushed : Building = with_tree b (with_stack b.tree (with_head b.tree.head b.tree.stack)) in
     let one : (x : Building) × (f InHead pushed ≡ Some x) × (performed f (does RemoveHeadFromStack [] ∷ []) x ≡ Some c) =
     then_some (performed f (does RemoveHeadFromStack [] ∷ [])) (f InHead pushed) c e in
-    let now : Settled one.0 = runs.carries node.0 b.tree.stack pushed one.0 (carried_holds b at node) h
-    (doc_stack Rooted b.tree (with_head b.tree.head b.tree.stack) (with_it node b.tree.head node.1) s.0, s.1) one.1 in
+    let now : Settled one.0 = runs.carries b.tree.head b.tree.stack pushed one.0 (carried_holds b at) h
+    (doc_stack Rooted b.tree (with_head b.tree.head b.tree.stack) (with_it b.tree.head (head_in b.tree at.2.1)) s.0, s.1) one.1 in
     subst Settled (same_Some _ c one.2) (Rattle.standard_order.proofs.TopSteps.loses_head one.0.tree.head one.0.tree now.0, now.1)
   where
-    with_it : (node : (n : ℕ) × (b.tree.head ≡ Some n) × IsAt head (labels b.tree.nodes) n) → (o : Option ℕ) → o ≡ Some node.0 →
-        Elements (tags b.tree.nodes) (with_head o b.tree.stack)
-    with_it node o f = subst (λ p. Elements (tags b.tree.nodes) (with_head p b.tree.stack)) (sym f)
-        (ap (λ x. x && list_all (λ i. is_element (class_at (tags b.tree.nodes) i)) b.tree.stack) (head_element b.tree.nodes node.0 node.2) ∙ s.0.open_)
+    with_it : (o : Option ℕ) → IsHeadIn (labels b.tree.nodes) o → Elements (tags b.tree.nodes) (with_head o b.tree.stack)
+    with_it None f = s.0.open_
+    with_it (Some n) f =
+        ap (λ x. x && list_all (λ i. is_element (class_at (tags b.tree.nodes) i)) b.tree.stack) (head_element b.tree.nodes n f) ∙ s.0.open_
 
 begun_settled : (f : Mode → Building → Option Building) → TopRuns f → (b c : Building) →
     Turn (record b { pending = []; original = b.mode; mode = InTableText }) → Settled b → performed f pending_acts b ≡ Some c → Settled c
@@ -297,7 +298,7 @@ pub all_settled : (d : ℕ) → TopRuns (run d)
 unfolding run
 all_settled zero = record {
   uses = λ mode b c u m s e. no_result c e;
-  carries = λ n s b c h k settled e. no_result c e;
+  carries = λ o s b c h k settled e. no_result c e;
   chars = λ x b c p s e. no_result c e;
 }
 all_settled (suc d) = record {
@@ -305,7 +306,7 @@ all_settled (suc d) = record {
     ((all_in_order (suc d)).uses mode b u c e).1,
     ready_settled d (all_settled d) (taken b (rules mode)) b c (ready mode b u) (taken_proper b (rules mode) (all_proper mode m)) s e,
   );
-  carries = λ n s b c h k settled e. head_settled (run d) (taken b (rules InHead)) n s b c (head_acts b k) h settled e;
+  carries = λ o s b c h k settled e. head_settled (run d) (taken b (rules InHead)) o s b c (head_acts b k) h settled e;
   chars = λ x b c p s e. (
     ((all_in_order (suc d)).chars x b p c e).1,
     body_settled (run d) x (with_char x b) c p s (subst (λ acts. performed (run d) acts (with_char x b) ≡ Some c) (body_taken x b) e),

@@ -138,7 +138,7 @@ fine_only : (info : Info) (action : Action) (tests : List Test) (new : Level) �
 fine_only info FosterOff tests new e = refl
 fine_only info _ tests new e = none_some e
 
-not_fine : (level : Level) (info : Info) (action : Action) (tests : List Test) (new : Level) → is_foster_off action ≡ false →
+pub not_fine : (level : Level) (info : Info) (action : Action) (tests : List Test) (new : Level) → is_foster_off action ≡ false →
     next_of level info action tests ≡ Some new → is_fine level ≡ false
 not_fine Fine info action tests new f e = never (sym f ∙ fine_only info action tests new e)
 not_fine _ info action tests new f e = refl

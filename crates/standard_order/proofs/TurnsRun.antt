@@ -1,37 +1,42 @@
 -- Wherever the dispatcher begins with a token, a turn may begin, by induction on how deep rules use rules.
-use Rattle.std.specs.Prelude.{◌≡◌, refl, ℕ, zero, suc, Bool, true, false, not, ◌&&◌, List, [], ◌∷◌, Option, None, Some}
+use Rattle.std.specs.Prelude.{◌≡◌, ◌||◌, refl, ℕ, zero, suc, Bool, true, false, not, ◌&&◌, List, [], ◌∷◌, Option, None, Some}
+use Rattle.std.specs.Prelude.{bytes_eq, codes, cond, unwrap_or}
+use Rattle.std.proofs.Common.{inl}
 use Rattle.std.proofs.lemmas.Option.{same_Some}
 use mathlib.Core.Path.{sym, ap, subst}
 use Rattle.standard_tokens.specs.Tokens.{Token}
 use Rattle.standard_trees.specs.RuleWords.{Act, AfterHead, BeforeHead, BeforeHtml, Dispatcher, EmptyPending, InBody, Initial, Text, InHead}
-use Rattle.standard_trees.specs.RuleWords.{InTableText, KeepMode, Mode, PushHeadPointer, RemoveHeadFromStack, Reprocess, SwitchTo, Use}
+use Rattle.standard_trees.specs.RuleWords.{InTableText, InTemplate, KeepMode, Mode, PushHeadPointer, RemoveHeadFromStack, Reprocess, SwitchTo, Use}
 use Rattle.standard_trees.specs.RuleWords.{UseCurrentMode, UseForEachPending, does, goes}
-use Rattle.standard_trees.specs.TreeRules.{rules}
-use Rattle.standard_trees.specs.GrowingTree.{GrowingTree, with_stack}
+use Rattle.standard_trees.specs.TreeRules.{resets, rules}
+use Rattle.standard_trees.specs.GrowingTree.{FormOfContext, GrowingTree, NoForm, inserted_at, is_template, with_stack}
+use Rattle.standard_trees.specs.TreeStore.{EndOf, Html, Kind, is_html, key_in}
 use Rattle.standard_trees.specs.Building.{Building, gone, is_line_feed, perform, performed, run, start, taken, tree_step, tree_steps}
-use Rattle.standard_trees.specs.Building.{with_head, with_next, with_tree}
+use Rattle.standard_trees.specs.Building.{Surroundings, context_of, empty_tree, form_of, fragment_start, reset_by, with_head, with_next, with_tree}
 use Rattle.standard_order.specs.Order.{OrderNeedsNoTest, TurnsBeginInOrder, is_in_order}
+use Rattle.standard_order.specs.Beginnings.{Beginning, OfFragment, OfPage, first_building}
 use Rattle.standard_order.specs.Turns.{is_barred, run_while, tree_step_while, tree_steps_while}
-use Rattle.standard_order.proofs.Labels.{Is as IsAt, labels}
-use Rattle.standard_order.proofs.StandingStacks.{Closed, both, head, never}
-use Rattle.standard_order.proofs.GoodTrees.{IsHeadPointer, PointersOf}
+use Rattle.standard_order.proofs.Labels.{labels}
+use Rattle.standard_order.proofs.ResetModes.{key_is}
+use Rattle.standard_order.proofs.StandingStacks.{Closed, both, never}
+use Rattle.standard_order.proofs.GoodTrees.{IsForm, IsHeadPointer, PointersOf, is_whole}
 use Rattle.standard_order.proofs.Levels.{Any, Behind, Exact, Fine, Info, Late, Level, Of, Start, Std, TableText, acts_pass, ends, heads}
 use Rattle.standard_order.proofs.Levels.{info_after, is_after_head, is_carried, is_inside_level, is_pending, is_table_text, is_tabled}
 use Rattle.standard_order.proofs.Levels.{may_use, next_of, own, starts_one}
-use Rattle.standard_order.proofs.LevelFacts.{At, LateAt, TreeIs, Turn, TurnIs}
+use Rattle.standard_order.proofs.LevelFacts.{At, Content, LateAt, TreeIs, Turn, TurnIs, is_at_node}
 use Rattle.standard_order.proofs.LevelTrees.{holds_of}
-use Rattle.standard_order.proofs.LevelNext.{after}
+use Rattle.standard_order.proofs.LevelNext.{after, reset_turn}
 use Rattle.standard_order.proofs.RulesPassed.{Ready, any_holds}
 use Rattle.standard_order.proofs.RulesUsed.{Uses, ends_turn, holds_after, next_of_at, ready, starts_so, use_at, uses_current}
 use Rattle.standard_order.proofs.Follows.{Follows, barred_follows, passes_both, then_follows}
 use Rattle.standard_order.proofs.InOrder.{turn_in_order}
-use Rattle.standard_order.proofs.Carried.{Carried, Carries, acts_carried, head_acts}
+use Rattle.standard_order.proofs.Carried.{Carried, Carries, IsHeadIn, acts_carried, head_acts}
 use Rattle.standard_order.proofs.PendingRun.{CharsRun, PendingAt, body_char, body_taken, pending_run, turn_pending, with_char}
 
 -- what is known of two runs
 pub record Runs (f g : Mode → Building → Option Building) : Type 0 where
   pub uses : (mode : Mode) (b : Building) → Uses mode b → Follows Turn (f mode b) (g mode b)
-  pub carries : (n : ℕ) (s : List ℕ) (b : Building) → Carries n s b → holds_of (Start heads) b.token ≡ true → Follows Carried (f InHead b)
+  pub carries : (o : Option ℕ) (s : List ℕ) (b : Building) → Carries o s b → holds_of (Start heads) b.token ≡ true → Follows Carried (f InHead b)
       (g InHead b)
   pub chars : CharsRun f g
 
@@ -98,21 +103,21 @@ pub after_head_is : (level : Level) (b : Building) → is_after_head level ≡ t
 after_head_is (Late (Exact AfterHead) Of kept) b h at = (at.0, at.1, at.2, λ k. never k)
 after_head_is _ b h at = never h
 
-pub head_node : (t : GrowingTree) → PointersOf t → (n : ℕ) × (t.head ≡ Some n) × IsAt head (labels t.nodes) n
-head_node t p = by t.head refl p.head_is
+pub head_in : (t : GrowingTree) → PointersOf t → IsHeadIn (labels t.nodes) t.head
+head_in t p = by t.head p.head_is
   where
-    by : (o : Option ℕ) → t.head ≡ o → IsHeadPointer (labels t.nodes) o → (n : ℕ) × (t.head ≡ Some n) × IsAt head (labels t.nodes) n
-    by None e h = absurd h
-    by (Some n) e h = (n, e, h)
+    by : (o : Option ℕ) → IsHeadPointer (labels t.nodes) t.context o → IsHeadIn (labels t.nodes) o
+    by None h = tt
+    by (Some n) h = h
 
-pub carried_holds : (b : Building) → LateAt (Exact AfterHead) Of false b → (node : (n : ℕ) × (b.tree.head ≡ Some n) × IsAt head (labels b.tree.nodes) n) →
-    Carries node.0 b.tree.stack (with_tree b (with_stack b.tree (with_head b.tree.head b.tree.stack)))
-carried_holds b at node = record {
+pub carried_holds : (b : Building) → LateAt (Exact AfterHead) Of false b →
+    Carries b.tree.head b.tree.stack (with_tree b (with_stack b.tree (with_head b.tree.head b.tree.stack)))
+carried_holds b at = record {
   mode_is = at.0;
   modes = at.1;
-  head_at = node.1;
-  stack_is = ap (λ o. with_head o b.tree.stack) node.1;
-  is_head = node.2;
+  head_at = refl;
+  stack_is = refl;
+  is_head = head_in b.tree at.2.1;
   below = closed.0.0;
   pointers = at.2.1;
 }
@@ -127,11 +132,8 @@ unfolding perform
 carried_run f g runs b at h =
     then_follows Carried Turn (performed f (does RemoveHeadFromStack [] ∷ [])) (performed g (does RemoveHeadFromStack [] ∷ []))
     (λ x c d k. (k, subst Turn (same_Some (perform RemoveHeadFromStack x) d k) c)) (f InHead pushed_head) (g InHead pushed_head)
-    (runs.carries node.0 b.tree.stack pushed_head (carried_holds b at node) h)
+    (runs.carries b.tree.head b.tree.stack pushed_head (carried_holds b at) h)
   where
-    node : (n : ℕ) × (b.tree.head ≡ Some n) × IsAt head (labels b.tree.nodes) n
-    node = head_node b.tree at.2.1
-
     pushed_head : Building
     pushed_head = with_tree b (with_stack b.tree (with_head b.tree.head b.tree.stack))
 
@@ -257,18 +259,68 @@ steps_know fact known test d (token ∷ more) b turn =
     (λ x k. steps_know fact known test d more x k) (tree_step_while test d b token) (tree_step_while (fact_too fact test) d b token)
     (step_knows fact known test d b token turn)
 
-start_turn : (scripting : Bool) → Turn (start scripting)
-start_turn scripting = (refl, (refl, (refl, refl, refl, refl)))
+-- before a page, and before a fragment
+page_turn : (scripting : Bool) → Turn (start scripting)
+page_turn scripting = (refl, (refl, (refl, refl, refl, refl)))
+
+fragment_turn : (scripting : Bool) (around : Surroundings) → Turn (fragment_start scripting around)
+fragment_turn scripting around = by (is_whole context) refl
+  where
+    context : Option Kind
+    context = Some (context_of around)
+
+    tree : GrowingTree
+    tree = record (inserted_at (EndOf 0) Html (codes "html") [] empty_tree) { form = form_of around; context = context }
+
+    before : Building
+    before = record (start scripting) {
+      tree = tree;
+      quirks = around.quirks;
+      template_modes = cond (is_template around.space around.name) (InTemplate ∷ []) [];
+    }
+
+    content : Content before.template_modes
+    content = by (is_template around.space around.name)
+      where
+        by : (x : Bool) → Content (cond x (InTemplate ∷ []) [])
+        by true = refl
+        by false = refl
+
+    none_at : (x : Bool) → is_at_node (cond x FormOfContext NoForm) ≡ false
+    none_at true = refl
+    none_at false = refl
+
+    form_is : (x : Bool) → IsForm (labels tree.nodes) (cond x FormOfContext NoForm)
+    form_is true = tt
+    form_is false = tt
+
+    is_form : Bool
+    is_form = around.in_form || (is_html around.space && bytes_eq around.name (codes "form"))
+
+    by : (x : Bool) → is_whole context ≡ x → Turn (fragment_start scripting around)
+    by true e = (content, subst (λ m. TurnIs m (fragment_start scripting around)) (sym mode) (refl, (refl, none_at is_form, refl, e)))
+      where
+        mode : (fragment_start scripting around).mode ≡ BeforeHead
+        mode = ap (λ name. unwrap_or (reset_by resets name before.template_modes None []) InBody)
+            (key_is (codes "html") (key_in (context_of around)) e)
+    by false e = reset_turn before (
+      inl (inl (refl, refl)),
+      record { entries = tt; form_is = form_is is_form; found_is = tt; head_is = e },
+    ) content
+
+first_turn : (beginning : Beginning) → Turn (first_building beginning)
+first_turn (OfPage scripting) = page_turn scripting
+first_turn (OfFragment scripting around) = fragment_turn scripting around
 
 -- so no test of turns need ask for it
-pub fact_needs_no_test : (fact : Building → Bool) → Known fact → (test : Building → Bool) (depth : ℕ) (scripting : Bool) (tokens : List Token)
-    (end : Building) → tree_steps_while test depth (start scripting) tokens ≡ Some end →
-    tree_steps_while (fact_too fact test) depth (start scripting) tokens ≡ Some end
-fact_needs_no_test fact known test depth scripting tokens end h =
-    (steps_know fact known test depth tokens (start scripting) (start_turn scripting) end h).0
+pub fact_needs_no_test : (fact : Building → Bool) → Known fact → (test : Building → Bool) (depth : ℕ) (beginning : Beginning)
+    (tokens : List Token) (end : Building) → tree_steps_while test depth (first_building beginning) tokens ≡ Some end →
+    tree_steps_while (fact_too fact test) depth (first_building beginning) tokens ≡ Some end
+fact_needs_no_test fact known test depth beginning tokens end h =
+    (steps_know fact known test depth tokens (first_building beginning) (first_turn beginning) end h).0
 
 pub order_needs_no_test : OrderNeedsNoTest
-order_needs_no_test test depth scripting tokens end h = fact_needs_no_test is_in_order turn_in_order test depth scripting tokens end h
+order_needs_no_test test depth beginning tokens end h = fact_needs_no_test is_in_order turn_in_order test depth beginning tokens end h
 
 -- ---- runs without a test
 
@@ -320,4 +372,4 @@ any_steps d (token ∷ more) b turn =
     (λ x k. any_steps d more x k) (tree_step d b token) (tree_step_while is_in_order d b token) (any_step d b token turn)
 
 pub turns_begin_in_order : TurnsBeginInOrder
-turns_begin_in_order depth scripting tokens end h = (any_steps depth tokens (start scripting) (start_turn scripting) end h).0
+turns_begin_in_order depth beginning tokens end h = (any_steps depth tokens (first_building beginning) (first_turn beginning) end h).0

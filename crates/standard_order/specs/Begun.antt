@@ -2,8 +2,9 @@
 -- come.
 use Rattle.std.specs.Prelude.{◌≡◌, ◌&&◌, Bool, List, None, Option, Some, false, not, true, ℕ}
 use Rattle.standard_tokens.specs.Tokens.{Token}
-use Rattle.standard_trees.specs.Building.{Building, start}
+use Rattle.standard_trees.specs.Building.{Building}
 use Rattle.standard_trees.specs.RuleWords.{TextState}
+use Rattle.standard_order.specs.Beginnings.{Beginning, first_building}
 use Rattle.standard_order.specs.Turns.{tree_steps_while}
 
 abbrev pub is_unswitched : Option TextState → Bool
@@ -20,6 +21,6 @@ begun_too test b = test b && is_begun b
 
 -- What a rule says of the next token, it says last: where turns that pass a test lead, turns lead that also begin in such states.
 abbrev pub TurnsAreBegun : Type 0
-TurnsAreBegun = (test : Building → Bool) (depth : ℕ) (scripting : Bool) (tokens : List Token) (end : Building) →
-    tree_steps_while test depth (start scripting) tokens ≡ Some end →
-    tree_steps_while (begun_too test) depth (start scripting) tokens ≡ Some end
+TurnsAreBegun = (test : Building → Bool) (depth : ℕ) (beginning : Beginning) (tokens : List Token) (end : Building) →
+    tree_steps_while test depth (first_building beginning) tokens ≡ Some end →
+    tree_steps_while (begun_too test) depth (first_building beginning) tokens ≡ Some end

@@ -1,11 +1,12 @@
 -- What is so of the current node wherever a turn of tree construction (13.2.6) begins, whatever tokens come.
 use Rattle.std.specs.Prelude.{◌≡◌, ◌&&◌, ◌||◌, Bool, List, Some, false, not, true, ℕ}
 use Rattle.standard_tokens.specs.Tokens.{Token}
-use Rattle.standard_trees.specs.Building.{Building, is_empty, start}
+use Rattle.standard_trees.specs.Building.{Building, is_empty}
 use Rattle.standard_trees.specs.GrowingTree.{adjusted_current}
 use Rattle.standard_trees.specs.RuleWords.{Dispatcher, ForeignContent, InTableText, Mode, Text}
 use Rattle.standard_trees.specs.TreeStore.{is_html, space_in}
 use Rattle.standard_order.specs.Order.{is_before_html}
+use Rattle.standard_order.specs.Beginnings.{Beginning, first_building}
 use Rattle.standard_order.specs.Turns.{tree_steps_while}
 
 -- the modes that take characters into an element or a table
@@ -38,6 +39,6 @@ current_too test b = test b && has_current b
 
 -- So no test of turns need ask for that: where turns that pass a test lead, turns lead that also begin in such states.
 abbrev pub CurrentNodesAreKnown : Type 0
-CurrentNodesAreKnown = (test : Building → Bool) (depth : ℕ) (scripting : Bool) (tokens : List Token) (end : Building) →
-    tree_steps_while test depth (start scripting) tokens ≡ Some end →
-    tree_steps_while (current_too test) depth (start scripting) tokens ≡ Some end
+CurrentNodesAreKnown = (test : Building → Bool) (depth : ℕ) (beginning : Beginning) (tokens : List Token) (end : Building) →
+    tree_steps_while test depth (first_building beginning) tokens ≡ Some end →
+    tree_steps_while (current_too test) depth (first_building beginning) tokens ≡ Some end

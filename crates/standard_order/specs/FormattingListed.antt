@@ -3,9 +3,10 @@
 use Rattle.std.specs.Prelude.{[], ◌∷◌, ◌≡◌, ◌&&◌, Bool, List, Some, codes, true, ℕ}
 use Rattle.std.specs.List.{list_all}
 use Rattle.standard_tokens.specs.Tokens.{Token}
-use Rattle.standard_trees.specs.Building.{Building, start}
+use Rattle.standard_trees.specs.Building.{Building}
 use Rattle.standard_trees.specs.GrowingTree.{Entry, Formatting, Marker, is_named}
 use Rattle.standard_trees.specs.TreeStore.{Node, node_at}
+use Rattle.standard_order.specs.Beginnings.{Beginning, first_building}
 use Rattle.standard_order.specs.Turns.{tree_steps_while}
 
 -- the elements that the rules add to the list
@@ -28,6 +29,6 @@ formatting_too test b = test b && lists_formatting b
 
 -- So no test of turns need ask for that: where turns that pass a test lead, turns lead that also begin in such states.
 abbrev pub OnlyFormattingIsListed : Type 0
-OnlyFormattingIsListed = (test : Building → Bool) (depth : ℕ) (scripting : Bool) (tokens : List Token) (end : Building) →
-    tree_steps_while test depth (start scripting) tokens ≡ Some end →
-    tree_steps_while (formatting_too test) depth (start scripting) tokens ≡ Some end
+OnlyFormattingIsListed = (test : Building → Bool) (depth : ℕ) (beginning : Beginning) (tokens : List Token) (end : Building) →
+    tree_steps_while test depth (first_building beginning) tokens ≡ Some end →
+    tree_steps_while (formatting_too test) depth (first_building beginning) tokens ≡ Some end

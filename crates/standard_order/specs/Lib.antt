@@ -1,3 +1,4 @@
+pub mod Beginnings
 pub mod Order
 pub mod Turns
 pub mod Pending

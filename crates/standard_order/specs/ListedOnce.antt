@@ -3,9 +3,10 @@
 use Rattle.std.specs.Prelude.{[], ◌∷◌, ◌≡◌, ◌&&◌, Bool, List, Some, length, nat_lt, not, true, ℕ}
 use Rattle.std.specs.List.{list_all, list_any}
 use Rattle.standard_tokens.specs.Tokens.{Token}
-use Rattle.standard_trees.specs.Building.{Building, start, tree_steps}
+use Rattle.standard_trees.specs.Building.{Building, tree_steps}
 use Rattle.standard_trees.specs.Formatting.{is_entry}
 use Rattle.standard_trees.specs.GrowingTree.{Entry, Formatting, Marker}
+use Rattle.standard_order.specs.Beginnings.{Beginning, first_building}
 use Rattle.standard_order.specs.Turns.{tree_steps_while}
 
 -- no element is in the list twice
@@ -25,8 +26,9 @@ lists_each_once b = lists_once b.tree.listed && list_all (is_below (length b.tre
 
 -- Wherever a turn begins, each element is listed once: where tokens lead, turns lead that each begin in such a state.
 abbrev pub TurnsListOnce : Type 0
-TurnsListOnce = (depth : ℕ) (scripting : Bool) (tokens : List Token) (end : Building) →
-    tree_steps depth (start scripting) tokens ≡ Some end → tree_steps_while lists_each_once depth (start scripting) tokens ≡ Some end
+TurnsListOnce = (depth : ℕ) (beginning : Beginning) (tokens : List Token) (end : Building) →
+    tree_steps depth (first_building beginning) tokens ≡ Some end →
+    tree_steps_while lists_each_once depth (first_building beginning) tokens ≡ Some end
 
 -- the state passes a test, and each element is listed once
 abbrev pub listed_too : (Building → Bool) → Building → Bool
@@ -34,6 +36,6 @@ listed_too test b = test b && lists_each_once b
 
 -- So no test of turns need ask for that: where turns that pass a test lead, turns lead that also begin in such states.
 abbrev pub ListingNeedsNoTest : Type 0
-ListingNeedsNoTest = (test : Building → Bool) (depth : ℕ) (scripting : Bool) (tokens : List Token) (end : Building) →
-    tree_steps_while test depth (start scripting) tokens ≡ Some end →
-    tree_steps_while (listed_too test) depth (start scripting) tokens ≡ Some end
+ListingNeedsNoTest = (test : Building → Bool) (depth : ℕ) (beginning : Beginning) (tokens : List Token) (end : Building) →
+    tree_steps_while test depth (first_building beginning) tokens ≡ Some end →
+    tree_steps_while (listed_too test) depth (first_building beginning) tokens ≡ Some end

@@ -2,10 +2,11 @@
 use Rattle.std.specs.Prelude.{[], ◌∷◌, ◌≡◌, ◌&&◌, ◌||◌, Bool, List, Some, codes, false, not, true, ℕ}
 use Rattle.std.specs.Option.{option_map_or}
 use Rattle.standard_tokens.specs.Tokens.{Token}
-use Rattle.standard_trees.specs.Building.{Building, start, tree_steps}
+use Rattle.standard_trees.specs.Building.{Building, tree_steps}
 use Rattle.standard_trees.specs.GrowingTree.{is_one, topmost}
 use Rattle.standard_trees.specs.RuleWords.{AfterHead, BeforeHtml, Initial, Mode}
 use Rattle.standard_trees.specs.TreeStore.{is_member}
+use Rattle.standard_order.specs.Beginnings.{Beginning, first_building}
 use Rattle.standard_order.specs.Turns.{tree_steps_while}
 
 -- in these modes no element is open yet
@@ -32,8 +33,9 @@ is_in_order b = (is_before_html b.mode || has_html b) && (not (is_after_head b.m
 
 -- Wherever a turn begins, the open elements are in order: where tokens lead, turns lead that each begin in such a state.
 abbrev pub TurnsBeginInOrder : Type 0
-TurnsBeginInOrder = (depth : ℕ) (scripting : Bool) (tokens : List Token) (end : Building) →
-    tree_steps depth (start scripting) tokens ≡ Some end → tree_steps_while is_in_order depth (start scripting) tokens ≡ Some end
+TurnsBeginInOrder = (depth : ℕ) (beginning : Beginning) (tokens : List Token) (end : Building) →
+    tree_steps depth (first_building beginning) tokens ≡ Some end →
+    tree_steps_while is_in_order depth (first_building beginning) tokens ≡ Some end
 
 -- the state passes a test, and its open elements are in order
 abbrev pub in_order_too : (Building → Bool) → Building → Bool
@@ -41,6 +43,6 @@ in_order_too test b = test b && is_in_order b
 
 -- So no test of turns need ask for that: where turns that pass a test lead, turns lead that also begin in such states.
 abbrev pub OrderNeedsNoTest : Type 0
-OrderNeedsNoTest = (test : Building → Bool) (depth : ℕ) (scripting : Bool) (tokens : List Token) (end : Building) →
-    tree_steps_while test depth (start scripting) tokens ≡ Some end →
-    tree_steps_while (in_order_too test) depth (start scripting) tokens ≡ Some end
+OrderNeedsNoTest = (test : Building → Bool) (depth : ℕ) (beginning : Beginning) (tokens : List Token) (end : Building) →
+    tree_steps_while test depth (first_building beginning) tokens ≡ Some end →
+    tree_steps_while (in_order_too test) depth (first_building beginning) tokens ≡ Some end

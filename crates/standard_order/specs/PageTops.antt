@@ -5,7 +5,8 @@ use Rattle.standard_tokens.specs.Tokens.{AnEof, Token}
 use Rattle.standard_trees.specs.Building.{Building, start, tree_steps}
 use Rattle.standard_trees.specs.GrowingTree.{GrowingTree}
 use Rattle.standard_trees.specs.TreeStore.{Node, node_at}
-use Rattle.standard_order.specs.PageShape.{are_page_parts, child_elements, is_doctype_kind, is_element_kind, is_html_at, uncommented}
+use Rattle.standard_order.specs.PageShape.{are_page_parts, child_elements, is_doctype_kind, is_element_kind, is_html_at, is_page_of}
+use Rattle.standard_order.specs.PageShape.{uncommented}
 
 -- an element `html`, with or without a doctype before it
 abbrev pub is_root_top : List Node → List ℕ → Bool
@@ -28,3 +29,9 @@ abbrev pub roots_have_parts : GrowingTree → Bool
 roots_have_parts t =
     list_all (λ n. not (is_element_kind (node_at t.nodes n).kind) || are_page_parts t.nodes (child_elements t.nodes n))
     (node_at t.nodes 0).children
+
+-- Each page has the shape of one: a doctype or none, and an element `html`, whose child elements are a head and a body; or a head, a
+-- frameset, and any others.
+abbrev pub PagesHaveTheirShape : Type 0
+PagesHaveTheirShape = (depth : ℕ) (scripting : Bool) (tokens : List Token) (end : Building) →
+    tree_steps depth (start scripting) (tokens ++ AnEof ∷ []) ≡ Some end → is_page_of end.tree ≡ true

@@ -2,7 +2,8 @@
 use Rattle.std.specs.Prelude.{◌≡◌, ◌==◌, ◌&&◌, Bool, List, Some, not, ℕ}
 use Rattle.std.specs.List.{list_all}
 use Rattle.standard_tokens.specs.Tokens.{Token}
-use Rattle.standard_trees.specs.Building.{Building, start}
+use Rattle.standard_trees.specs.Building.{Building}
+use Rattle.standard_order.specs.Beginnings.{Beginning, first_building}
 use Rattle.standard_order.specs.Turns.{tree_steps_while}
 
 -- none of these characters is a null
@@ -15,6 +16,6 @@ without_nulls_too test b = test b && without_nulls b.pending
 
 -- No null becomes pending: where turns that pass a test lead, turns lead that also begin where no pending character is a null.
 abbrev pub NoNullIsPending : Type 0
-NoNullIsPending = (test : Building → Bool) (depth : ℕ) (scripting : Bool) (tokens : List Token) (end : Building) →
-    tree_steps_while test depth (start scripting) tokens ≡ Some end →
-    tree_steps_while (without_nulls_too test) depth (start scripting) tokens ≡ Some end
+NoNullIsPending = (test : Building → Bool) (depth : ℕ) (beginning : Beginning) (tokens : List Token) (end : Building) →
+    tree_steps_while test depth (first_building beginning) tokens ≡ Some end →
+    tree_steps_while (without_nulls_too test) depth (first_building beginning) tokens ≡ Some end

@@ -1,12 +1,13 @@
-//! Laws about the state of tree construction where a turn begins, and about the trees of pages. The
-//! functions do nothing at run time; their contracts are the theorems.
+//! Laws about the state of tree construction where a turn begins, in a page or in a fragment of any
+//! context, and about the trees of pages. The functions do nothing at run time; their contracts are
+//! the theorems.
 
 ghost use Rattle.standard_order.specs.Begun.{TurnsAreBegun};
 ghost use Rattle.standard_order.specs.CurrentNodes.{CurrentNodesAreKnown};
 ghost use Rattle.standard_order.specs.FormattingListed.{OnlyFormattingIsListed};
 ghost use Rattle.standard_order.specs.ListedOnce.{ListingNeedsNoTest, TurnsListOnce};
 ghost use Rattle.standard_order.specs.Order.{OrderNeedsNoTest, TurnsBeginInOrder};
-ghost use Rattle.standard_order.specs.PageTops.{PagesHaveOneRoot};
+ghost use Rattle.standard_order.specs.PageTops.{PagesHaveOneRoot, PagesHaveTheirShape};
 ghost use Rattle.standard_order.specs.Pending.{NoNullIsPending};
 
 /// Whatever tokens come, wherever a turn of tree construction begins, the outermost open element is
@@ -16,15 +17,15 @@ pub fn turns_begin_in_order()
     ensures { TurnsBeginInOrder }
 {}
 
-/// Where turns that pass some test build a page, all of this is so at each of them, too: the test
-/// needs not ask for it.
+/// Where turns that pass some test lead, all of this is so at each of them, too: the test needs not
+/// ask for it.
 #[tactic(auto, using(crate::proofs::TurnsRun::order_needs_no_test))]
 pub fn order_needs_no_test()
     ensures { OrderNeedsNoTest }
 {}
 
 /// Whatever tokens come, no pending table character token is a null: where turns that pass some
-/// test build a page, that is so at each of them, too.
+/// test lead, that is so at each of them, too.
 #[tactic(auto, using(crate::proofs::PendingNulls::no_null_is_pending))]
 pub fn no_null_is_pending()
     ensures { NoNullIsPending }
@@ -36,6 +37,13 @@ pub fn pages_have_one_root()
     ensures { PagesHaveOneRoot }
 {}
 
+/// Each page has the shape of one: in `html` there are a head and a body, or a head, a frameset and
+/// any other elements, whatever tokens come.
+#[tactic(auto, using(crate::proofs::PartPages::pages_have_their_shape))]
+pub fn pages_have_their_shape()
+    ensures { PagesHaveTheirShape }
+{}
+
 /// Whatever tokens come, wherever a turn of tree construction begins, no element is in the list of
 /// active formatting elements twice, and each that is in it is a node of the tree.
 #[tactic(auto, using(crate::proofs::ListedTurns::turns_list_once))]
@@ -43,8 +51,8 @@ pub fn turns_list_once()
     ensures { TurnsListOnce }
 {}
 
-/// Where turns that pass some test build a page, that is so at each of them, too: the test needs
-/// not ask for it.
+/// Where turns that pass some test lead, that is so at each of them, too: the test needs not ask
+/// for it.
 #[tactic(auto, using(crate::proofs::ListedTurns::listing_needs_no_test))]
 pub fn listing_needs_no_test()
     ensures { ListingNeedsNoTest }
