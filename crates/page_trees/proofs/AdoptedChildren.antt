@@ -15,10 +15,10 @@ use Rattle.page_trees.specs.Adopting.{AdoptsChildren, AdoptsOnce, ArePassed, Cli
 use Rattle.page_trees.specs.Elements.{AreOpen, IsElement, IsInOrder}
 use Rattle.page_trees.specs.declared.fault.PageFault.{PageFault}
 use Rattle.page_trees.specs.declared.growing.adopting.Bookmark.{Bookmark}
-use Rattle.page_trees.specs.Formatting.{are_few, is_of, last_place}
+use Rattle.page_trees.specs.Formatting.{is_of, last_place}
 use Rattle.page_trees.specs.Insertions.{MakesNext}
 use Rattle.page_trees.specs.Insertions.{with_copy_inside as copied_inside}
-use Rattle.page_trees.specs.Listing.{LeadsTo, has_few, lists_once}
+use Rattle.page_trees.specs.Listing.{LeadsTo}
 use Rattle.page_trees.specs.NameNumbers.{AreNumbered}
 use Rattle.page_trees.specs.Names.{html_rows, rare_rows}
 use Rattle.page_trees.specs.Placing.{is_a_template}
@@ -38,10 +38,10 @@ use Rattle.page_trees.proofs.EntryPlaces.{fresh_unlisted, inserted_at, last_plac
 use Rattle.page_trees.proofs.InnerLoop.{climb_at, copied_is}
 use Rattle.page_trees.proofs.KeptElements.{Keeps, keeps_put, stands_kept}
 use Rattle.page_trees.proofs.LateNodes.{late_contents}
-use Rattle.page_trees.proofs.ListedEntries.{all_turned, few_there}
-use Rattle.page_trees.proofs.NamesAgree.{both, for_all, passes_all}
+use Rattle.page_trees.proofs.ListedEntries.{all_turned}
+use Rattle.page_trees.proofs.NamesAgree.{for_all, passes_all}
 use Rattle.page_trees.proofs.NumberedNames.{inserted_numbered}
-use Rattle.page_trees.proofs.SplitLists.{behind_one, lists, neither, once_there, stacked_one, true_both, without_one}
+use Rattle.page_trees.proofs.SplitLists.{behind_one, lists, neither, once_there, stacked_one, without_one}
 use Rattle.page_trees.proofs.StackOrder.{element_there}
 use Rattle.page_trees.proofs.StackRungs.{above_is, any_in, dropped_front, get_at, get_next, ids_around, left_numbered, more_stand, one_stands, others_stand, stacked_around, stand_apart, taken_front, turned_around}
 use Rattle.page_trees.proofs.StandingNames.{are_known, one_agrees}
@@ -180,11 +180,10 @@ children_adopted s h place gone left b t l c copy w stack good order is_element 
     let it = inside_built s c.tree h l.element copy l.block.id built good is_element is_block plain w.stands next shape in
     let nodes : List Node = with_copy_inside l.element.id l.block.id c.tree.nodes in
     let carried = carried_ids c.tree l copy.id (stack_once s c.tree order built) (stacked_around s c.tree l.low l.element (above l) built stack) in
-    let well = both (has_few c.tree) (lists_once c.tree.listed) w.leads.well in
     let id = it.id in
     let absent : lists copy.id c.tree.listed ≡ false =
     ap (lists copy.id) built.listed.list ∙ fresh_unlisted c.tree.nodes (reverse s.formatting) copy.id (all_turned (EntryStands c.tree.nodes) s.formatting built.listed.elements) (omega (arith, id)) in
-    let marked = bookmarked_list nodes c.tree.listed s.formatting l.element.id gone left (ids_of (above l)) c.mark b copy it.built.listed well.1 well.0 found w.mark carried.apart is_left it.stands absent in
+    let marked = bookmarked_list nodes c.tree.listed s.formatting l.element.id gone left (ids_of (above l)) c.mark b copy it.built.listed w.leads.well found w.mark carried.apart is_left it.stands absent in
     let entries : List Entry = insert (remove s.formatting gone) left (Entry.Element copy) in
     let listed : List StandardEntry = list_at c.mark l.element.id copy.id c.tree.listed in
     let grown : TreeState = record s { forest = h } in
@@ -194,7 +193,7 @@ children_adopted s h place gone left b t l c copy w stack good order is_element 
     let after : GrowingTree = record c.tree { nodes = nodes; listed = listed; stack = stacked_below copy.id l.block.id (without l.element.id c.tree.stack) } in
     let now : LeadsTo t after (record s { forest = h; stack = below_copy l ++ copy ∷ l.up; formatting = entries }) = record {
       built = three;
-      well = true_both (are_few listed) (lists_once listed) marked.few marked.once;
+      well = marked.once;
       alike = record { fosters = w.leads.alike.fosters; found = w.leads.alike.found; stands = λ o is. entry_kept c.tree.nodes nodes it.keeps o (w.leads.alike.stands o is) };
     } in
     subst (λ (os : List Open). LeadsTo t (with_children_adopted c.mark l.element.id l.block.id c.tree) (record s { forest = h; stack = os; formatting = entries })) (sym (carried_there s.stack l copy place stack w.long))
@@ -209,19 +208,19 @@ children_adopted s h place gone left b t l c copy w stack good order is_element 
 -- ---- by what the calls do
 
 -- the entry of an element is taken out
-pub entry_taken : (view old new : TreeState) (n found : ℕ) (b left : Bookmark) (r : Option ℕ) → view ≡ old → (are_few view.formatting ≡ true → r ≡ last_place (is_of n) view.formatting) → r ≡ Some found →
+pub entry_taken : (view old new : TreeState) (n found : ℕ) (b left : Bookmark) (r : Option ℕ) → view ≡ old → r ≡ last_place (is_of n) view.formatting → r ≡ Some found →
     new ≡ record old { formatting = remove old.formatting found } → (found < b.index → left.index + 1 ≡ b.index) → (b.index ≤ found → left ≡ b) → (gone : ℕ) → FindsAt n gone old.formatting →
     IsIndexLeft gone b.index left.index × (new ≡ record old { formatting = remove old.formatting gone })
 entry_taken view old new n found b left r same at some e before behind gone finds =
     let both : Some found ≡ Some gone =
-    sym some ∙ at (ap (λ (s : TreeState). are_few s.formatting) same ∙ finds.0) ∙ ap (λ (s : TreeState). last_place (is_of n) s.formatting) same ∙ sym finds.1 in
+    sym some ∙ at ∙ ap (λ (s : TreeState). last_place (is_of n) s.formatting) same ∙ sym finds in
     let one : found ≡ gone = cc in
     (subst (λ (k : ℕ). IsIndexLeft k b.index left.index) one (before, λ le. ap (λ (m : Bookmark). m.index) (behind le)), e ∙ ap (λ (k : ℕ). record old { formatting = remove old.formatting k }) one)
 
-pub entry_lacking : {A : Type 0} (view old : TreeState) (n i : ℕ) (r : Option ℕ) → view ≡ old → (are_few view.formatting ≡ true → r ≡ last_place (is_of n) view.formatting) → r ≡ None →
+pub entry_lacking : {A : Type 0} (view old : TreeState) (n i : ℕ) (r : Option ℕ) → view ≡ old → r ≡ last_place (is_of n) view.formatting → r ≡ None →
     FindsAt n i old.formatting → A
 entry_lacking view old n i r same at none finds =
-    absurd (none-some i (sym none ∙ at (ap (λ (s : TreeState). are_few s.formatting) same ∙ finds.0) ∙ ap (λ (s : TreeState). last_place (is_of n) s.formatting) same ∙ sym finds.1))
+    absurd (none-some i (sym none ∙ at ∙ ap (λ (s : TreeState). last_place (is_of n) s.formatting) same ∙ sym finds))
 
 pub some_left : (gone i : ℕ) → (left : ℕ) × IsIndexLeft gone i left
 some_left gone zero = (zero, ((λ less. absurd (omega (arith, less))), λ le. refl))
@@ -238,10 +237,7 @@ some_left gone (suc i) = elim (cases_Bool (nat_lt gone (suc i))) [
 
 -- the entry of the formatting element is found
 pub element_found : (place : ℕ) (b : Bookmark) (s : TreeState) (t : GrowingTree) (l : Ladder) (c : Climb) (w : IsClimbing place b s t l c) → FindsAt l.element.id w.index s.formatting
-element_found place b s t l c w = (
-  few_there s c.tree w.leads.built (both (has_few c.tree) (lists_once c.tree.listed) w.leads.well).0,
-  sym (last_place_is c.tree.nodes l.element.id c.tree.listed s.formatting w.leads.built.listed ∙ w.listed),
-)
+element_found place b s t l c w = sym (last_place_is c.tree.nodes l.element.id c.tree.listed s.formatting w.leads.built.listed ∙ w.listed)
 
 with_none : (s : TreeState) (l : Ladder) (stack : List Open) → stack ≡ (l.low ++ l.element ∷ l.mid) ++ above l → l.mid ≡ [] → stack ≡ l.low ++ l.element ∷ above l
 with_none s l stack e none = e ∙ ap (λ (os : List Open). (l.low ++ l.element ∷ os) ++ above l) none ∙ append_assoc l.low (l.element ∷ []) (above l)

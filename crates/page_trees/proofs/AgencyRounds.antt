@@ -10,8 +10,8 @@ use Rattle.standard_trees.specs.RuleWords.{Scope as DefaultScope}
 use Rattle.standard_trees.specs.TreeStore.{is_member}
 use Rattle.page_trees.specs.Adopting.{AdoptsOnce, FindsAt, climbed}
 use Rattle.page_trees.specs.Elements.{IsInOrder}
-use Rattle.page_trees.specs.Formatting.{IsFirst, IsNamed, NoneHas, after_marker, are_few, up_to_marker}
-use Rattle.page_trees.specs.Listing.{AdoptsBy, IsAdopted, LeadsTo, RoundEnd, RoundEnds, StaysAlike, Unlists, has_few, listed_named, lists_once, lists_well}
+use Rattle.page_trees.specs.Formatting.{IsFirst, IsNamed, NoneHas, after_marker, up_to_marker}
+use Rattle.page_trees.specs.Listing.{AdoptsBy, IsAdopted, LeadsTo, RoundEnd, RoundEnds, StaysAlike, Unlists, listed_named, lists_well}
 use Rattle.page_trees.specs.Names.{text_of}
 use Rattle.page_trees.specs.Popping.{first_from}
 use Rattle.page_trees.specs.Reopening.{index_at, is_this}
@@ -26,11 +26,9 @@ use Rattle.page_trees.specs.declared.name.Name.{Name}
 use Rattle.page_trees.specs.declared.stack.Open.{Open}
 use Rattle.page_trees.proofs.AgencyEnds.{cut_built, index_some, is_open, no_block, not_open, not_scoped, scoped}
 use Rattle.page_trees.proofs.FoundEntries.{finds}
-use Rattle.page_trees.proofs.ListedEntries.{all_turned, few_there}
+use Rattle.page_trees.proofs.ListedEntries.{all_turned}
 use Rattle.page_trees.proofs.FurthestBlocks.{block_found}
-use Rattle.page_trees.proofs.NamesAgree.{both}
-use Rattle.page_trees.proofs.ShorterLists.{left_few, left_once}
-use Rattle.page_trees.proofs.SplitLists.{true_both}
+use Rattle.page_trees.proofs.ShorterLists.{left_once}
 
 -- ---- the element that was found
 
@@ -40,22 +38,22 @@ first_stands P Q (Entry.Marker ∷ es) x all is = absurd is
 first_stands P Q (Entry.Element o ∷ es) x all (inl here) = subst (λ (p : Open). P (Entry.Element p)) here.1 (All-head P (Entry.Element o) es all)
 first_stands P Q (Entry.Element o ∷ es) x all (inr later) = first_stands P Q es x (All-tail P (Entry.Element o) es all) later.1
 
--- what the search for a name in a short list returns
+-- what the search for a name in the list returns
 abbrev pub Named : Name → TreeState → Option Open → Type 0
-Named name s r = are_few s.formatting ≡ true → MatchOption r (NoneHas (IsNamed name) (after_marker s.formatting)) (IsFirst (IsNamed name) (after_marker s.formatting))
+Named name s r = MatchOption r (NoneHas (IsNamed name) (after_marker s.formatting)) (IsFirst (IsNamed name) (after_marker s.formatting))
 
-pub found_stands : (name : Name) (s : TreeState) (t : GrowingTree) (r : Option Open) (x : Open) → Named name s r → r ≡ Some x → has_few t ≡ true → Builds s t → EntryStands t.nodes (Entry.Element x)
-found_stands name s t r x is some few b =
+pub found_stands : (name : Name) (s : TreeState) (t : GrowingTree) (r : Option Open) (x : Open) → Named name s r → r ≡ Some x → Builds s t → EntryStands t.nodes (Entry.Element x)
+found_stands name s t r x is some b =
     first_stands (EntryStands t.nodes) (IsNamed name) (reverse s.formatting) x (all_turned (EntryStands t.nodes) s.formatting b.listed.elements)
-    (subst (λ (q : Option Open). MatchOption q (NoneHas (IsNamed name) (after_marker s.formatting)) (IsFirst (IsNamed name) (after_marker s.formatting))) some (is (few_there s t b few)))
+    (subst (λ (q : Option Open). MatchOption q (NoneHas (IsNamed name) (after_marker s.formatting)) (IsFirst (IsNamed name) (after_marker s.formatting))) some is)
 
-pub found_listed : (name : Name) (s : TreeState) (t : GrowingTree) (r : Option Open) (x : Open) → is_name name Name.Other ≡ false → Named name s r → r ≡ Some x → has_few t ≡ true → Builds s t →
+pub found_listed : (name : Name) (s : TreeState) (t : GrowingTree) (r : Option Open) (x : Open) → is_name name Name.Other ≡ false → Named name s r → r ≡ Some x → Builds s t →
     listed_named (text_of name) t ≡ Some x.id
-found_listed name s t r x known is some few b = sym (finds s s name r refl known is t few b) ∙ ap (option_map (λ o. o.id)) some
+found_listed name s t r x known is some b = sym (finds s s name r refl known is t b) ∙ ap (option_map (λ o. o.id)) some
 
-pub none_listed : (name : Name) (s : TreeState) (t : GrowingTree) (r : Option Open) → is_name name Name.Other ≡ false → Named name s r → r ≡ None → has_few t ≡ true → Builds s t →
+pub none_listed : (name : Name) (s : TreeState) (t : GrowingTree) (r : Option Open) → is_name name Name.Other ≡ false → Named name s r → r ≡ None → Builds s t →
     listed_named (text_of name) t ≡ None
-none_listed name s t r known is none few b = sym (finds s s name r refl known is t few b) ∙ ap (option_map (λ o. o.id)) none
+none_listed name s t r known is none b = sym (finds s s name r refl known is t b) ∙ ap (option_map (λ o. o.id)) none
 
 -- ---- one round
 
@@ -74,26 +72,17 @@ left_alike : (t : GrowingTree) (stack : List ℕ) (listed : List StandardEntry) 
 left_alike t stack listed = record { fosters = refl; found = refl; stands = λ o is. is }
 
 unlisted_well : (n : ℕ) (t : GrowingTree) → lists_well t ≡ true → lists_well (unlisted n t) ≡ true
-unlisted_well n t well =
-    let parts = both (has_few t) (lists_once t.listed) well in
-    true_both (has_few (unlisted n t)) (lists_once (unlisted n t).listed) (left_few (λ entry. not (is_entry n entry)) t.listed parts.0) (left_once (λ entry. not (is_entry n entry)) t.listed parts.1)
-
-few_of : (t : GrowingTree) → lists_well t ≡ true → has_few t ≡ true
-few_of t well = (both (has_few t) (lists_once t.listed) well).0
-
-once_of : (t : GrowingTree) → lists_well t ≡ true → lists_once t.listed ≡ true
-once_of t well = (both (has_few t) (lists_once t.listed) well).1
+unlisted_well n t well = left_once (λ entry. not (is_entry n entry)) t.listed well
 
 -- it is not open
 pub round_unlisted : (name : Name) (foster : Bool) (s new : TreeState) (r : Option Open) (x : Open) → is_name name Name.Other ≡ false → Named name s r → r ≡ Some x →
     None ≡ index_at (last_place (is_this x.name x.id) s.stack) → Unlists x.id s new → RoundEnds name foster s new (Some true)
 round_unlisted name foster s new r x known is some closed unlists t well fosters b =
-    let few = few_of t well in
-    let stands = found_stands name s t r x is some few b in
+    let stands = found_stands name s t r x is some b in
     record {
       after = unlisted x.id t;
-      leads = record { built = unlists t few (once_of t well) b; well = unlisted_well x.id t well; alike = left_alike t t.stack (unlisted x.id t).listed };
-      result = λ again. round_is (text_of name) x.id t again (found_listed name s t r x known is some few b)
+      leads = record { built = unlists t well b; well = unlisted_well x.id t well; alike = left_alike t t.stack (unlisted x.id t).listed };
+      result = λ again. round_is (text_of name) x.id t again (found_listed name s t r x known is some b)
           ∙ ap (λ c. by_open c (unlisted x.id t) (by_open (in_scope (nat_eq x.id) (ends_scope_of DefaultScope t) t.stack) t (by_block x.id t again (last_special t None (before_in x.id t.stack)))))
           (not_open s t x b stands closed);
     }
@@ -102,12 +91,11 @@ round_unlisted name foster s new r x known is some closed unlists t well fosters
 pub round_out_of_scope : (name : Name) (foster : Bool) (s : TreeState) (r : Option Open) (x : Open) (p : ℕ) → is_name name Name.Other ≡ false → Named name s r → r ≡ Some x →
     last_place (is_this x.name x.id) s.stack ≡ p + 1 → (last_place ends_scope s.stack ≤ p + 1 → ⊥) → RoundEnds name foster s s (Some true)
 round_out_of_scope name foster s r x p known is some place out t well fosters b =
-    let few = few_of t well in
-    let stands = found_stands name s t r x is some few b in
+    let stands = found_stands name s t r x is some b in
     record {
       after = t;
       leads = record { built = b; well = well; alike = left_alike t t.stack t.listed };
-      result = λ again. round_is (text_of name) x.id t again (found_listed name s t r x known is some few b)
+      result = λ again. round_is (text_of name) x.id t again (found_listed name s t r x known is some b)
           ∙ ap (λ c. by_open c (unlisted x.id t) (by_open (in_scope (nat_eq x.id) (ends_scope_of DefaultScope t) t.stack) t (by_block x.id t again (last_special t None (before_in x.id t.stack)))))
           (is_open s t x p b stands place)
           ∙ ap (λ c. by_open c t (by_block x.id t again (last_special t None (before_in x.id t.stack)))) (not_scoped s t x p b stands place out);
@@ -118,17 +106,16 @@ pub round_popped : (name : Name) (foster : Bool) (s cut new : TreeState) (r : Op
     last_place (is_this x.name x.id) s.stack ≡ p + 1 → last_place ends_scope s.stack ≤ p + 1 → None ≡ first_from is_special_element (p + 1) (drop (p + 1) s.stack) →
     cut ≡ record s { stack = take p s.stack } → Unlists x.id cut new → RoundEnds name foster s new (Some true)
 round_popped name foster s cut new r x p known is some place within none e unlists t well fosters b =
-    let few = few_of t well in
-    let stands = found_stands name s t r x is some few b in
+    let stands = found_stands name s t r x is some b in
     let popped_there : GrowingTree = with_stack t (past (nat_eq x.id) t.stack) in
     record {
       after = unlisted x.id popped_there;
       leads = record {
-        built = unlists popped_there few (once_of t well) (subst (λ (u : TreeState). Builds u popped_there) (sym e) (cut_built s t x p b stands place));
+        built = unlists popped_there well (subst (λ (u : TreeState). Builds u popped_there) (sym e) (cut_built s t x p b stands place));
         well = unlisted_well x.id popped_there well;
         alike = left_alike t popped_there.stack (unlisted x.id t).listed;
       };
-      result = λ again. round_is (text_of name) x.id t again (found_listed name s t r x known is some few b)
+      result = λ again. round_is (text_of name) x.id t again (found_listed name s t r x known is some b)
           ∙ ap (λ c. by_open c (unlisted x.id t) (by_open (in_scope (nat_eq x.id) (ends_scope_of DefaultScope t) t.stack) t (by_block x.id t again (last_special t None (before_in x.id t.stack)))))
           (is_open s t x p b stands place)
           ∙ ap (λ c. by_open c t (by_block x.id t again (last_special t None (before_in x.id t.stack)))) (scoped s t x p b stands place within)
@@ -140,9 +127,8 @@ pub round_goes_on : (name : Name) (foster : Bool) (s new : TreeState) (r : Optio
     last_place (is_this x.name x.id) s.stack ≡ p + 1 → last_place ends_scope s.stack ≤ p + 1 → Some q ≡ first_from is_special_element (p + 1) (drop (p + 1) s.stack) →
     ((i : ℕ) → FindsAt x.id i s.formatting → b.index ≡ i) → b.renewed ≡ false → AdoptsOnce p q b foster s new → RoundEnds name foster s new None
 round_goes_on name foster s new r x p q b known is some order place within block marks renewed adopts t well fosters built =
-    let few = few_of t well in
-    let stands = found_stands name s t r x is some few built in
-    let named = found_listed name s t r x known is some few built in
+    let stands = found_stands name s t r x is some built in
+    let named = found_listed name s t r x known is some built in
     let it = block_found s t x p q b built well stands order place within block (text_of name) named marks renewed in
     record {
       after = adopted_by it.ladder.element.id it.ladder.block.id (climbed it.ladder t);
@@ -157,7 +143,7 @@ round_goes_on name foster s new r x p q b known is some order place within block
     }
 
 pub round_none : (name : Name) (foster : Bool) (s : TreeState) (r : Option Open) → is_name name Name.Other ≡ false → Named name s r → r ≡ None → RoundEnds name foster s s (Some false)
-round_none name foster s r known is none t well fosters b = (none_listed name s t r known is none (few_of t well) b, record { built = b; well = well; alike = left_alike t t.stack t.listed })
+round_none name foster s r known is none t well fosters b = (none_listed name s t r known is none b, record { built = b; well = well; alike = left_alike t t.stack t.listed })
 
 -- ---- all rounds
 
@@ -169,9 +155,9 @@ by_current b x y = elim b [ true ↦ x | false ↦ y ]
 
 -- the current node has the name, and is not in the list
 pub adopts_current : (name : Name) (foster : Bool) (old new : TreeState) (bare : Bool) → is_name name Name.Other ≡ false →
-    ((t : GrowingTree) → has_few t ≡ true → Builds old t → bare ≡ is_bare name t) → bare ≡ true → Does popped old new → AdoptsBy adoption name foster old new true
+    ((t : GrowingTree) → Builds old t → bare ≡ is_bare name t) → bare ≡ true → Does popped old new → AdoptsBy adoption name foster old new true
 adopts_current name foster old new bare known tells is does t well fosters b =
-    let same : adoption (text_of name) t ≡ popped t = ap (λ c. by_current c (popped t) (adopt 8 (text_of name) t)) (sym (tells t (few_of t well) b) ∙ is) in
+    let same : adoption (text_of name) t ≡ popped t = ap (λ c. by_current c (popped t) (adopt 8 (text_of name) t)) (sym (tells t b) ∙ is) in
     record { after = popped t; leads = record { built = does t b; well = well; alike = left_alike t (popped t).stack t.listed }; result = same }
 
 pub leads_both : (t u after : GrowingTree) (mid new : TreeState) → LeadsTo t u mid → LeadsTo u after new → LeadsTo t after new
@@ -195,11 +181,11 @@ pub halfway_here : (name : Name) (foster : Bool) (times : ℕ) (s : TreeState) �
 halfway_here name foster times s t well fosters b = record { tree = t; leads = record { built = b; well = well; alike = left_alike t t.stack t.listed }; result = refl }
 
 -- the first of eight rounds
-pub halfway_first : (name : Name) (foster : Bool) (s : TreeState) (bare : Bool) → ((t : GrowingTree) → has_few t ≡ true → Builds s t → bare ≡ is_bare name t) → bare ≡ false → Halfway adoption name foster 8 s s
+pub halfway_first : (name : Name) (foster : Bool) (s : TreeState) (bare : Bool) → ((t : GrowingTree) → Builds s t → bare ≡ is_bare name t) → bare ≡ false → Halfway adoption name foster 8 s s
 halfway_first name foster s bare tells is t well fosters b = record {
   tree = t;
   leads = record { built = b; well = well; alike = left_alike t t.stack t.listed };
-  result = ap (λ c. by_current c (popped t) (adopt 8 (text_of name) t)) (sym (tells t (few_of t well) b) ∙ is);
+  result = ap (λ c. by_current c (popped t) (adopt 8 (text_of name) t)) (sym (tells t b) ∙ is);
 }
 
 -- a round ends the algorithm

@@ -6,7 +6,7 @@ use Rattle.page_tokens.specs.declared.token.Tag.{Tag}
 use Rattle.page_trees.specs.BodyTags.{Continues, EndsInBody, IsContinued, ends_in}
 use Rattle.page_trees.specs.Constructs.{RemembersLimits}
 use Rattle.page_trees.specs.Groups.{group_named}
-use Rattle.page_trees.specs.Listing.{ProcessesEndWhere, ProcessesStartWhere, allows_agency, formats, lists_few, starts_a, starts_nobr}
+use Rattle.page_trees.specs.Listing.{ProcessesEndWhere, ProcessesStart, ProcessesStartWhere, allows_agency, formats, starts_a, starts_nobr}
 use Rattle.page_trees.specs.declared.builder.Next.{Next}
 use Rattle.page_trees.specs.declared.builder.TreeBuilder.{TreeBuilder}
 use Rattle.page_trees.specs.declared.modes.groups.Group.{Group}
@@ -34,15 +34,15 @@ nobr_continued tag old new next remembers rule covers named = record {
   rule = λ starts within b current html stands test. rule starts within b test current stands;
 }
 
-formatting_rest : (name : Name) (tag : Tag) (old new : TreeBuilder) (next : Next) → RemembersLimits old new → ProcessesStartWhere lists_few InBody name tag old new next →
+formatting_rest : (name : Name) (tag : Tag) (old new : TreeBuilder) (next : Next) → RemembersLimits old new → ProcessesStart InBody name tag old new next →
     IsContinued Group.Formatting name tag old new next
 formatting_rest name tag old new next remembers rule = record {
   limits = remembers;
-  rule = λ starts within b current html stands test. rule starts within b test current stands;
+  rule = λ starts within b current html stands test. rule starts within b current stands;
 }
 
 pub formatting_continued : (group : Group) (name : Name) (tag : Tag) (old new : TreeBuilder) (next : Next) → group ≡ Group.Formatting → RemembersLimits old new →
-    (group_named name ≡ Group.Formatting → ProcessesStartWhere lists_few InBody name tag old new next) → Continues group name tag old new next
+    (group_named name ≡ Group.Formatting → ProcessesStart InBody name tag old new next) → Continues group name tag old new next
 formatting_continued group name tag old new next e remembers rule covers named =
     subst (λ g. IsContinued g name tag old new next) (sym e) (formatting_rest name tag old new next remembers (rule (named ∙ e)))
 

@@ -5,14 +5,12 @@ use Rattle.standard_trees.specs.Formatting.{at_bookmark, bookmarked, replaced_en
 use Rattle.standard_trees.specs.GrowingTree.{Entry as StandardEntry, Formatting, GrowingTree}
 use Rattle.standard_trees.specs.TreeStore.{Node, is_member}
 use Rattle.page_trees.specs.Adopting.{IsIndexLeft, IsMarked, entry_place}
-use Rattle.page_trees.specs.Formatting.{are_few}
 use Rattle.page_trees.specs.Listing.{lists_once}
 use Rattle.page_trees.specs.Stands.{EntryStands, IsListOf}
 use Rattle.page_trees.specs.declared.formatting.Entry.{Entry}
 use Rattle.page_trees.specs.declared.growing.adopting.Bookmark.{Bookmark}
 use Rattle.page_trees.specs.declared.stack.Open.{Open}
-use Rattle.page_trees.proofs.EntryPlaces.{IsPlacedAt, entry_inserted, entry_removed, few_set, placed_at, still_few, still_placed}
-use Rattle.std.proofs.lemmas.List.{length-append}
+use Rattle.page_trees.proofs.EntryPlaces.{IsPlacedAt, entry_inserted, entry_removed, placed_at, still_placed}
 use Rattle.page_trees.proofs.InnerLoop.{next_left, not_same}
 use Rattle.page_trees.proofs.SplitLists.{bookmarked_one, exchanged_one, listed_replaced, listed_there, lists, neither, stays, unlisted_from, unlisted_in, unlisted_one}
 
@@ -27,7 +25,6 @@ bookmark_is (Some mark) old new t = refl
 
 pub record IsBookmarked (nodes : List Node) (listed : List StandardEntry) (entries : List Entry) : Type 0 where
   pub list : IsListOf nodes listed entries
-  pub few : are_few listed ≡ true
   pub once : lists_once listed ≡ true
 
 -- what is known of the entry of the formatting element
@@ -56,22 +53,21 @@ only_entry nodes listed entries element gone new is once found absent =
       left = entry_removed nodes at.front (Formatting element) at.back entries gone (subst (λ (es : List StandardEntry). IsListOf nodes es entries) at.split is) at.long;
     }
 
-at_element : (nodes : List Node) (listed : List StandardEntry) (entries : List Entry) (element gone left : ℕ) (copy : Open) → IsOnlyEntry nodes listed entries element gone copy.id → are_few listed ≡ true → left ≡ gone →
+at_element : (nodes : List Node) (listed : List StandardEntry) (entries : List Entry) (element gone left : ℕ) (copy : Open) → IsOnlyEntry nodes listed entries element gone copy.id → left ≡ gone →
     EntryStands nodes (Entry.Element copy) → IsBookmarked nodes (map (replaced_entry element copy.id) listed) (insert (remove entries gone) left (Entry.Element copy))
-at_element nodes listed entries element gone left copy o few e stands =
+at_element nodes listed entries element gone left copy o e stands =
     let now : map (replaced_entry element copy.id) listed ≡ o.at.front ++ Formatting copy.id ∷ o.at.back =
     ap (λ (es : List StandardEntry). map (replaced_entry element copy.id) es) o.at.split ∙ exchanged_one element copy.id o.at.front o.at.back o.before o.behind in
     record {
       list = subst (λ (es : List StandardEntry). IsListOf nodes es (insert (remove entries gone) left (Entry.Element copy))) (sym now)
           (entry_inserted nodes o.at.front o.at.back (remove entries gone) left (Entry.Element copy) o.left (o.at.long ∙ sym e) stands);
-      few = ap (λ (es : List StandardEntry). are_few es) now ∙ few_set o.at.front (Formatting element) (Formatting copy.id) o.at.back (ap (λ (es : List StandardEntry). are_few es) (sym o.at.split) ∙ few);
       once = ap lists_once now ∙ listed_replaced copy.id o.at.front o.at.back o.new_before o.new_behind o.others;
     }
 
-at_copy : (nodes : List Node) (listed : List StandardEntry) (entries : List Entry) (element gone left mark i : ℕ) (copy : Open) → IsOnlyEntry nodes listed entries element gone copy.id → are_few listed ≡ true →
+at_copy : (nodes : List Node) (listed : List StandardEntry) (entries : List Entry) (element gone left mark i : ℕ) (copy : Open) → IsOnlyEntry nodes listed entries element gone copy.id →
     entry_place mark (listed) ≡ Some i → nat_eq element mark ≡ false → IsIndexLeft gone (i + 1) left → EntryStands nodes (Entry.Element copy) →
     IsBookmarked nodes (bookmarked copy.id mark (filter (stays element) listed)) (insert (remove entries gone) left (Entry.Element copy))
-at_copy nodes listed entries element gone left mark i copy o few found other is_left stands =
+at_copy nodes listed entries element gone left mark i copy o found other is_left stands =
     let still = still_placed mark i o.at.front (Formatting element) o.at.back other (ap (entry_place mark) (sym o.at.split) ∙ found) in
     let next = next_left (length o.at.back) i still.index left still.left still.other (subst (λ (k : ℕ). IsIndexLeft k (i + 1) left) (sym o.at.long) is_left) in
     let spot = placed_at mark still.index (o.at.front ++ o.at.back) still.placed in
@@ -81,24 +77,20 @@ at_copy nodes listed entries element gone left mark i copy o few found other is_
     ∙ ap (bookmarked copy.id mark) (unlisted_one element o.at.front o.at.back o.before o.behind ∙ spot.split) ∙ bookmarked_one copy.id mark spot.front spot.back spot.before in
     let absent = unlisted_in copy.id spot.front (Formatting mark ∷ spot.back)
     (ap (lists copy.id) (sym spot.split) ∙ unlisted_from copy.id o.at.front o.at.back o.new_before o.new_behind) in
-    let same = ap (λ (es : List StandardEntry). length es) o.at.split ∙ length-append o.at.front (Formatting element ∷ o.at.back) in
-    let again = sym (length-append o.at.front o.at.back) ∙ ap (λ (es : List StandardEntry). length es) spot.split ∙ length-append spot.front (Formatting mark ∷ spot.back) in
-    let after = length-append spot.front (Formatting copy.id ∷ Formatting mark ∷ spot.back) in
     record {
       list = subst (λ (es : List StandardEntry). IsListOf nodes es (insert (remove entries gone) left (Entry.Element copy))) (sym now)
           (entry_inserted nodes spot.front (Formatting mark ∷ spot.back) (remove entries gone) left (Entry.Element copy)
           (subst (λ (es : List StandardEntry). IsListOf nodes es (remove entries gone)) spot.split o.left) (omega (arith, long, next)) stands);
-      few = ap (λ (es : List StandardEntry). are_few es) now ∙ still_few listed (spot.front ++ Formatting copy.id ∷ Formatting mark ∷ spot.back) (omega (arith, same, again, after)) few;
       once = ap lists_once now ∙ listed_replaced copy.id spot.front (Formatting mark ∷ spot.back) absent.0 absent.1 (ap lists_once (sym spot.split) ∙ o.others);
     }
 
 pub bookmarked_list : (nodes : List Node) (listed : List StandardEntry) (entries : List Entry) (element gone left : ℕ) (opened : List ℕ) (mark : Option ℕ) (b : Bookmark) (copy : Open) → IsListOf nodes listed entries →
-    lists_once listed ≡ true → are_few listed ≡ true → entry_place element listed ≡ Some gone → IsMarked element opened mark b listed → is_member element opened ≡ false → IsIndexLeft gone b.index left →
+    lists_once listed ≡ true → entry_place element listed ≡ Some gone → IsMarked element opened mark b listed → is_member element opened ≡ false → IsIndexLeft gone b.index left →
     EntryStands nodes (Entry.Element copy) → lists copy.id listed ≡ false → IsBookmarked nodes (list_at mark element copy.id listed) (insert (remove entries gone) left (Entry.Element copy))
-bookmarked_list nodes listed entries element gone left opened None b copy is once few found marked apart is_left stands absent =
+bookmarked_list nodes listed entries element gone left opened None b copy is once found marked apart is_left stands absent =
     let both : Some gone ≡ Some b.index = sym found ∙ marked.1 in
     let same : gone ≡ b.index = cc in
-    at_element nodes listed entries element gone left copy (only_entry nodes listed entries element gone copy.id is once found absent) few (is_left.1 (omega (arith, same)) ∙ sym same) stands
-bookmarked_list nodes listed entries element gone left opened (Some m) b copy is once few found marked apart is_left stands absent =
-    at_copy nodes listed entries element gone left m marked.2.0 copy (only_entry nodes listed entries element gone copy.id is once found absent) few marked.2.1
+    at_element nodes listed entries element gone left copy (only_entry nodes listed entries element gone copy.id is once found absent) (is_left.1 (omega (arith, same)) ∙ sym same) stands
+bookmarked_list nodes listed entries element gone left opened (Some m) b copy is once found marked apart is_left stands absent =
+    at_copy nodes listed entries element gone left m marked.2.0 copy (only_entry nodes listed entries element gone copy.id is once found absent) marked.2.1
     (not_same element m opened marked.1 apart) (subst (λ (k : ℕ). IsIndexLeft gone k left) marked.2.2 is_left) stands

@@ -13,7 +13,7 @@ use Rattle.standard_trees.specs.RuleWords.{Dispatcher, Mode as StandardMode, Tex
 use Rattle.page_trees.specs.CharacterSteps.{Inserts, fits_in, fits_mode, goes_to_mode, has_begun, has_no_null, is_nowhere, is_run}
 use Rattle.page_trees.specs.CharacterTexts.{TakesCharacters, TakesNoNulls, TakesPiece, TakesText, fits_piece, front_spaces, is_text, past_spaces, unskipped}
 use Rattle.page_trees.specs.Constructs.{Constructs, RemembersLimits, WithinLimits, state_for}
-use Rattle.page_trees.specs.CoveredTurns.{FewTurns, ProcessesToken, TakesTokens, covered_turn, is_text_mode}
+use Rattle.page_trees.specs.CoveredTurns.{ProcessesToken, TakesTokens, covered_turn, is_text_mode}
 use Rattle.page_trees.specs.Modes.{drops_letters, joins_spaces, mode_of}
 use Rattle.standard_order.specs.Turns.{run_while, tree_step_while, tree_steps_while}
 use Rattle.page_trees.specs.declared.builder.Mode.{Mode}
@@ -21,6 +21,7 @@ use Rattle.page_trees.specs.declared.builder.TreeBuilder.{TreeBuilder}
 use Rattle.page_trees.specs.declared.chars.Run.{Run}
 use Rattle.page_trees.specs.declared.modes.Token.{Token}
 use Rattle.page_trees.proofs.CharactersBehind.{no_skip, no_state}
+use Rattle.page_trees.proofs.BoundedTurns.{covers_it}
 use Rattle.page_trees.proofs.CoveredRuns.{is_covered}
 use Rattle.page_trees.proofs.FollowingTurns.{in_turn}
 use Rattle.page_trees.proofs.KeptByCharacters.{char_keeps}
@@ -96,17 +97,17 @@ steps_begun depth (c ∷ cs) b x e h =
 -- ---- several characters
 
 pub take_none : (s : TreeBuilder) → TakesCharacters [] s s
-take_none s within b e stands depth few x h = subst (λ (y : Building). Constructs s y) (same_Some _ _ h) stands
+take_none s within b e stands depth x h = subst (λ (y : Building). Constructs s y) (same_Some _ _ h) stands
 
 pub take_both : (xs ys : List ℕ) (old mid new : TreeBuilder) → RemembersLimits mid new → TakesCharacters xs old mid → TakesCharacters ys mid new → TakesCharacters (xs ++ ys) old new
-take_both xs ys old mid new limits first second within b e stands depth few x h =
+take_both xs ys old mid new limits first second within b e stands depth x h =
     let parts = first_steps covered_turn depth (chars_of xs) (chars_of ys) b x
     (sym (ap (tree_steps_while covered_turn depth b) (map-append (λ x. AChar x) xs ys)) ∙ h) in
-    second within parts.0 (steps_begun depth xs b parts.0 e parts.1) (first (limits within) b e stands depth few parts.0 parts.1) depth few x parts.2
+    second within parts.0 (steps_begun depth xs b parts.0 e parts.1) (first (limits within) b e stands depth parts.0 parts.1) depth x parts.2
 
 pub take_run : (kind : Run) (text : Bor (List ℕ)) (c : ℕ) (cs : List ℕ) (old new : TreeBuilder) → text.now ≡ encode_utf8_all (c ∷ cs) → is_run kind (c ∷ cs) ≡ true →
     fits_mode old.mode kind (c ∷ cs) ≡ true → ProcessesToken (Token.Run kind text) old new → TakesCharacters (c ∷ cs) old new
-take_run kind text c cs old new spelt is fits rule within b e stands depth few x h =
+take_run kind text c cs old new spelt is fits rule within b e stands depth x h =
     rule within (chars_of cs) (with_next (AChar c) b) (record {
       first = c;
       rest = cs;
@@ -116,7 +117,7 @@ take_run kind text c cs old new spelt is fits rule within b e stands depth few x
       token = refl;
       attrs = refl;
       others_are = refl;
-    }) (begun_again old b c e stands) depth few x
+    }) (begun_again old b c e stands) depth x
     (sym (ap (option_and_then (λ after. tree_steps_while covered_turn depth after (chars_of cs))) (begun_while depth b c (no_skip b e))) ∙ h)
 
 pub take_piece : (kind : Run) (text : Bor (List ℕ)) (old new : TreeBuilder) → ProcessesToken (Token.Run kind text) old new → is_empty text.now ≡ false → TakesPiece kind text.now old new
@@ -143,13 +144,13 @@ text_is _ e = absurd (true≢false (sym e))
 -- a text in the mode "text"
 pub take_in_text : (text : List ℕ) (old new : TreeBuilder) → old.mode ≡ Mode.Text → is_empty text ≡ false →
     ((c : ℕ) (cs : List ℕ) → text ≡ encode_utf8_all (c ∷ cs) → Inserts (c ∷ cs) old new) → TakesText text old new
-take_in_text text old new is some rule [] spelt within b e stands depth few x h = absurd (true≢false (sym (ap (λ (xs : List ℕ). is_empty xs) spelt) ∙ some))
-take_in_text text old new is some rule (c ∷ cs) spelt within b e stands depth few x h =
+take_in_text text old new is some rule [] spelt within b e stands depth x h = absurd (true≢false (sym (ap (λ (xs : List ℕ). is_empty xs) spelt) ∙ some))
+take_in_text text old new is some rule (c ∷ cs) spelt within b e stands depth x h =
     let after : Building = with_next (AChar c) b in
     let begins : Constructs old after = begun_again old b c e stands in
     let parts = in_turn (tree_step_while covered_turn depth b (AChar c)) (λ after. tree_steps_while covered_turn depth after (chars_of cs)) x h in
     let turn = sym (begun_while depth b c (no_skip b e)) ∙ parts.1 in
-    let covered = is_covered after (turn_passes covered_turn depth after parts.0 turn) in
+    let covered = is_covered after (covers_it after (turn_passes covered_turn depth after parts.0 turn)) in
     let goes : goes_to_mode b.tree ≡ true =
     sym (ap (λ (m : StandardMode). not (is_text_mode m) || goes_to_mode b.tree) (stands.mode ∙ ap mode_of is)) ∙ covered.text in
     put_in_text old new c cs is after refl goes covered.covered begins (rule c cs spelt within after begins) depth x
@@ -252,23 +253,23 @@ nowhere (Some state) e = absurd (cc)
 
 -- the first character is not skipped
 first_kept : (c : ℕ) (cs : List ℕ) (old mid new : TreeBuilder) → mid ≡ record old { skip_line_feed = false } → TakesCharacters (c ∷ cs) mid new → old.switch ≡ None → WithinLimits new →
-    (b : Building) → Constructs old b → (depth : ℕ) → FewTurns depth → (x : Building) →
+    (b : Building) → Constructs old b → (depth : ℕ) (x : Building) →
     option_and_then (λ after. tree_steps_while covered_turn depth after (chars_of cs)) (run_while covered_turn depth Dispatcher (with_next (AChar c) b)) ≡ Some x → Constructs new x
-first_kept c cs old mid new e rule quiet within b stands depth few x h =
-    rule within (with_next (AChar c) b) refl (begun old mid (AChar c) e quiet b stands) depth few x
+first_kept c cs old mid new e rule quiet within b stands depth x h =
+    rule within (with_next (AChar c) b) refl (begun old mid (AChar c) e quiet b stands) depth x
     (ap (option_and_then (λ after. tree_steps_while covered_turn depth after (chars_of cs))) (begun_while depth (with_next (AChar c) b) c refl) ∙ h)
 
 pub take_tokens : (text rest : List ℕ) (old mid new : TreeBuilder) → is_empty text ≡ false → rest ≡ unskipped old.skip_line_feed text → mid ≡ record old { skip_line_feed = false } →
     TakesText rest mid new → (cs : List ℕ) → text ≡ encode_utf8_all cs → TakesTokens (chars_of cs) old new
-take_tokens text rest old mid new some is e rule [] spelt quiet within b stands depth few x h = absurd (true≢false (sym (ap (λ (xs : List ℕ). is_empty xs) spelt) ∙ some))
-take_tokens text rest old mid new some is e rule (c ∷ cs) spelt quiet within b stands depth few x h = elim (cases_Bool old.skip_line_feed) [
-  | inr off ↦ first_kept c cs old mid new e (given false off) quiet within b stands depth few x
+take_tokens text rest old mid new some is e rule [] spelt quiet within b stands depth x h = absurd (true≢false (sym (ap (λ (xs : List ℕ). is_empty xs) spelt) ∙ some))
+take_tokens text rest old mid new some is e rule (c ∷ cs) spelt quiet within b stands depth x h = elim (cases_Bool old.skip_line_feed) [
+  | inr off ↦ first_kept c cs old mid new e (given false off) quiet within b stands depth x
       (sym (ap (option_and_then (λ after. tree_steps_while covered_turn depth after (chars_of cs))) (begun_while depth b c (stands.skip ∙ off))) ∙ h)
   | inl on ↦ elim (cases_Bool (c == 10)) [
     | inl feed ↦ subst (λ (xs : List ℕ). TakesCharacters xs mid new) (ap (λ (y : Bool). if y then cs else c ∷ cs) feed) (given true on) within (with_next (AChar c) b) refl
-        (begun old mid (AChar c) e quiet b stands) depth few x
+        (begun old mid (AChar c) e quiet b stands) depth x
         (sym (ap (option_and_then (λ after. tree_steps_while covered_turn depth after (chars_of cs))) (skipped_while depth b c (stands.skip ∙ on) feed)) ∙ h)
-    | inr other ↦ first_kept c cs old mid new e (subst (λ (xs : List ℕ). TakesCharacters xs mid new) (ap (λ (y : Bool). if y then cs else c ∷ cs) other) (given true on)) quiet within b stands depth few x
+    | inr other ↦ first_kept c cs old mid new e (subst (λ (xs : List ℕ). TakesCharacters xs mid new) (ap (λ (y : Bool). if y then cs else c ∷ cs) other) (given true on)) quiet within b stands depth x
         (sym (ap (option_and_then (λ after. tree_steps_while covered_turn depth after (chars_of cs))) (other_while depth b c other)) ∙ h)
   ]
 ]
@@ -277,6 +278,6 @@ take_tokens text rest old mid new some is e rule (c ∷ cs) spelt quiet within b
     given skip f = rule (unskipped skip (c ∷ cs)) (is ∙ ap (λ (y : Bool). unskipped y text) f ∙ ap (λ (xs : List ℕ). unskipped skip xs) spelt ∙ unskipped_encoded skip (c ∷ cs))
 
 pub take_no_tokens : (text : List ℕ) (s : TreeBuilder) → is_empty text ≡ true → (cs : List ℕ) → text ≡ encode_utf8_all cs → TakesTokens (chars_of cs) s s
-take_no_tokens text s none cs spelt quiet within b stands depth few x h =
+take_no_tokens text s none cs spelt quiet within b stands depth x h =
     subst (λ (y : Building). Constructs s y)
     (same_Some _ _ (subst (λ (xs : List ℕ). tree_steps_while covered_turn depth b (chars_of xs) ≡ Some x) (none_encoded cs (sym spelt ∙ empty_is text none)) h)) stands

@@ -1,14 +1,14 @@
 -- What comes before the element of a start tag `a` or `nobr` is made, where another one is in the list or in scope.
 use Rattle.std.proofs.Common.{◌≡◌, ℕ, ◌&&◌, ◌||◌, not, Bool, true, false, [], ◌∷◌, codes, refl, sym, ap, subst, ◌∙◌, Option, Some, None, true≢false}
 use Rattle.standard_trees.specs.Building.{Building, holds, is_present, own_name, perform, with_tree}
-use Rattle.standard_trees.specs.Formatting.{adoption, is_entry, last_listed, unlisted, without_found}
+use Rattle.standard_trees.specs.Formatting.{adoption, last_listed, unlisted, without_found}
 use Rattle.standard_trees.specs.GrowingTree.{GrowingTree, unstacked}
 use Rattle.standard_trees.specs.RuleWords.{AdoptionAgency, DropFound, FindListed, InScope, Listed, Scope, These}
 use Rattle.page_tokens.specs.declared.token.Tag.{Tag}
-use Rattle.page_trees.specs.BodyTags.{ActsWhere, LeavesFew, acted}
+use Rattle.page_trees.specs.BodyTags.{ActsWhere, acted}
 use Rattle.page_trees.specs.Constructs.{Constructs, IsCurrentTag, WithinLimits}
-use Rattle.page_trees.specs.Listing.{AdoptsFor, FindsEntry, FindsListed, LeadsTo, Unlists, Unstacks, allows_agency, closes_nobr, closing_nobr, dropping_a, drops_a, has_few}
-use Rattle.page_trees.specs.Listing.{lists_few, lists_once}
+use Rattle.page_trees.specs.Listing.{AdoptsFor, FindsEntry, FindsListed, LeadsTo, Unlists, Unstacks, allows_agency, closes_nobr, closing_nobr, dropping_a, drops_a}
+use Rattle.page_trees.specs.Listing.{lists_once}
 use Rattle.page_trees.specs.Stands.{Builds, EntryStands}
 use Rattle.page_trees.specs.TreeState.{TreeState}
 use Rattle.page_trees.specs.declared.builder.TreeBuilder.{TreeBuilder}
@@ -18,7 +18,6 @@ use Rattle.page_trees.specs.declared.stack.Open.{Open}
 use Rattle.page_trees.proofs.AgencyRounds.{Named, found_stands}
 use Rattle.page_trees.proofs.BuilderSteps.{moved}
 use Rattle.page_trees.proofs.NamesAgree.{both}
-use Rattle.page_trees.proofs.ShorterLists.{left_few}
 use Rattle.page_trees.proofs.TableRules.{own_is}
 use Rattle.page_trees.proofs.TableTags.{current_kept}
 
@@ -26,8 +25,8 @@ use Rattle.page_trees.proofs.TableTags.{current_kept}
 
 pub finds_entry : (name : Name) (view old : TreeState) (r : Option Open) → view ≡ old → Named name view r → FindsEntry old r
 finds_entry name view old None same named = tt
-finds_entry name view old (Some o) same named = λ t few b.
-    found_stands name old t (Some o) o (subst (λ (s : TreeState). Named name s (Some o)) same named) refl few b
+finds_entry name view old (Some o) same named = λ t b.
+    found_stands name old t (Some o) o (subst (λ (s : TreeState). Named name s (Some o)) same named) refl b
 
 -- `found` is no part of what the code keeps
 found_built : (s : TreeState) (t : GrowingTree) (n : Option ℕ) → Builds s t → Builds s (record t { found = n })
@@ -55,12 +54,12 @@ with_found b = record b.tree { found = listed_a b }
 
 -- the entry and the element are removed
 both_removed : (mid : TreeBuilder) (tree left : TreeState) (o : Open) (b : Building) → Unlists o.id mid.tree tree → Unstacks o tree left → Constructs mid b →
-    has_few b.tree ≡ true → lists_once b.tree.listed ≡ true → EntryStands b.tree.nodes (Entry.Element o) → b.tree.found ≡ Some o.id →
+    lists_once b.tree.listed ≡ true → EntryStands b.tree.nodes (Entry.Element o) → b.tree.found ≡ Some o.id →
     Constructs (record mid { tree = left }) (perform DropFound b)
 unfolding perform
-both_removed mid tree left o b unlists unstacks c few once stands found =
+both_removed mid tree left o b unlists unstacks c once stands found =
     let t : GrowingTree = unstacked o.id (unlisted o.id b.tree) in
-    let built : Builds left t = unstacks (unlisted o.id b.tree) stands (unlists b.tree few once c.tree) in
+    let built : Builds left t = unstacks (unlisted o.id b.tree) stands (unlists b.tree once c.tree) in
     subst (λ (n : Option ℕ). Constructs (record mid { tree = left }) (with_tree b (without_found n b.tree))) (sym found)
     (moved mid (record mid { tree = left }) left mid.fault mid.too_deep refl b t c built refl)
 
@@ -85,26 +84,11 @@ pub a_dropped : (tag : Tag) (old mid new : TreeBuilder) (tree left : TreeState) 
     AdoptsFor Name.A old mid → Unlists o.id mid.tree tree → Unstacks o tree left → ActsWhere drops_a Name.A tag dropping_a old new
 unfolding perform
 a_dropped tag old mid new tree left o e finds entry adopts unlists unstacks starts within b test current c =
-    let parts = both (holds (Listed (These (codes "a" ∷ []))) b) _ test in
-    let few : has_few b.tree ≡ true = (both (has_few b.tree) (lists_once b.tree.listed) parts.1).0 in
     let run = agency_run tag old mid new left b e adopts within test current c in
     let after : GrowingTree = adoption (own_name b.token) (with_found b) in
-    let well = both (has_few after) (lists_once after.listed) run.leads.well in
-    let stands : EntryStands after.nodes (Entry.Element o) = run.leads.alike.stands o (entry b.tree few c.tree) in
+    let stands : EntryStands after.nodes (Entry.Element o) = run.leads.alike.stands o (entry b.tree c.tree) in
     subst (λ (s : TreeBuilder). Constructs s (acted dropping_a b)) (sym e)
-    (both_removed mid tree left o (with_tree b after) unlists unstacks run.constructs well.0 well.1 stands (run.leads.alike.found ∙ sym (finds b.tree few c.tree)))
-
-found_few : (t : GrowingTree) (n : Option ℕ) → has_few t ≡ true → has_few (without_found n t) ≡ true
-found_few t None few = few
-found_few t (Some n) few = left_few (λ entry. not (is_entry n entry)) t.listed few
-
--- afterwards the list is still short
-pub a_left_few : (tag : Tag) (old mid new : TreeBuilder) (left : TreeState) → new ≡ record mid { tree = left } → AdoptsFor Name.A old mid → LeavesFew drops_a Name.A tag dropping_a old new
-unfolding perform
-a_left_few tag old mid new left e adopts starts within b test current c =
-    let run = agency_run tag old mid new left b e adopts within test current c in
-    let after : GrowingTree = adoption (own_name b.token) (with_found b) in
-    found_few after after.found (both (has_few after) (lists_once after.listed) run.leads.well).0
+    (both_removed mid tree left o (with_tree b after) unlists unstacks run.constructs run.leads.well stands (run.leads.alike.found ∙ sym (finds b.tree c.tree)))
 
 no_a : (o : Option ℕ) → None ≡ o → is_present o ≡ true → ⊥
 no_a None e h = true≢false (sym h)
@@ -114,13 +98,10 @@ no_a (Some n) e h = cc
 none_there : {A : Type 0} (old : TreeBuilder) (b : Building) → FindsListed Name.A old.tree None → drops_a b ≡ true → Constructs old b → A
 none_there old b finds test c =
     let parts = both (holds (Listed (These (codes "a" ∷ []))) b) _ test in
-    absurd (no_a (listed_a b) (finds b.tree (both (has_few b.tree) (lists_once b.tree.listed) parts.1).0 c.tree) parts.0)
+    absurd (no_a (listed_a b) (finds b.tree c.tree) parts.0)
 
 pub none_dropped : (tag : Tag) (old : TreeBuilder) → FindsListed Name.A old.tree None → ActsWhere drops_a Name.A tag dropping_a old old
 none_dropped tag old finds starts within b test current c = none_there old b finds test c
-
-pub none_left_few : (tag : Tag) (old : TreeBuilder) → FindsListed Name.A old.tree None → LeavesFew drops_a Name.A tag dropping_a old old
-none_left_few tag old finds starts within b test current c = none_there old b finds test c
 
 pub dropped_current : (tag : Tag) (b : Building) → IsCurrentTag Name.A tag b → IsCurrentTag Name.A tag (acted dropping_a b)
 dropped_current tag b c =
@@ -143,8 +124,7 @@ or_right false b e h = absurd (true≢false (sym e))
 nobr_run : (tag : Tag) (old new : TreeBuilder) (b : Building) → scoped_nobr b ≡ true → AdoptsFor Name.Nobr old new → WithinLimits new → closes_nobr b ≡ true → IsCurrentTag Name.Nobr tag b → Constructs old b →
     Constructs new (perform AdoptionAgency b) × LeadsTo b.tree (perform AdoptionAgency b).tree new.tree
 nobr_run tag old new b scoped adopts within test current c =
-    let parts = both (lists_few b) _ test in
-    adopts within b (or_right (scoped_nobr b) (allows_agency b) scoped parts.1) (own_is Name.Nobr tag b refl current) c
+    adopts within b (or_right (scoped_nobr b) (allows_agency b) scoped test) (own_is Name.Nobr tag b refl current) c
 
 pub nobr_closed : (tag : Tag) (old new : TreeBuilder) → ((b : Building) → Constructs old b → scoped_nobr b ≡ true) → AdoptsFor Name.Nobr old new →
     ActsWhere closes_nobr Name.Nobr tag closing_nobr old new
@@ -152,19 +132,8 @@ nobr_closed tag old new tells adopts starts within b test current c =
     let scoped = tells b c in
     subst (λ x. Constructs new (if_scoped x b)) (sym scoped) (nobr_run tag old new b scoped adopts within test current c).0
 
-pub nobr_closed_few : (tag : Tag) (old new : TreeBuilder) → ((b : Building) → Constructs old b → scoped_nobr b ≡ true) → AdoptsFor Name.Nobr old new →
-    LeavesFew closes_nobr Name.Nobr tag closing_nobr old new
-nobr_closed_few tag old new tells adopts starts within b test current c =
-    let scoped = tells b c in
-    let after : GrowingTree = (perform AdoptionAgency b).tree in
-    subst (λ x. lists_few (if_scoped x b) ≡ true) (sym scoped)
-    (both (has_few after) (lists_once after.listed) (nobr_run tag old new b scoped adopts within test current c).1.well).0
-
 pub nobr_left : (tag : Tag) (old : TreeBuilder) → ((b : Building) → Constructs old b → scoped_nobr b ≡ false) → ActsWhere closes_nobr Name.Nobr tag closing_nobr old old
 nobr_left tag old tells starts within b test current c = subst (λ x. Constructs old (if_scoped x b)) (sym (tells b c)) c
-
-pub nobr_left_few : (tag : Tag) (old : TreeBuilder) → ((b : Building) → Constructs old b → scoped_nobr b ≡ false) → LeavesFew closes_nobr Name.Nobr tag closing_nobr old old
-nobr_left_few tag old tells starts within b test current c = subst (λ x. lists_few (if_scoped x b) ≡ true) (sym (tells b c)) (both (lists_few b) _ test).0
 
 pub closed_current : (tag : Tag) (b : Building) → IsCurrentTag Name.Nobr tag b → IsCurrentTag Name.Nobr tag (acted closing_nobr b)
 closed_current tag b c = by (scoped_nobr b) (current_kept AdoptionAgency refl Name.Nobr tag b c)

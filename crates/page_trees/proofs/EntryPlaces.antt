@@ -1,14 +1,14 @@
 -- Entries of the list of active formatting elements are found, removed, inserted and replaced at an index.
 use Rattle.std.proofs.Common.{◌≡◌, ℕ, ◌<◌, ◌≤◌, ◌||◌, Bool, true, false, List, [], ◌∷◌, ◌++◌, map, reverse, refl, sym, ap, ◌∙◌, length, Option, Some, None, subst, suc, arith, true≢false, if◌then◌else◌}
 use Rattle.std.specs.Prelude.{All, insert, nat_eq, remove, slice_set}
-use Rattle.std.proofs.lemmas.Bool.{eq-eqb, eqb-true, lt-ltb, ltb-true}
+use Rattle.std.proofs.lemmas.Bool.{eq-eqb, eqb-true}
 use Rattle.std.proofs.lemmas.List.{append_assoc, length-append, length-map, length-reverse, reverse-append, reverse-reverse}
 use Rattle.std.proofs.lemmas.List.Elements.{All-append, All-cons, All-head, All-tail}
 use Rattle.standard_trees.specs.Formatting.{is_entry}
 use Rattle.standard_trees.specs.GrowingTree.{Entry as StandardEntry, Formatting, Marker}
 use Rattle.standard_trees.specs.TreeStore.{ContentsNode, ElementNode, Node, NodeAttr, Space, node_at}
 use Rattle.page_trees.specs.Adopting.{IsIndexLeft, entry_place}
-use Rattle.page_trees.specs.Formatting.{are_few, is_of, last_place, place_from_end}
+use Rattle.page_trees.specs.Formatting.{is_of, last_place, place_from_end}
 use Rattle.page_trees.specs.Stands.{EntryStands, IsListOf, entry_of}
 use Rattle.page_trees.specs.declared.formatting.Entry.{Entry}
 use Rattle.page_trees.proofs.KeptElements.{past_kind}
@@ -256,23 +256,6 @@ place_kept n (e ∷ front) x y back not_x not_y =
     let again = length-append front (y ∷ back) in
     ap (λ (k : ℕ). if is_entry n e then Some k else entry_place n (front ++ y ∷ back)) (again ∙ sym long)
     ∙ ap (λ (p : Option ℕ). if is_entry n e then Some (length (front ++ x ∷ back)) else p) (place_kept n front x y back not_x not_y)
-
--- ---- few entries
-
-pub still_few : (xs ys : List StandardEntry) → length ys ≤ length xs → are_few xs ≡ true → are_few ys ≡ true
-still_few xs ys le few = (let less = ltb-true (length xs) 16 few in lt-ltb (length ys) 16 (omega (arith, less, le)))
-
-pub few_set : (front : List StandardEntry) (x y : StandardEntry) (back : List StandardEntry) → are_few (front ++ x ∷ back) ≡ true → are_few (front ++ y ∷ back) ≡ true
-few_set front x y back few =
-    let long = length-append front (x ∷ back) in
-    let again = length-append front (y ∷ back) in
-    still_few (front ++ x ∷ back) (front ++ y ∷ back) (omega (arith, long, again)) few
-
-pub few_removed : (front : List StandardEntry) (x : StandardEntry) (back : List StandardEntry) → are_few (front ++ x ∷ back) ≡ true → are_few (front ++ back) ≡ true
-few_removed front x back few =
-    let long = length-append front (x ∷ back) in
-    let again = length-append front back in
-    still_few (front ++ x ∷ back) (front ++ back) (omega (arith, long, again)) few
 
 -- ---- a node that is made now is in no entry
 

@@ -1,14 +1,10 @@
 -- The list of active formatting elements, as it is looked at from its end.
-use Rattle.std.proofs.Common.{ℕ, ◌≡◌, inl, inr, Bool, true, false, List, [], ◌∷◌, ◌++◌, Option, Some, length, refl, sym, ap, subst, ◌∙◌, reverse, if◌then◌else◌}
+use Rattle.std.proofs.Common.{◌≡◌, inl, inr, Bool, true, false, List, [], ◌∷◌, ◌++◌, Some, length, refl, sym, ap, subst, ◌∙◌, reverse, if◌then◌else◌}
 use Rattle.std.proofs.lemmas.List.{length-reverse, reverse-append}
-use Rattle.std.proofs.lemmas.List.Elements.{All-cons, All-nil, All-same}
-use Rattle.dom_links.specs.Forest.{Forest}
-use Rattle.page_trees.proofs.HeldNumbers.{entries_removed, with_entries}
-use Rattle.page_trees.specs.Elements.{AreElements, IsEntry}
-use Rattle.page_trees.specs.Formatting.{IsFirst, IsWithout, NoneHas, after_marker, last_place, place_from_end, up_to_marker}
+use Rattle.std.proofs.lemmas.List.Elements.{All-cons, All-nil}
+use Rattle.page_trees.specs.Formatting.{IsFirst, NoneHas, after_marker, last_place, place_from_end, up_to_marker}
 use Rattle.page_trees.specs.declared.formatting.Entry.{Entry}
 use Rattle.page_trees.specs.declared.formatting.Entry.TheVariants.{Element as AnEntry, Marker}
-use Rattle.page_trees.specs.declared.pointers.FormPointer.{FormPointer}
 use Rattle.page_trees.specs.declared.stack.Open.{Open}
 
 -- the last entry comes first
@@ -42,9 +38,3 @@ place_here test es before e at passes =
 pub place_before : (test : Entry → Bool) (es before : List Entry) (e : Entry) → es ≡ before ++ e ∷ [] → test e ≡ false → last_place test before ≡ last_place test es
 place_before test es before e at fails =
     sym (ap (place_from_end test) (entry_first es before e at) ∙ ap (λ b. if b then Some (length (reverse before)) else last_place test before) fails)
-
--- ---- what tree construction holds, after at most one entry was removed
-
-pub entries_left : (f : Forest) (os : List Open) (es ns : List Entry) (h : Option ℕ) (m : FormPointer) (c : Option Open) → AreElements f os es h m c → IsWithout es ns → AreElements f os ns h m c
-entries_left f os es ns h m c all (inl same) = with_entries f os es ns h m c all (All-same (IsEntry f) ns es same all.formatting)
-entries_left f os es ns h m c all (inr (place, e)) = entries_removed f os es ns h m c place all e

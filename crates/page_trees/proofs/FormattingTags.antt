@@ -7,12 +7,12 @@ use Rattle.standard_trees.specs.GrowingTree.{GrowingTree, in_scope, is_one, popp
 use Rattle.standard_trees.specs.RuleWords.{Act, AdoptionAgency, DropFound, FindListed, InBody, InScope, InsertElement, ListElement, Listed, ReconstructFormatting, Scope, These, does, is}
 use Rattle.standard_trees.specs.TreeRules.{rules}
 use Rattle.page_tokens.specs.declared.token.Tag.{Tag}
-use Rattle.page_trees.specs.BodyTags.{ActsWhere, LeavesFew, acted}
+use Rattle.page_trees.specs.BodyTags.{ActsWhere, acted}
 use Rattle.page_trees.specs.Closing.{closed_before, is_special_node}
-use Rattle.page_trees.specs.Constructs.{Constructs, IsCurrentTag, Outcome, Performs, RemembersLimits, first_fault}
+use Rattle.page_trees.specs.Constructs.{Constructs, IsCurrentTag, Outcome, Performs, PerformsFor, RemembersLimits, first_fault}
 use Rattle.page_trees.specs.Groups.{body_rules_for, example_of, group_named}
-use Rattle.page_trees.specs.Listing.{AdoptsBy, AdoptsFor, LeadsTo, PerformsWhere, ProcessesEndWhere, ProcessesStartWhere, StaysWhere, allows_agency, closes_nobr, closing_nobr, dropping_a}
-use Rattle.page_trees.specs.Listing.{drops_a, formats, is_formatting_name, lists_few, lists_no_a, starts_a, starts_nobr}
+use Rattle.page_trees.specs.Listing.{AdoptsBy, AdoptsFor, LeadsTo, ProcessesEndWhere, ProcessesStart, ProcessesStartWhere, StaysWhere, allows_agency, closes_nobr, closing_nobr, dropping_a}
+use Rattle.page_trees.specs.Listing.{drops_a, formats, is_formatting_name, lists_no_a, starts_a, starts_nobr}
 use Rattle.page_trees.specs.Modes.{is_start_kind}
 use Rattle.page_trees.specs.Names.{text_of}
 use Rattle.page_trees.specs.Scopes.{is_name}
@@ -58,10 +58,10 @@ plain_formats _ h = absurd (cc)
 
 -- a formatting element that is no `a` and no `nobr`
 pub formatting_started : (name : Name) (tag : Tag) (old new : TreeBuilder) (next : Next) → group_named name ≡ Group.Formatting → next ≡ Next.Done →
-    (is_formatting_name name ≡ true → PerformsWhere lists_few name tag listing old new) → ProcessesStartWhere lists_few InBody name tag old new next
-formatting_started name tag old new next e done rule starts within b few current stands =
+    (is_formatting_name name ≡ true → PerformsFor name tag listing old new) → ProcessesStart InBody name tag old new next
+formatting_started name tag old new next e done rule starts within b current stands =
     subst (λ (n : Next). Outcome InBody b new n) (sym done)
-    (started_by Group.Formatting name tag b new listing_acts e current starts (formatting_row b) refl (rule (plain_formats name e) starts within b few current stands))
+    (started_by Group.Formatting name tag b new listing_acts e current starts (formatting_row b) refl (rule (plain_formats name e) starts within b current stands))
 
 abbrev acts_by : Bool → List Act → List Act
 acts_by x acts = elim (x && true) [ true ↦ acts | false ↦ listing_acts ]
@@ -83,27 +83,26 @@ abbrev a_acts : List Act
 a_acts = does (FindListed (These (codes "a" ∷ []))) [] ∷ does AdoptionAgency [] ∷ does DropFound [] ∷ listing_acts
 
 -- `<a>` where no `a` is in the list
-a_alone : (tag : Tag) (old new : TreeBuilder) → PerformsWhere lists_few Name.A tag listing old new → ProcessesStartWhere lists_no_a InBody Name.A tag old new Next.Done
+a_alone : (tag : Tag) (old new : TreeBuilder) → PerformsFor Name.A tag listing old new → ProcessesStartWhere lists_no_a InBody Name.A tag old new Next.Done
 a_alone tag old new rule starts within b none current stands =
-    let parts = both (lists_few b) (not (holds (Listed (These (codes "a" ∷ []))) b)) none in
-    started_by Group.A Name.A tag b new listing_acts refl current starts (a_row b ∙ ap (λ x. acts_by x a_acts) (not_true _ parts.1)) refl
-    (rule starts within b parts.0 current stands)
+    started_by Group.A Name.A tag b new listing_acts refl current starts (a_row b ∙ ap (λ x. acts_by x a_acts) (not_true _ none)) refl
+    (rule starts within b current stands)
 
 -- `<a>` where one is
-a_again : (tag : Tag) (old mid new : TreeBuilder) → RemembersLimits mid new → ActsWhere drops_a Name.A tag dropping_a old mid → LeavesFew drops_a Name.A tag dropping_a old mid →
-    PerformsWhere lists_few Name.A tag listing mid new → ProcessesStartWhere drops_a InBody Name.A tag old new Next.Done
-a_again tag old mid new remembers drops few rule starts within b test current stands =
+a_again : (tag : Tag) (old mid new : TreeBuilder) → RemembersLimits mid new → ActsWhere drops_a Name.A tag dropping_a old mid →
+    PerformsFor Name.A tag listing mid new → ProcessesStartWhere drops_a InBody Name.A tag old new Next.Done
+a_again tag old mid new remembers drops rule starts within b test current stands =
     let parts = both (holds (Listed (These (codes "a" ∷ []))) b) _ test in
     started_by Group.A Name.A tag b new a_acts refl current starts (a_row b ∙ ap (λ x. acts_by x a_acts) parts.0) refl
-    (rule starts within (acted dropping_a b) (few starts (remembers within) b test current stands) (dropped_current tag b current) (drops starts (remembers within) b test current stands))
+    (rule starts within (acted dropping_a b) (dropped_current tag b current) (drops starts (remembers within) b test current stands))
 
 pub a_started : (tag : Tag) (old mid new : TreeBuilder) (next : Next) → next ≡ Next.Done → RemembersLimits mid new → StaysWhere lists_no_a old mid →
-    ActsWhere drops_a Name.A tag dropping_a old mid → LeavesFew drops_a Name.A tag dropping_a old mid → PerformsWhere lists_few Name.A tag listing mid new →
+    ActsWhere drops_a Name.A tag dropping_a old mid → PerformsFor Name.A tag listing mid new →
     ProcessesStartWhere starts_a InBody Name.A tag old new next
-a_started tag old mid new next done remembers stays drops few rule starts within b test current stands = elim (either (lists_no_a b) (drops_a b) test) [
+a_started tag old mid new next done remembers stays drops rule starts within b test current stands = elim (either (lists_no_a b) (drops_a b) test) [
   | inl none ↦ subst (λ (n : Next). Outcome InBody b new n) (sym done)
       (a_alone tag mid new rule starts within b none current (subst (λ (s : TreeBuilder). Constructs s b) (sym (stays b none stands)) stands))
-  | inr drop ↦ subst (λ (n : Next). Outcome InBody b new n) (sym done) (a_again tag old mid new remembers drops few rule starts within b drop current stands)
+  | inr drop ↦ subst (λ (n : Next). Outcome InBody b new n) (sym done) (a_again tag old mid new remembers drops rule starts within b drop current stands)
 ]
 
 nobr_row : (b : Building) → choice b (body_rules_for (example_of Group.Nobr)) ≡
@@ -113,16 +112,16 @@ nobr_row b = refl
 
 -- `<nobr>`
 pub nobr_started : (tag : Tag) (old again mid new : TreeBuilder) (next : Next) → next ≡ Next.Done → RemembersLimits again mid → RemembersLimits mid new →
-    Performs (ReconstructFormatting ∷ []) old again → ActsWhere closes_nobr Name.Nobr tag closing_nobr again mid → LeavesFew closes_nobr Name.Nobr tag closing_nobr again mid →
-    PerformsWhere lists_few Name.Nobr tag listing mid new → ProcessesStartWhere starts_nobr InBody Name.Nobr tag old new next
-nobr_started tag old again mid new next done first later reconstructs closes few rule starts within b test current stands =
+    Performs (ReconstructFormatting ∷ []) old again → ActsWhere closes_nobr Name.Nobr tag closing_nobr again mid →
+    PerformsFor Name.Nobr tag listing mid new → ProcessesStartWhere starts_nobr InBody Name.Nobr tag old new next
+nobr_started tag old again mid new next done first later reconstructs closes rule starts within b test current stands =
     let c : Building = perform ReconstructFormatting b in
     let here : IsCurrentTag Name.Nobr tag c = current_kept ReconstructFormatting refl Name.Nobr tag b current in
     let again_stands : Constructs again c = reconstructs (first (later within)) b stands in
     let closed : Constructs mid (acted closing_nobr c) = closes starts (later within) c test here again_stands in
     subst (λ (n : Next). Outcome InBody b new n) (sym done)
     (started_by Group.Nobr Name.Nobr tag b new _ refl current starts (nobr_row b) refl
-    (rule starts within (acted closing_nobr c) (few starts (later within) c test here again_stands) (closed_current tag c here) closed))
+    (rule starts within (acted closing_nobr c) (closed_current tag c here) closed))
 
 -- ---- the adoption agency algorithm is run for a tag
 

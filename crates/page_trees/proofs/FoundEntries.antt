@@ -9,7 +9,7 @@ use Rattle.std.proofs.lemmas.Bool.{eq-eqb}
 use Rattle.standard_trees.specs.Formatting.{last_listed}
 use Rattle.standard_trees.specs.GrowingTree.{GrowingTree}
 use Rattle.standard_trees.specs.GrowingTree.{is_one as is_one_of}
-use Rattle.page_trees.specs.Formatting.{IsFirst, IsNamed, NoneHas, after_marker, are_few, up_to_marker}
+use Rattle.page_trees.specs.Formatting.{IsFirst, IsNamed, NoneHas, after_marker, up_to_marker}
 use Rattle.page_trees.specs.Listing.{FindsListed}
 use Rattle.page_trees.specs.Names.{text_of}
 use Rattle.page_trees.specs.Scopes.{is_name, is_named}
@@ -22,7 +22,7 @@ use Rattle.page_trees.specs.declared.name.Name.{Name}
 use Rattle.page_trees.specs.declared.stack.ElementNamespace.{ElementNamespace}
 use Rattle.page_trees.specs.declared.stack.Open.{Open}
 use Rattle.page_trees.proofs.CopiedElements.{formatting_html}
-use Rattle.page_trees.proofs.ListedEntries.{all_turned, few_there}
+use Rattle.page_trees.proofs.ListedEntries.{all_turned}
 use Rattle.page_trees.proofs.StandingNames.{named_agrees}
 
 -- of a formatting element, whether it has a name
@@ -71,7 +71,7 @@ module _ (t : GrowingTree) (name : Name) (known : is_name name Name.Other ≡ fa
       ∙ sym (ap (λ b. (let one : Option ℕ = elim b [ true ↦ Some o.id | false ↦ last_listed t names (map entry_of es) ] in one)) no)
 
 pub finds : (s old : TreeState) (name : Name) (r : Option Open) → s ≡ old → is_name name Name.Other ≡ false →
-    (are_few s.formatting ≡ true → MatchOption r (NoneHas (IsNamed name) (after_marker s.formatting)) (IsFirst (IsNamed name) (after_marker s.formatting))) → FindsListed name old r
-finds s old name r same known is t few built =
+    MatchOption r (NoneHas (IsNamed name) (after_marker s.formatting)) (IsFirst (IsNamed name) (after_marker s.formatting)) → FindsListed name old r
+finds s old name r same known is t built =
     let b : Builds s t = subst (λ (o : TreeState). Builds o t) (sym same) built in
-    found t name known (reverse s.formatting) (all_turned (EntryStands t.nodes) s.formatting b.listed.elements) r (is (few_there s t b few)) ∙ ap (last_listed t (text_of name ∷ [])) (sym b.listed.list)
+    found t name known (reverse s.formatting) (all_turned (EntryStands t.nodes) s.formatting b.listed.elements) r is ∙ ap (last_listed t (text_of name ∷ [])) (sym b.listed.list)

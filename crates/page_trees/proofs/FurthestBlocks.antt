@@ -11,7 +11,7 @@ use Rattle.standard_trees.specs.NameLists.{special}
 use Rattle.standard_trees.specs.TreeStore.{is_member}
 use Rattle.page_trees.specs.Adopting.{FindsAt, IsClimbing, Ladder, Starts, entry_place, ids_of}
 use Rattle.page_trees.specs.Elements.{IsInOrder}
-use Rattle.page_trees.specs.Listing.{has_few, listed_named, lists_once, lists_well}
+use Rattle.page_trees.specs.Listing.{listed_named, lists_well}
 use Rattle.page_trees.specs.Popping.{first_from, up_to_last}
 use Rattle.page_trees.specs.Reopening.{is_this}
 use Rattle.page_trees.specs.Scopes.{last_place}
@@ -24,8 +24,7 @@ use Rattle.page_trees.specs.declared.stack.Open.{Open}
 use Rattle.page_trees.proofs.AgencyEnds.{any_turned, none_placed, special_known, specials_are, this_is}
 use Rattle.page_trees.proofs.EntryPlaces.{last_place_is}
 use Rattle.page_trees.proofs.InnerLoop.{climb_at}
-use Rattle.page_trees.proofs.ListedEntries.{few_there, formatting_known}
-use Rattle.page_trees.proofs.NamesAgree.{both}
+use Rattle.page_trees.proofs.ListedEntries.{formatting_known}
 use Rattle.page_trees.proofs.SplitLists.{absent_in, before_one, behind_one, lists, neither, once_there}
 use Rattle.page_trees.proofs.StackRungs.{dropped_front, ids_around, one_stands, stacked_around, stand_apart, turned_around}
 use Rattle.page_trees.proofs.StandingNames.{one_agrees}
@@ -165,8 +164,7 @@ block_found s t x p q b built well stands order place within block name named ma
     let element : EntryStands t.nodes (Entry.Element at.element) =
     (here, one_agrees formatting_names formatting_known t at.element here ∙ ap (is_one_of t formatting_names) (sym id) ∙ sym (one_agrees formatting_names formatting_known t x stands.0) ∙ stands.1) in
     let spot = some_place x.id t.listed (named_listed t (name ∷ []) x.id t.listed named) in
-    let few = (both (has_few t) (lists_once t.listed) well).0 in
-    let index : b.index ≡ spot.0 = marks spot.0 (few_there s t built few, sym (last_place_is t.nodes x.id t.listed s.formatting built.listed ∙ spot.1)) in
+    let index : b.index ≡ spot.0 = marks spot.0 (sym (last_place_is t.nodes x.id t.listed s.formatting built.listed ∙ spot.1)) in
     let listed : entry_place at.element.id t.listed ≡ Some spot.0 = ap (λ (k : ℕ). entry_place k t.listed) (sym id) ∙ spot.1 in
     let climbing : IsClimbing p b s t l (climb_at l.block.id None t) = record {
       leads = record { built = built; well = well; alike = record { fosters = refl; found = refl; stands = λ o is. is } };

@@ -1,5 +1,5 @@
 -- The index of the list of active formatting elements: what is done to the list is done to its keys, and what is found by them.
-use Rattle.std.specs.Prelude.{◌≡◌, ◌==◌, ◌+◌, ◌<◌, ◌≤◌, ◌∷◌, ◌++◌, [], refl, ℕ, zero, suc, Bool, true, false, List, All, IfSome, MatchOption, None, Option, Some}
+use Rattle.std.specs.Prelude.{◌≡◌, ◌==◌, ◌+◌, ◌<◌, ◌≤◌, ◌∷◌, ◌++◌, [], refl, ℕ, zero, suc, Bool, true, false, List, IfSome, MatchOption, None, Option, Some}
 use Rattle.std.specs.Prelude.{drop, if◌then◌else◌, insert, length, map, nat_lt, remove, reverse, slice_get, slice_set, take}
 use Rattle.std.proofs.Common.{arith, inl, inr, rules}
 use Rattle.std.specs.Option.{option_and_then}
@@ -26,11 +26,11 @@ use Rattle.page_trees.specs.declared.formatting.index.FormattingIndex.{Formattin
 
 -- ---- keys of what is done
 
-map_long : {X Y : Type 0} (f : X → Y) (xs : List X) → length (map f xs) ≡ length xs
+pub map_long : {X Y : Type 0} (f : X → Y) (xs : List X) → length (map f xs) ≡ length xs
 map_long f [] = refl
 map_long f (x ∷ xs) = ap suc (map_long f xs)
 
-map_taken : {X Y : Type 0} (f : X → Y) (n : ℕ) (xs : List X) → map f (take n xs) ≡ take n (map f xs)
+pub map_taken : {X Y : Type 0} (f : X → Y) (n : ℕ) (xs : List X) → map f (take n xs) ≡ take n (map f xs)
 map_taken f zero xs = refl
 map_taken f (suc n) [] = refl
 map_taken f (suc n) (x ∷ xs) = ap (λ ys. f x ∷ ys) (map_taken f n xs)
@@ -97,31 +97,33 @@ is_entry_in entries (Some index) place less at =
     let likes = at.likes in
     record { ids = omega (arith, less, ids); names = omega (arith, less, names); likes = omega (arith, less, likes) }
 
-pub indexed_with : (entries : List Entry) (place : ℕ) (entry : Entry) (old new : FormattingIndex) → AreIndexed entries old →
+pub indexed_with : (entries : List Entry) (place : ℕ) (entry : Entry) (key : ℕ) (old new : FormattingIndex) → AreIndexed entries old →
     new.ids ≡ insert old.ids place (id_key entry) → new.names ≡ insert old.names place (name_key entry) →
-    length new.likes ≡ length old.likes + 1 → AreIndexed (insert entries place entry) new
-indexed_with entries place entry old new at ids names likes = record {
+    new.likes ≡ insert old.likes place key → AreIndexed (insert entries place entry) new
+indexed_with entries place entry key old new at ids names likes = record {
   ids = ids ∙ ap (λ ks. insert ks place (id_key entry)) at.ids ∙ sym (map_inserted id_key entries place entry);
   names = names ∙ ap (λ ks. insert ks place (name_key entry)) at.names ∙ sym (map_inserted name_key entries place entry);
-  likes = likes ∙ ap (λ n. n + 1) at.likes ∙ sym (length_inserted entries place entry);
+  likes = ap length likes ∙ length_inserted old.likes place key ∙ ap (λ n. n + 1) at.likes ∙ sym (length_inserted entries place entry);
 }
 
 pub indexed_without : (entries : List Entry) (place : ℕ) (old new : FormattingIndex) → place < length entries → AreIndexed entries old →
-    new.ids ≡ remove old.ids place → new.names ≡ remove old.names place → length new.likes + 1 ≡ length old.likes →
+    new.ids ≡ remove old.ids place → new.names ≡ remove old.names place → new.likes ≡ remove old.likes place →
     AreIndexed (remove entries place) new
 indexed_without entries place old new less at ids names likes = record {
   ids = ids ∙ ap (λ ks. remove ks place) at.ids ∙ sym (map_removed id_key entries place);
   names = names ∙ ap (λ ks. remove ks place) at.names ∙ sym (map_removed name_key entries place);
-  likes = (let long = length_removed entries place less in let was = at.likes in omega (arith, likes, long, was));
+  likes = (let long = length_removed entries place less in let was = at.likes in
+      let left = length_removed old.likes place (omega (arith, was, less)) in let now = ap length likes in omega (arith, now, left, long, was));
 }
 
-pub indexed_set : (entries : List Entry) (place : ℕ) (entry : Entry) (old new : FormattingIndex) → AreIndexed entries old →
-    new.ids ≡ slice_set old.ids place (id_key entry) → new.names ≡ slice_set old.names place (name_key entry) → new.likes ≡ old.likes →
+pub indexed_set : (entries : List Entry) (place : ℕ) (entry : Entry) (key : ℕ) (old new : FormattingIndex) → AreIndexed entries old →
+    new.ids ≡ slice_set old.ids place (id_key entry) → new.names ≡ slice_set old.names place (name_key entry) →
+    new.likes ≡ slice_set old.likes place key →
     AreIndexed (slice_set entries place entry) new
-indexed_set entries place entry old new at ids names likes = record {
+indexed_set entries place entry key old new at ids names likes = record {
   ids = ids ∙ ap (λ ks. slice_set ks place (id_key entry)) at.ids ∙ sym (map_set id_key entries place entry);
   names = names ∙ ap (λ ks. slice_set ks place (name_key entry)) at.names ∙ sym (map_set name_key entries place entry);
-  likes = ap length likes ∙ at.likes ∙ sym (length_set entries place entry);
+  likes = ap length likes ∙ length_set old.likes place key ∙ at.likes ∙ sym (length_set entries place entry);
 }
 
 pub indexed_same : (entries : List Entry) (old new : FormattingIndex) → AreIndexed entries old → new.ids ≡ old.ids → new.names ≡ old.names →
@@ -152,13 +154,13 @@ inserted_next (one ∷ entries) zero entry e = ap (λ (o : Option Entry). with_n
     with_none (Some x) = x ∷ []
 inserted_next (one ∷ entries) (suc n) entry e = ap (λ es. one ∷ es) (inserted_next entries n entry e)
 
-pub indexed_next : (entries : List Entry) (place : ℕ) (entry : Entry) (old mid new : FormattingIndex) → slice_get entries place ≡ Some entry →
+pub indexed_next : (entries : List Entry) (place : ℕ) (entry : Entry) (key : ℕ) (old mid new : FormattingIndex) → slice_get entries place ≡ Some entry →
     AreIndexed (take place entries) old → mid.ids ≡ old.ids → mid.names ≡ old.names → mid.likes ≡ old.likes →
     new.ids ≡ insert mid.ids place (id_key entry) → new.names ≡ insert mid.names place (name_key entry) →
-    length new.likes ≡ length mid.likes + 1 → AreIndexed (take (suc place) entries) new
-indexed_next entries place entry old mid new got at same_ids same_names same_likes ids names likes =
+    new.likes ≡ insert mid.likes place key → AreIndexed (take (suc place) entries) new
+indexed_next entries place entry key old mid new got at same_ids same_names same_likes ids names likes =
     subst (λ (es : List Entry). AreIndexed es new) (inserted_next entries place entry got)
-    (indexed_with (take place entries) place entry mid new (indexed_same (take place entries) old mid at same_ids same_names same_likes) ids names likes)
+    (indexed_with (take place entries) place entry key mid new (indexed_same (take place entries) old mid at same_ids same_names same_likes) ids names likes)
 
 -- an entry at the end
 pub inserted_last : (entries : List Entry) (entry : Entry) → insert entries (length entries) entry ≡ entries ++ entry ∷ []
@@ -194,7 +196,7 @@ id_found id less (AnEntry o ∷ es) =
     ap (λ n. if o.id == id then Some n else key_from_end id (map id_key es)) (map_long id_key es)
     ∙ ap (λ r. if o.id == id then Some (length es) else r) (id_found id less es)
 
-map_reversed : {X Y : Type 0} (f : X → Y) (xs : List X) → map f (reverse xs) ≡ reverse (map f xs)
+pub map_reversed : {X Y : Type 0} (f : X → Y) (xs : List X) → map f (reverse xs) ≡ reverse (map f xs)
 map_reversed f [] = refl
 map_reversed f (x ∷ xs) =
     ap (map f) (reverse-append (x ∷ []) xs) ∙ map-append f (reverse xs) (x ∷ []) ∙ ap (λ ys. ys ++ f x ∷ []) (map_reversed f xs)
@@ -205,7 +207,7 @@ found_by_id entries id less = ap (key_from_end id) (sym (map_reversed id_key ent
 
 -- ---- what is found by names
 
-key_below : (key : ℕ) (ks : List ℕ) (p : ℕ) → key_from_end key ks ≡ Some p → p < length ks
+pub key_below : (key : ℕ) (ks : List ℕ) (p : ℕ) → key_from_end key ks ≡ Some p → p < length ks
 key_below key [] p e = cc
 key_below key (k ∷ ks) p e = by (k == key) e (λ h. key_below key ks p h)
   where
@@ -248,14 +250,14 @@ at_marker_none key less es =
     ∙ behind_marker (length (names_of es)) (key_from_end key (names_of es)) (key_from_end marker_key (names_of es))
     (λ p e. key_below key (names_of es) p e)
 
-no_marker : (k : ℕ) → k < marker_key → (k == marker_key) ≡ false
+pub no_marker : (k : ℕ) → k < marker_key → (k == marker_key) ≡ false
 no_marker k less = by (k == marker_key) refl
   where
     by : (b : Bool) → (k == marker_key) ≡ b → b ≡ false
     by true e = let same = eqb-true k marker_key e in absurd (omega (arith, same, less))
     by false e = refl
 
-tag_small : (name : Name) → tag_of the_type name < marker_key
+pub tag_small : (name : Name) → tag_of the_type name < marker_key
 tag_small name = let less = tag_below name in omega (arith, less)
 
 element_found : (key : ℕ) (o : Open) (es : List Entry) (b : Bool) → (tag_of the_type o.name == key) ≡ b →

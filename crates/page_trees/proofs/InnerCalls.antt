@@ -1,7 +1,6 @@
 -- The inner loop of the adoption agency algorithm, by what the calls do.
 use Rattle.std.proofs.Common.{◌≡◌, ℕ, ◌<◌, ◌≤◌, ◌+◌, ◌^◌, not, Bool, true, false, List, [], ◌∷◌, ◌++◌, refl, sym, ap, ◌∙◌, length, Option, Some, None, subst, suc, arith, true≢false}
 use Rattle.std.specs.Prelude.{nat_lt, remove, slice_get, slice_set}
-use Rattle.std.proofs.lemmas.Bool.{ltb-true}
 use Rattle.std.proofs.lemmas.List.{append_assoc, length-append}
 use Rattle.std.proofs.lemmas.Option.{none-some}
 use Rattle.dom_links.specs.Forest.{Forest}
@@ -10,10 +9,9 @@ use Rattle.standard_trees.specs.Formatting.{Climb, climb}
 use Rattle.standard_trees.specs.GrowingTree.{GrowingTree}
 use Rattle.page_trees.specs.Adopting.{Climbs, IsClimbing, IsRenewed, Ladder, Passes, Renews, Starts, above, climbed, entry_place, ids_of, last_in}
 use Rattle.page_trees.specs.Elements.{AreOpen, IsElement, IsInOrder}
-use Rattle.page_trees.specs.Formatting.{are_few, is_of, last_place}
+use Rattle.page_trees.specs.Formatting.{is_of, last_place}
 use Rattle.page_trees.specs.Insertions.{MakesNext}
 use Rattle.page_trees.specs.Insertions.{with_copy_around as copied_around}
-use Rattle.page_trees.specs.Listing.{has_few, lists_once}
 use Rattle.page_trees.specs.Reopening.{copy_open}
 use Rattle.page_trees.specs.SameNodes.{with_copy_around}
 use Rattle.page_trees.specs.Stands.{Builds}
@@ -24,8 +22,7 @@ use Rattle.page_trees.specs.declared.stack.Open.{Open}
 use Rattle.page_trees.proofs.EntryPlaces.{last_place_is, no_place, place_below}
 use Rattle.page_trees.proofs.InnerLoop.{climb_at, climb_more, listed_stands, node_is, passed_bare, passed_far, passed_near}
 use Rattle.page_trees.proofs.KeptElements.{stands_kept}
-use Rattle.page_trees.proofs.ListedEntries.{few_there}
-use Rattle.page_trees.proofs.NamesAgree.{both}
+use Rattle.page_trees.proofs.ListedEntries.{listed_long}
 use Rattle.page_trees.proofs.StackOrder.{element_there}
 use Rattle.page_trees.proofs.StackRungs.{above_is, get_at, get_next, regrouped}
 use Rattle.page_trees.proofs.WrappedElements.{around_built, ids_joined}
@@ -90,14 +87,13 @@ is_at place index b s t l node c w at =
 same_open : (x y : Open) → Some x ≡ Some y → x ≡ y
 same_open x y e = cc
 
--- what the search for an element in a short list returns
+-- what the search for an element in the list returns
 abbrev pub TellsIndex : ℕ → TreeState → Option ℕ → Type 0
-TellsIndex n view r = are_few view.formatting ≡ true → r ≡ last_place (is_of n) view.formatting
+TellsIndex n view r = r ≡ last_place (is_of n) view.formatting
 
 index_is : (view old : TreeState) (place : ℕ) (b : Bookmark) (t : GrowingTree) (l : Ladder) (c : Climb) (n : ℕ) (r : Option ℕ) → view ≡ old → IsClimbing place b old t l c → TellsIndex n view r → r ≡ entry_place n c.tree.listed
 index_is view old place b t l c n r same w tells =
-    let few = few_there old c.tree w.leads.built (both (has_few c.tree) (lists_once c.tree.listed) w.leads.well).0 in
-    tells (ap (λ (s : TreeState). are_few s.formatting) same ∙ few) ∙ ap (λ (s : TreeState). last_place (is_of n) s.formatting) same
+    tells ∙ ap (λ (s : TreeState). last_place (is_of n) s.formatting) same
     ∙ last_place_is c.tree.nodes n c.tree.listed old.formatting w.leads.built.listed
 
 pub passes_nothing : (view old : TreeState) (index : ℕ) (near : Bool) (b : Bookmark) → view ≡ old → None ≡ slice_get view.stack index → Passes index near b b old old
@@ -140,20 +136,19 @@ passes_far view old mid new index i near b after x r order same got tells some f
     (f ∙ ap (λ (s : TreeState). record s { formatting = remove s.formatting i }) (e ∙ ap (λ (k : ℕ). record old { stack = remove old.stack k }) at))
     (before, λ le. ap (λ (m : Bookmark). m.index) (behind le)) renewed
 
-few_below : (i n : ℕ) → i < n → nat_lt n 16 ≡ true → i + 1 < 2 ^ 64
-few_below i n less few = (let below = ltb-true n 16 few in omega (arith, less, below))
-
 pub passes_near : (view old new : TreeState) (index i : ℕ) (near : Bool) (b after : Bookmark) (x : Open) (r : Option ℕ) → IsInOrder view.forest view.stack → view ≡ old → Some x ≡ slice_get view.stack index → TellsIndex x.id view r →
-    r ≡ Some i → near ≡ true → Renews index i old new → (b.renewed ≡ false → i + 1 < 2 ^ 64 → after.index ≡ i + 1) → (b.renewed ≡ true → after ≡ b) → after.renewed ≡ true → Passes index near b after old new
-passes_near view old new index i near b after x r order same got tells some close renews first later renewed place round t l node c nearly w at =
+    length view.formatting < 2 ^ 64 → r ≡ Some i → near ≡ true → Renews index i old new → (b.renewed ≡ false → i + 1 < 2 ^ 64 → after.index ≡ i + 1) → (b.renewed ≡ true → after ≡ b) → after.renewed ≡ true → Passes index near b after old new
+passes_near view old new index i near b after x r order same got tells bounded some close renews first later renewed place round t l node c nearly w at =
     let here = is_at place index b old t l node c w at in
     let one : x ≡ node = same_open x node (got ∙ ap (λ (s : TreeState). slice_get s.stack index) same ∙ here.here) in
     let ordered = subst (λ (s : TreeState). IsInOrder s.forest s.stack) same order in
     let found = ap (λ (o : Open). entry_place o.id c.tree.listed) (sym one) ∙ sym (index_is view old place b t (record l { mid = l.mid ++ node ∷ [] }) c x.id r same w tells) ∙ some in
     let it = node_is old c.tree l node ordered w.leads.built w.stack in
     let stands = listed_stands old c.tree node i w.leads.built it.stands found in
-    let few = (both (has_few c.tree) (lists_once c.tree.listed) w.leads.well).0 in
-    let room = few_below i (length c.tree.listed) (place_below node.id i c.tree.listed found) few in
+    let below = place_below node.id i c.tree.listed found in
+    let long = listed_long old c.tree w.leads.built in
+    let view_long = ap (λ (s : TreeState). length s.formatting) same in
+    let room : i + 1 < 2 ^ 64 = omega (arith, below, long, view_long, bounded) in
     let made = subst (λ (k : ℕ). IsRenewed k i old new node (last_in l.copies l.block) c.tree) at (renews node (last_in l.copies l.block) here.here here.next c.tree stands w.leads.built) in
     passed_near place round i b after old new t l node c ordered w found (near_is near round nearly close) made stands
     (record { first = λ none. first none room; later = later; renewed = renewed })

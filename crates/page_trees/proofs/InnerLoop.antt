@@ -11,8 +11,7 @@ use Rattle.standard_trees.specs.GrowingTree.{is_one as is_one_of}
 use Rattle.standard_trees.specs.TreeStore.{ContentsNode, ElementNode, EndOf, Html, Node, NodeAttr, is_member}
 use Rattle.page_trees.specs.Adopting.{IsClimbing, IsIndexLeft, IsMarked, IsPassed, IsRenewed, Ladder, above, entry_place, ids_of, last_in}
 use Rattle.page_trees.specs.Elements.{IsInOrder}
-use Rattle.page_trees.specs.Formatting.{are_few}
-use Rattle.page_trees.specs.Listing.{has_few, lists_once}
+use Rattle.page_trees.specs.Listing.{lists_once}
 use Rattle.page_trees.specs.SameNodes.{with_copy, with_copy_around, with_kind}
 use Rattle.page_trees.specs.Sets.{ends_scope}
 use Rattle.page_trees.specs.Stands.{AllStand, Builds, EntryStands, IsListOf, StandsFor, entry_of, formatting_names}
@@ -23,11 +22,10 @@ use Rattle.page_trees.specs.declared.stack.Open.{Open}
 use Rattle.page_trees.proofs.ActionsOnNodes.{created_kind}
 use Rattle.page_trees.proofs.BuiltLists.{built_listed}
 use Rattle.page_trees.proofs.CopiedElements.{made_copy}
-use Rattle.page_trees.proofs.EntryPlaces.{entry_removed, entry_set, few_removed, few_set, fresh_unlisted, is_placed, place_kept, placed_at, placed_there, removed_at, set_at, still_placed, turned_at}
+use Rattle.page_trees.proofs.EntryPlaces.{entry_removed, entry_set, fresh_unlisted, is_placed, place_kept, placed_at, placed_there, removed_at, set_at, still_placed, turned_at}
 use Rattle.page_trees.proofs.ListedEntries.{all_turned, formatting_known}
-use Rattle.page_trees.proofs.NamesAgree.{both}
 use Rattle.page_trees.proofs.ReopenedElements.{entries_apart}
-use Rattle.page_trees.proofs.SplitLists.{absent_in, exchanged_one, listed_replaced, listed_there, lists, neither, none_unlisted, once_there, stays, true_both, unlisted_from, unlisted_in, unlisted_one}
+use Rattle.page_trees.proofs.SplitLists.{absent_in, exchanged_one, listed_replaced, listed_there, lists, neither, none_unlisted, once_there, stays, unlisted_from, unlisted_in, unlisted_one}
 use Rattle.page_trees.proofs.StackRungs.{any_in, ids_around, one_stands, regrouped, rung_removed, rung_set, stacked_around}
 use Rattle.page_trees.proofs.StandingNames.{one_agrees}
 use Rattle.page_trees.proofs.TakenOut.{opens_once, stack_once}
@@ -247,8 +245,7 @@ passed_far place round i b after s new t l node c order w found far e left renew
     let gone : remove s.stack (place + length l.mid + 1) ≡ front ++ above l =
     ap (λ (k : ℕ). remove s.stack k) (sym at) ∙ ap (λ (os : List Open). remove os (length front)) it.split ∙ removed_at front node (above l) in
     let spot = placed_at node.id i c.tree.listed found in
-    let well = both (has_few c.tree) (lists_once c.tree.listed) w.leads.well in
-    let alone = listed_there node.id spot.front spot.back (ap lists_once (sym spot.split) ∙ well.1) in
+    let alone = listed_there node.id spot.front spot.back (ap lists_once (sym spot.split) ∙ w.leads.well) in
     let rest : filter (stays node.id) c.tree.listed ≡ spot.front ++ spot.back =
     ap (λ (es : List StandardEntry). filter (stays node.id) es) spot.split ∙ unlisted_one node.id spot.front spot.back alone.before alone.behind in
     let is : IsListOf c.tree.nodes (filter (stays node.id) c.tree.listed) (remove s.formatting i) =
@@ -257,12 +254,11 @@ passed_far place round i b after s new t l node c order w found far e left renew
     let shorter : TreeState = record s { formatting = remove s.formatting i } in
     let tree : GrowingTree = unlisted node.id c.tree in
     let built = rung_removed shorter tree front node (above l) (built_listed s c.tree (remove s.formatting i) (filter (stays node.id) c.tree.listed) w.leads.built is) it.split it.once in
-    let few : are_few (spot.front ++ spot.back) ≡ true = few_removed spot.front (Formatting node.id) spot.back (ap (λ (es : List StandardEntry). are_few es) (sym spot.split) ∙ well.0) in
     let still = still_placed l.element.id w.index spot.front (Formatting node.id) spot.back it.element (ap (entry_place l.element.id) (sym spot.split) ∙ w.listed) in
     let now : IsClimbing place after (record shorter { stack = front ++ above l }) t l (climb_at c.last c.mark (unstacked node.id tree)) = record {
       leads = record {
         built = built;
-        well = true_both (are_few (filter (stays node.id) c.tree.listed)) (lists_once (filter (stays node.id) c.tree.listed)) (ap (λ (es : List StandardEntry). are_few es) rest ∙ few) (ap lists_once rest ∙ alone.others);
+        well = ap lists_once rest ∙ alone.others;
         alike = record { fosters = w.leads.alike.fosters; found = w.leads.alike.found; stands = w.leads.alike.stands };
       };
       stack = refl;
@@ -374,8 +370,7 @@ passed_near place round i b after s new t l node c order w found near r stands b
     let set : slice_set s.stack (place + length l.mid + 1) copy ≡ front ++ copy ∷ above l =
     ap (λ (k : ℕ). slice_set s.stack k copy) (sym at) ∙ ap (λ (os : List Open). slice_set os (length front) copy) it.split ∙ set_at front node copy (above l) in
     let spot = placed_at node.id i c.tree.listed found in
-    let well = both (has_few c.tree) (lists_once c.tree.listed) w.leads.well in
-    let alone = listed_there node.id spot.front spot.back (ap lists_once (sym spot.split) ∙ well.1) in
+    let alone = listed_there node.id spot.front spot.back (ap lists_once (sym spot.split) ∙ w.leads.well) in
     let new_one : lists copy.id c.tree.listed ≡ false =
     ap (lists copy.id) w.leads.built.listed.list ∙ fresh_unlisted c.tree.nodes (reverse s.formatting) copy.id
     (all_turned (EntryStands c.tree.nodes) s.formatting w.leads.built.listed.elements) (omega (arith, id)) in
@@ -394,14 +389,12 @@ passed_near place round i b after s new t l node c order w found near r stands b
     let built = rung_set (record grown { formatting = entries }) (record tree { listed = listed }) front node copy (above l) (built_listed grown tree entries listed r.built is) it.split it.once r.stands in
     let final : GrowingTree = record c.tree { nodes = nodes; stack = map (replaced_node node.id copy.id) c.tree.stack; listed = listed } in
     let there : TreeState = record s { forest = new.forest; stack = front ++ copy ∷ above l; formatting = entries } in
-    let few : are_few listed ≡ true =
-    ap (λ (es : List StandardEntry). are_few es) now_listed ∙ few_set spot.front (Formatting node.id) (Formatting copy.id) spot.back (ap (λ (es : List StandardEntry). are_few es) (sym spot.split) ∙ well.0) in
     let other : nat_eq copy.id l.element.id ≡ false = not_same_listed copy.id l.element.id c.tree.listed (is_placed l.element.id w.index c.tree.listed w.listed) new_one in
     let inner = (outside l.mid node (above l) w.inside).1 in
     let now : IsClimbing place after there t (record l { copies = copy ∷ l.copies }) (climb_at copy.id (marked c.mark copy.id) final) = record {
       leads = record {
         built = built;
-        well = true_both (are_few listed) (lists_once listed) few (ap lists_once now_listed ∙ listed_replaced copy.id spot.front spot.back new_front.0 new_back.1 alone.others);
+        well = ap lists_once now_listed ∙ listed_replaced copy.id spot.front spot.back new_front.0 new_back.1 alone.others;
         alike = record { fosters = w.leads.alike.fosters; found = w.leads.alike.found; stands = λ o is. r.alike o (w.leads.alike.stands o is) };
       };
       stack = refl;

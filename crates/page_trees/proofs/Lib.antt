@@ -3,6 +3,7 @@ pub mod Enclosing
 mod GroupRules
 mod HeldNumbers
 mod KindLemmas
+mod LoweredTexts
 mod MadeNodes
 mod StackOrder
 mod Ways
@@ -39,6 +40,7 @@ pub mod LateNodes
 mod AbsentAttrs
 pub mod KeptElements
 pub mod BuiltNodes
+mod ContextElements
 pub mod CopiedElements
 pub mod ReopenedElements
 pub mod LikeElements
@@ -47,7 +49,7 @@ pub mod ClosedEntries
 pub mod TagKinds
 pub mod TagRules
 pub mod TagsCovered
-pub mod FewListed
+pub mod TurnsCovered
 pub mod BuiltRoots
 pub mod BuiltCalls
 pub mod BuiltPlaces
@@ -75,6 +77,9 @@ pub mod PageEnds
 pub mod ForeignTags
 pub mod TextTags
 pub mod CoveredLemmas
+pub mod ShallowRuns
+pub mod BoundedTurns
+pub mod TextsRead
 pub mod CoveredTags
 pub mod NamesSpelled
 pub mod TokenTurns
@@ -138,6 +143,7 @@ pub mod HeadRules
 pub mod HeadModes
 pub mod HeadAgain
 pub mod HeadPlaces
+mod FragmentBegins
 pub mod FramesetTags
 pub mod BodyRules
 pub mod BodyStarts
@@ -177,3 +183,10 @@ pub mod ForeignEndTags
 mod RankLemmas
 mod KeyLemmas
 mod IndexedLists
+mod SortedTexts
+mod ElementTexts
+mod LikePlaces
+mod LikeKeys
+mod DepthLemmas
+mod LiftLemmas
+mod DocumentDepths

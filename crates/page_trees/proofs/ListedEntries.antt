@@ -1,7 +1,7 @@
 -- Elements of the list of active formatting elements are found and removed, and one is added.
 use Rattle.std.proofs.Common.{◌≡◌, ℕ, ◌<◌, ◌-◌, Bool, true, false, List, [], ◌∷◌, ◌++◌, map, reverse, refl, sym, ap, ◌∙◌, length, Option, Some, None, subst, suc, zero, arith, true≢false, if◌then◌else◌, nat_eq}
-use Rattle.std.specs.Prelude.{All, nat_lt, remove, slice_get}
-use Rattle.std.specs.Option.{option_map, option_map_or, option_to_list}
+use Rattle.std.specs.Prelude.{All, remove, slice_get}
+use Rattle.std.specs.Option.{option_map_or}
 use Rattle.std.proofs.lemmas.List.{length-map, length-reverse, reverse-append, reverse-reverse}
 use Rattle.std.proofs.lemmas.List.Edits.{remove-append_left}
 use Rattle.std.proofs.lemmas.List.Elements.{All-cons, All-nil, All-head, All-push, All-tail}
@@ -10,7 +10,7 @@ use Rattle.standard_trees.specs.Formatting.{are_alike as are_alike_by_rules, enl
 use Rattle.standard_trees.specs.GrowingTree.{Entry as StandardEntry, Formatting, GrowingTree, current, kind_of}
 use Rattle.standard_trees.specs.GrowingTree.{is_named as is_of_kind, is_one as is_one_of}
 use Rattle.page_trees.specs.Elements.{IsElement, IsEntry}
-use Rattle.page_trees.specs.Formatting.{alike_from_end, are_alike, are_few, third_alike, with_room}
+use Rattle.page_trees.specs.Formatting.{alike_from_end, are_alike, third_alike, with_room}
 use Rattle.page_trees.specs.Listing.{Enlists}
 use Rattle.page_trees.specs.Names.{html_rows, rare_rows}
 use Rattle.page_trees.specs.Sets.{is_one}
@@ -20,7 +20,7 @@ use Rattle.page_trees.specs.declared.formatting.Entry.{Entry}
 use Rattle.page_trees.specs.declared.stack.Open.{Open}
 use Rattle.page_trees.proofs.BuiltLists.{built_listed}
 use Rattle.page_trees.proofs.BuiltStacks.{current_id, current_node, nothing_current}
-use Rattle.page_trees.proofs.HeldNumbers.{all_removed}
+use Rattle.page_trees.proofs.HeldNumbers.{all_left}
 use Rattle.page_trees.proofs.LikeElements.{alike_is}
 use Rattle.page_trees.proofs.ReopenedElements.{entries_apart}
 use Rattle.page_trees.proofs.ScopeLemmas.{by_ends}
@@ -122,6 +122,11 @@ module _ (t : GrowingTree) (f : Forest) (n : ℕ) where
   room : (es : List Entry) → All (AsAlike t f n) es → Leaves 2 0 es
   room = earlier 1 0 refl (earlier 0 1 refl third)
 
+-- the list is as long as that of the definition
+pub listed_long : (s : TreeState) (t : GrowingTree) → Builds s t → length t.listed ≡ length s.formatting
+listed_long s t b =
+    ap (λ (es : List StandardEntry). length es) b.listed.list ∙ length-map (reverse s.formatting) entry_of ∙ length-reverse s.formatting
+
 pub all_turned : (P : Entry → Type 0) (es : List Entry) → All P es → All P (reverse es)
 all_turned P = by_ends (λ es. All P es → All P (reverse es)) (λ all. all) (λ ys y more all.
     (let parts = entries_apart P ys (y ∷ []) all in
@@ -150,16 +155,6 @@ all_alike s t p b there stands is (Entry.Element o ∷ es) all elements =
 abbrev with_list : TreeState → List Entry → TreeState
 with_list s entries = record s { formatting = entries }
 
-pub few_there : (s : TreeState) (t : GrowingTree) → Builds s t → are_few t.listed ≡ true → are_few s.formatting ≡ true
-few_there s t b few =
-    let long : length t.listed ≡ length s.formatting =
-    ap (λ (es : List StandardEntry). length es) b.listed.list ∙ length-map (reverse s.formatting) entry_of ∙ length-reverse s.formatting in
-    ap (λ n. nat_lt n 16) (sym long) ∙ few
-
-pub all_left : (P : Entry → Type 0) (es : List Entry) (place : Option ℕ) → All P es → All P (option_map_or (remove es) place es)
-all_left P es None all = all
-all_left P es (Some p) all = all_removed P es (remove es p) p refl all
-
 none_listed : (s : TreeState) (t : GrowingTree) → Builds s t → t.stack ≡ [] → is_one_of t formatting_names (current t) ≡ false
 none_listed s t b none = by t.stack none
   where
@@ -184,32 +179,21 @@ pub formatting_known : are_known formatting_names ≡ true
 unfolding html_rows rare_rows
 formatting_known = refl
 
--- what the calls do is that
-pub enlists : (old view mid roomy new : TreeState) (p : Open) → view ≡ old → mid ≡ view → (are_few mid.formatting ≡ true → roomy.formatting ≡ with_room mid.forest p.id mid.formatting) →
-    roomy ≡ record mid { formatting = roomy.formatting } →
-    new ≡ record roomy { formatting = roomy.formatting ++ option_to_list (option_map (λ (o : Open). Entry.Element o) (slice_get roomy.stack (length roomy.stack - 1))) } →
-    Some p ≡ slice_get view.stack (length view.stack - 1) → IsElement view.forest p.id → All (IsEntry view.forest) view.formatting → Enlists old new
-enlists old view mid roomy new p same unchanged ark rest pushed at there elements t few named built =
+-- what the call does is that
+pub enlists : (old view : TreeState) (p : Open) (entries : List Entry) → view ≡ old → entries ≡ with_room view.forest p.id view.formatting ++ Entry.Element p ∷ [] →
+    Some p ≡ slice_get view.stack (length view.stack - 1) → IsElement view.forest p.id → All (IsEntry view.forest) view.formatting →
+    Enlists old (with_list view entries)
+enlists old view p entries same made at there elements t named built =
     let b : Builds view t = subst (λ (s : TreeState). Builds s t) (sym same) built in
     let id : current t ≡ p.id = current_id view t p b at in
     let stands_current : IsOfKind p (kind_of t (current t)) = subst (λ r. IsCurrent r (kind_of t (current t))) (sym at) (current_node view t b) in
     let stands : StandsFor t.nodes p = subst (λ n. IsOfKind p (kind_of t n)) id stands_current in
     let is : is_one formatting_names p ≡ true = one_agrees formatting_names formatting_known t p stands ∙ ap (is_one_of t formatting_names) (sym id) ∙ named in
-    let entries : roomy.formatting ≡ with_room view.forest p.id view.formatting =
-    ark (ap (λ (s : TreeState). are_few s.formatting) unchanged ∙ few_there view t b few) ∙ ap (λ (s : TreeState). with_room s.forest p.id s.formatting) unchanged in
-    let stack : roomy.stack ≡ view.stack = ap (λ (s : TreeState). s.stack) (rest ∙ ap (λ (s : TreeState). record s { formatting = roomy.formatting }) unchanged) in
-    let last : option_to_list (option_map (λ (o : Open). Entry.Element o) (slice_get roomy.stack (length roomy.stack - 1))) ≡ Entry.Element p ∷ [] =
-    ap (λ (os : List Open). option_to_list (option_map (λ (o : Open). Entry.Element o) (slice_get os (length os - 1)))) stack
-    ∙ ap (λ (o : Option Open). option_to_list (option_map (λ (o : Open). Entry.Element o) o)) (sym at) in
-    let whole : new ≡ with_list view (with_room view.forest p.id view.formatting ++ Entry.Element p ∷ []) =
-    pushed ∙ ap (λ (es : List Entry). record roomy { formatting = roomy.formatting ++ es }) last
-    ∙ ap (λ (s : TreeState). record s { formatting = roomy.formatting ++ Entry.Element p ∷ [] }) (rest ∙ ap (λ (s : TreeState). record s { formatting = roomy.formatting }) unchanged)
-    ∙ ap (λ (es : List Entry). with_list view (es ++ Entry.Element p ∷ [])) entries in
-    subst (λ (s : TreeState). Builds s (enlisted t)) (sym whole) (enlisted_built view t p b id stands is there elements)
+    subst (λ (es : List Entry). Builds (with_list view es) (enlisted t)) (sym made) (enlisted_built view t p b id stands is there elements)
 
 -- where nothing is open the rules add nothing
 pub none_enlisted : (old view new : TreeState) → view ≡ old → None ≡ slice_get view.stack (length view.stack - 1) → Enlists old new
-none_enlisted old view new same none t few named built =
+none_enlisted old view new same none t named built =
     let b : Builds view t = subst (λ (s : TreeState). Builds s t) (sym same) built in
     absurd (true≢false (sym named ∙ none_listed view t b (nothing_current view t b none)))
 

@@ -1,12 +1,12 @@
 -- Nodes that tree construction makes, and where they may go.
-use Rattle.std.proofs.Common.{ℕ, ◌≡◌, ◌<◌, ◌≤◌, ◌+◌, Bool, true, false, List, [], ◌∷◌, Option, Some, None, refl, sym, ap, ◌∙◌, subst, arith, inl, inr, length}
+use Rattle.std.proofs.Common.{ℕ, ◌≡◌, ◌<◌, ◌≤◌, ◌+◌, Bool, true, false, List, [], ◌∷◌, ◌++◌, Option, Some, None, refl, sym, ap, ◌∙◌, subst, arith, inl, inr, length}
 use Rattle.std.proofs.Common.{zero, suc, ◌⊎◌}
 use Rattle.std.specs.Prelude.{◌==◌, ◌||◌, not, slice_get}
-use Rattle.std.specs.Option.{option_map_or}
+use Rattle.std.specs.Option.{option_and_then, option_map_or}
 use Rattle.std.proofs.lemmas.Bool.{cases_Bool, eqb-true, ne_eqb}
 use Rattle.std.proofs.lemmas.List.{length_push}
 use Rattle.dom_nodes.specs.Kinds.{children_allowed, contents_named, is_element, is_fragment, is_top}
-use Rattle.dom_nodes.specs.Changes.{with_attrs}
+use Rattle.dom_nodes.specs.Attrs.{element_of}
 use Rattle.dom_nodes.specs.declared.name.Attr.{Attr}
 use Rattle.dom_nodes.specs.Elements.{Element as Parts}
 use Rattle.dom_nodes.specs.declared.node_data.NodeData.{NodeData}
@@ -23,7 +23,6 @@ use Rattle.dom_links.proofs.forest.Depth.{child_step, parent_inside}
 use Rattle.dom_links.proofs.forest.Grown.{contents-more, forest-more, new_parentless, parent-more, slice_get-before, slice_get-there, test-more, within}
 use Rattle.dom_links.specs.AddedTexts.{lengthened, text_before, with_more, with_node_at, with_text_at}
 use Rattle.dom_links.specs.Contents.{changed_at, with_content}
-use Rattle.dom_links.proofs.forest.Changing.{keeps_attrs as kind_with_attrs}
 use Rattle.dom_links.proofs.moves.BlockKept.{children_move}
 use Rattle.dom_links.proofs.texts.AddingTexts.{keeps_longer as kind_longer}
 use Rattle.std.proofs.Common.{Result, Ok, Err, IfOk}
@@ -33,6 +32,7 @@ use Rattle.dom_links.specs.declared.gap.MovedNodes.TheVariants.{Node}
 use Rattle.dom_trees.specs.Edits.{Makes, MayMove, MayReparentOf, making}
 use Rattle.dom_trees.specs.TreeUnderConstruction.{flagged_element, making_element, with_new_element}
 use Rattle.dom_trees.specs.NewNodes.{comment_node}
+use Rattle.dom_trees.specs.Views.{node_element}
 use Rattle.dom_trees.specs.declared.tree.growing.ElementFlags.{ElementFlags}
 use Rattle.std.specs.Prelude.{MatchResult}
 use Rattle.page_trees.specs.declared.fault.PageFault.{PageFault}
@@ -41,17 +41,23 @@ use Rattle.page_trees.specs.Elements.{IsCopy, IsElement, IsMade, IsNew, IsPlainN
 
 -- ---- what is kept
 
--- elements stay elements, and the root stays a document or a fragment
+-- elements stay as they are, and the root stays a document or a fragment
 pub record Keeps (old new : Forest) : Type 0 where
   pub elements : (n : ℕ) → IsElement old n → IsElement new n
+  pub same : (n : ℕ) (e : Parts) → node_element old n ≡ Some e → node_element new n ≡ Some e
   pub root : IsRooted old → IsRooted new
 
 pub keeps_on : (a b c : Forest) → Keeps a b → Keeps b c → Keeps a c
-keeps_on a b c one two = record { elements = λ n h. two.elements n (one.elements n h); root = λ h. two.root (one.root h) }
+keeps_on a b c one two = record {
+  elements = λ n h. two.elements n (one.elements n h);
+  same = λ n e h. two.same n e (one.same n e h);
+  root = λ h. two.root (one.root h);
+}
 
 pub keeps_same : (a b : Forest) → b ≡ a → Keeps a b
 keeps_same a b e = record {
   elements = λ n h. ap (λ (f : Forest). element_at f n) e ∙ h;
+  same = λ n x h. ap (λ (f : Forest). node_element f n) e ∙ h;
   root = λ h. ap (λ (f : Forest). option_map_or is_top (slice_get f.content 0) false) e ∙ h;
 }
 
@@ -59,12 +65,21 @@ keeps_same a b e = record {
 pub keeps_contents : (a b : Forest) → b.content ≡ a.content → Keeps a b
 keeps_contents a b e = record {
   elements = λ n h. ap (λ (cs : List NodeData). option_map_or is_element (slice_get cs n) false) e ∙ h;
+  same = λ n x h. ap (λ (cs : List NodeData). option_and_then element_of (slice_get cs n)) e ∙ h;
   root = λ h. ap (λ (cs : List NodeData). option_map_or is_top (slice_get cs 0) false) e ∙ h;
 }
+
+-- an element stays where nodes are added
+element-more : (content : NodeData) (cs : List NodeData) (n : ℕ) (e : Parts) → option_and_then element_of (slice_get cs n) ≡ Some e →
+    option_and_then element_of (slice_get (cs ++ content ∷ []) n) ≡ Some e
+element-more content [] n e h = cc
+element-more content (c ∷ cs) zero e h = h
+element-more content (c ∷ cs) (suc n) e h = element-more content cs n e h
 
 pub keeps_node : (content : NodeData) (f : Forest) → Keeps f (with_node content f)
 keeps_node content f = record {
   elements = λ n h. test-more is_element f.content content n h;
+  same = λ n e h. element-more content f.content n e h;
   root = λ h. test-more is_top f.content content 0 h;
 }
 
@@ -279,7 +294,15 @@ children_into_copy f g id p good after copy =
       };
     }
 
--- ---- texts and attributes
+-- ---- texts
+
+-- an element that a change leaves as it is stays an element
+still_element : (change : NodeData → NodeData) → ((e : Parts) → change (Element e) ≡ Element e) → (y : NodeData) → is_element y ≡ true →
+    is_element (change y) ≡ true
+still_element change keeps y h =
+    let found = element_is (Some y) h in
+    let is : y ≡ Element found.0 = (let some = found.1 in cc) in
+    ap (λ (z : NodeData). is_element (change z)) is ∙ ap is_element (keeps found.0)
 
 -- a test that a change keeps is kept
 test-changed : {X : Type 0} (test : X → Bool) (change : X → X) → ((y : X) → test y ≡ true → test (change y) ≡ true) → (xs : List X) (x n : ℕ) →
@@ -290,29 +313,30 @@ test-changed test change keeps (y ∷ xs) zero (suc n) h = h
 test-changed test change keeps (y ∷ xs) (suc x) zero h = h
 test-changed test change keeps (y ∷ xs) (suc x) (suc n) h = test-changed test change keeps xs x n h
 
-pub keeps_changed : (f : Forest) (x : ℕ) (change : NodeData → NodeData) → ((y : NodeData) → is_element y ≡ true → is_element (change y) ≡ true) → ((y : NodeData) → is_top y ≡ true → is_top (change y) ≡ true) →
+element-changed : (change : NodeData → NodeData) → ((e : Parts) → change (Element e) ≡ Element e) → (cs : List NodeData) (x n : ℕ) (e : Parts) →
+    option_and_then element_of (slice_get cs n) ≡ Some e → option_and_then element_of (slice_get (changed_at x change cs) n) ≡ Some e
+element-changed change keeps [] x n e h = h
+element-changed change keeps (Element one ∷ cs) zero zero e h = ap (λ y. element_of y) (keeps one) ∙ h
+element-changed change keeps (_ ∷ cs) zero zero e h = cc
+element-changed change keeps (y ∷ cs) zero (suc n) e h = h
+element-changed change keeps (y ∷ cs) (suc x) zero e h = h
+element-changed change keeps (y ∷ cs) (suc x) (suc n) e h = element-changed change keeps cs x n e h
+
+-- a change that leaves each element as it is
+keeps_changed : (f : Forest) (x : ℕ) (change : NodeData → NodeData) → ((e : Parts) → change (Element e) ≡ Element e) → ((y : NodeData) → is_top y ≡ true → is_top (change y) ≡ true) →
     Keeps f (with_content x change f)
-keeps_changed f x change elements tops = record {
-  elements = λ n h. test-changed is_element change elements f.content x n h;
+keeps_changed f x change keeps tops = record {
+  elements = λ n h. test-changed is_element change (still_element change keeps) f.content x n h;
+  same = λ n e h. element-changed change keeps f.content x n e h;
   root = λ h. test-changed is_top change tops f.content x 0 h;
 }
 
--- a change that leaves each element an element
-element_changed : (change : NodeData → NodeData) → ((e : Parts) → is_element (change (Element e)) ≡ true) → (y : NodeData) → is_element y ≡ true → is_element (change y) ≡ true
-element_changed change keeps y h =
-    let found = element_is (Some y) h in
-    let is : y ≡ Element found.0 = (let some = found.1 in cc) in
-    ap (λ (z : NodeData). is_element (change z)) is ∙ keeps found.0
-
 keeps_more : (before : Option ℕ) (gap : InsertionPoint) (text : List ℕ) (f : Forest) → Keeps f (with_more before gap text f)
 keeps_more None gap text f = keeps_on f (with_node (Text text) f) _ (keeps_node (Text text) f) (keeps_contents (with_node (Text text) f) (with_node_at gap (Text text) f) refl)
-keeps_more (Some n) gap text f = keeps_changed f n (lengthened text) (element_changed (lengthened text) (λ e. refl)) (λ y top. (kind_longer text y).top ∙ top)
+keeps_more (Some n) gap text f = keeps_changed f n (lengthened text) (λ e. refl) (λ y top. (kind_longer text y).top ∙ top)
 
 pub keeps_text : (f g : Forest) (gap : InsertionPoint) (text : List ℕ) → g ≡ with_text_at gap text f → Keeps f g
 keeps_text f g gap text e = keeps_on f (with_text_at gap text f) g (keeps_more (text_before gap f) gap text f) (keeps_same _ g e)
-
-pub keeps_attrs : (f g : Forest) (x : ℕ) (change : List Attr → List Attr) → g ≡ with_content x (with_attrs change) f → Keeps f g
-keeps_attrs f g x change e = keeps_on f (with_content x (with_attrs change) f) g (keeps_changed f x (with_attrs change) (element_changed (with_attrs change) (λ e. refl)) (λ y top. (kind_with_attrs change y).top ∙ top)) (keeps_same _ g e)
 
 -- ---- places
 

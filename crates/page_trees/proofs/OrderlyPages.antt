@@ -1,9 +1,10 @@
 -- Of a covered page nothing is asked that is so wherever a turn begins.
 use Rattle.std.specs.Prelude.{◌≡◌, refl, ℕ, zero, suc, Bool, true, false, not, ◌&&◌, List, [], ◌∷◌, Option, None, Some}
 use Rattle.standard_tokens.specs.Tokens.{Token}
-use Rattle.standard_trees.specs.Building.{Building, is_line_feed, performed, start, taken, with_next}
+use Rattle.standard_trees.specs.Building.{Building, is_line_feed, performed, taken, with_next}
 use Rattle.standard_trees.specs.RuleWords.{Dispatcher}
 use Rattle.standard_trees.specs.TreeRules.{rules}
+use Rattle.standard_order.specs.Beginnings.{first_building}
 use Rattle.standard_order.specs.Begun.{begun_too, is_begun}
 use Rattle.standard_order.specs.CurrentNodes.{current_too, has_current}
 use Rattle.standard_order.specs.FormattingListed.{formatting_too, lists_formatting}
@@ -16,7 +17,7 @@ use Rattle.standard_order.proofs.FormattingTurns.{only_formatting_is_listed}
 use Rattle.standard_order.proofs.PendingNulls.{no_null_is_pending}
 use Rattle.standard_order.proofs.ListedTurns.{listing_needs_no_test}
 use Rattle.standard_order.proofs.TurnsRun.{order_needs_no_test}
-use Rattle.page_trees.specs.CoveredTurns.{returns_plainly}
+use Rattle.page_trees.specs.CoveredTurns.{keeps_plainly}
 use Rattle.page_trees.specs.OrderlyTurns.{TurnsAreOrderly, orderly_too}
 use Rattle.standard_order.specs.Turns.{is_dispatcher, run_while, tree_step_while, tree_steps_while}
 use Rattle.page_trees.proofs.ReturnModes.{returning_too, turns_return}
@@ -65,7 +66,7 @@ all_too test = formatting_too (current_too (begun_too (listed_too (without_nulls
 
 all_orderly : (test : Building → Bool) → IsNarrower (all_too test) (orderly_too test)
 all_orderly test b h =
-    by (test b) (returns_plainly b) (is_in_order b) (without_nulls b.pending) (lists_each_once b) (is_begun b) (has_current b)
+    by (test b) (keeps_plainly b) (is_in_order b) (without_nulls b.pending) (lists_each_once b) (is_begun b) (has_current b)
     (lists_formatting b) h
   where
     by : (x y z w v u s r : Bool) → ((((((x && y) && z) && w) && v) && u) && s) && r ≡ true →
@@ -79,14 +80,14 @@ all_orderly test b h =
     by false y z w v u s r k = k
 
 pub turns_are_orderly : TurnsAreOrderly
-turns_are_orderly test depth scripting tokens end h =
-    narrower_steps (all_too test) (orderly_too test) (all_orderly test) depth tokens (start scripting) end
-    (only_formatting_is_listed (current_too (begun_too listed)) depth scripting tokens end
-    (current_nodes_are_known (begun_too listed) depth scripting tokens end
-    (turns_are_begun listed depth scripting tokens end
-    (listing_needs_no_test (without_nulls_too (in_order_too (returning_too test))) depth scripting tokens end
-    (no_null_is_pending (in_order_too (returning_too test)) depth scripting tokens end
-    (order_needs_no_test (returning_too test) depth scripting tokens end (turns_return test depth scripting tokens end h)))))))
+turns_are_orderly test depth beginning tokens end h =
+    narrower_steps (all_too test) (orderly_too test) (all_orderly test) depth tokens (first_building beginning) end
+    (only_formatting_is_listed (current_too (begun_too listed)) depth beginning tokens end
+    (current_nodes_are_known (begun_too listed) depth beginning tokens end
+    (turns_are_begun listed depth beginning tokens end
+    (listing_needs_no_test (without_nulls_too (in_order_too (returning_too test))) depth beginning tokens end
+    (no_null_is_pending (in_order_too (returning_too test)) depth beginning tokens end
+    (order_needs_no_test (returning_too test) depth beginning tokens end (turns_return test depth beginning tokens end h)))))))
   where
     listed : Building → Bool
     listed = listed_too (without_nulls_too (in_order_too (returning_too test)))

@@ -30,12 +30,14 @@ use Rattle.page_trees.specs.CharacterSteps.{covers_between, covers_characters, c
 use Rattle.page_trees.specs.CharacterSteps.{fosters_text, goes_to_mode, has_begun, has_no_null, is_nowhere, keeps_text, pending_names}
 use Rattle.page_trees.specs.CharacterSteps.{takes_characters, with_foster}
 use Rattle.page_trees.specs.CoveredTurns.{covers, covers_character, covers_comment, covers_doctype, covers_end, enters_plainly, is_in_mode}
-use Rattle.page_trees.specs.CoveredTurns.{is_text_mode, returns, returns_plainly, suits_settling, uses_current_mode}
+use Rattle.page_trees.specs.CoveredTurns.{is_text_mode, keeps_plainly, returns, returns_plainly, suits_settling, uses_current_mode}
 use Rattle.page_trees.specs.OrderlyTurns.{OthersAreCovered, is_orderly, is_tag}
+use Rattle.standard_trees.specs.Laws.{is_plain}
 
 -- ---- an orderly state
 
 pub record Orderly (b : Building) : Type 0 where
+  pub plain : is_plain b.original ≡ true
   pub returning : returns_plainly b ≡ true
   pub opened : is_before_html b.mode || has_html b ≡ true
   pub closed : not (is_after_head b.mode) || head_is_closed b ≡ true
@@ -49,7 +51,8 @@ pub record Orderly (b : Building) : Type 0 where
 
 pub orderly : (b : Building) → is_orderly b ≡ true → Orderly b
 orderly b h = record {
-  returning = one.0;
+  plain = (both (is_plain b.original) (returns_plainly b) one.0).0;
+  returning = (both (is_plain b.original) (returns_plainly b) one.0).1;
   opened = (both (is_before_html b.mode || has_html b) (not (is_after_head b.mode) || head_is_closed b) two.0).0;
   closed = (both (is_before_html b.mode || has_html b) (not (is_after_head b.mode) || head_is_closed b) two.0).1;
   nulls = three.0;
@@ -64,8 +67,8 @@ orderly b h = record {
     last : Bool
     last = has_current b && lists_formatting b
 
-    one : (returns_plainly b ≡ true) × (is_in_order b && (without_nulls b.pending && (lists_each_once b && (is_begun b && last))) ≡ true)
-    one = both (returns_plainly b) (is_in_order b && (without_nulls b.pending && (lists_each_once b && (is_begun b && last)))) h
+    one : (keeps_plainly b ≡ true) × (is_in_order b && (without_nulls b.pending && (lists_each_once b && (is_begun b && last))) ≡ true)
+    one = both (keeps_plainly b) (is_in_order b && (without_nulls b.pending && (lists_each_once b && (is_begun b && last)))) h
 
     two : (is_in_order b ≡ true) × (without_nulls b.pending && (lists_each_once b && (is_begun b && last)) ≡ true)
     two = both (is_in_order b) (without_nulls b.pending && (lists_each_once b && (is_begun b && last))) one.1
@@ -85,7 +88,7 @@ orderly b h = record {
     eight : (is_in_html b ≡ true) × (has_open b ≡ true)
     eight = both (is_in_html b) (has_open b) seven.1
 
-both_so : (x y : Bool) → x ≡ true → y ≡ true → x && y ≡ true
+pub both_so : (x y : Bool) → x ≡ true → y ≡ true → x && y ≡ true
 both_so true y e f = f
 both_so false y e f = e
 
@@ -264,7 +267,7 @@ end_covered b o = by b.mode o.returning
     by _ r = o.returning
 
 pub others_are_covered : OthersAreCovered
-others_are_covered b h other = by b.token other
+others_are_covered b h other = both_so (is_plain b.original) (covers b.token b) o.plain (by b.token other)
   where
     o : Orderly b
     o = orderly b h

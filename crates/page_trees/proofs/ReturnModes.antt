@@ -1,5 +1,6 @@
--- Wherever the dispatcher begins with a token, the mode to which "text" or "in table text" returns is one to which rules switch.
-use Rattle.std.specs.Prelude.{◌≡◌, ◌||◌, refl, ℕ, zero, suc, Bool, true, false, not, ◌==◌, ◌&&◌, List, [], ◌∷◌, Option, None, Some, drop, option_map, reverse, unwrap_or}
+-- Wherever the dispatcher begins with a token, the original insertion mode is one in which a token of any kind may come, and the one to which
+-- "text" or "in table text" returns is one to which rules switch.
+use Rattle.std.specs.Prelude.{◌≡◌, ◌||◌, refl, ℕ, zero, suc, Bool, true, false, not, ◌==◌, ◌&&◌, List, [], ◌∷◌, Option, None, Some, drop, option_map, reverse, unwrap_or, cond}
 use Rattle.std.specs.List.{list_all, list_any}
 use Rattle.std.specs.Option.{option_and_then}
 use Rattle.std.proofs.lemmas.Option.{same_Some}
@@ -11,11 +12,13 @@ use Rattle.standard_trees.specs.RuleWords.{UseForEachPending, does, goes, reset_
 use Rattle.standard_trees.specs.RuleWords.{BeforeHtml, BeforeHead, InHead, InHeadNoscript, AfterHead, InTable, InCaption, InColumnGroup, InTableBody}
 use Rattle.standard_trees.specs.RuleWords.{InRow, InCell, InTemplate, AfterBody, InFrameset, AfterFrameset, AfterAfterBody, AfterAfterFrameset}
 use Rattle.standard_trees.specs.TreeRules.{resets, rules}
-use Rattle.standard_trees.specs.TreeStore.{key_in}
-use Rattle.standard_trees.specs.GrowingTree.{GrowingTree, is_among, key, kind_of}
+use Rattle.standard_trees.specs.TreeStore.{EndOf, Html, key_in}
+use Rattle.standard_trees.specs.GrowingTree.{GrowingTree, inserted_at, is_among, is_template, key, kind_of}
 use Rattle.standard_trees.specs.Building.{Building, each_char, fits, gone, is_empty, is_line_feed, is_met, is_space, node_test, perform, performed}
-use Rattle.standard_trees.specs.Building.{reset_by, reset_from, start, taken, top_mode, with_next, with_token}
-use Rattle.page_trees.specs.CoveredTurns.{enters_plainly, returns, returns_plainly}
+use Rattle.standard_trees.specs.Building.{Surroundings, fragment_start, reset, reset_by, reset_from, start, taken, top_mode, with_next, with_token}
+use Rattle.page_trees.specs.CoveredTurns.{enters_plainly, keeps_plainly, returns}
+use Rattle.standard_trees.specs.Laws.{is_plain}
+use Rattle.standard_order.specs.Beginnings.{Beginning, OfFragment, OfPage, first_building}
 use Rattle.standard_order.specs.Turns.{is_barred, run_while, tree_step_while, tree_steps_while}
 
 -- ---- what is known of the modes between two acts
@@ -26,7 +29,7 @@ pub data Level : Type 0 where
   Fine Returning Settled Kept : Level
 
 abbrev pub Modes : Building → Type 0
-Modes b = list_all enters_plainly b.template_modes ≡ true
+Modes b = (is_plain b.original ≡ true) × (list_all enters_plainly b.template_modes ≡ true)
 
 abbrev pub Turns : Building → Type 0
 Turns b = (returns b.mode ≡ true → enters_plainly b.original ≡ true) × Modes b
@@ -207,20 +210,23 @@ modes_at Kept b at = at.2
 
 -- with other template insertion modes
 with_modes : (level : Level) (b : Building) (modes : List Mode) → list_all enters_plainly modes ≡ true → At level b → At level (record b { template_modes = modes })
-with_modes Fine b modes h at = (at.0, h)
-with_modes Returning b modes h at = (at.0, at.1, h)
-with_modes Settled b modes h at = (at.0, h)
-with_modes Kept b modes h at = (at.0, at.1, h)
+with_modes Fine b modes h at = (at.0, (at.1.0, h))
+with_modes Returning b modes h at = (at.0, at.1, (at.2.0, h))
+with_modes Settled b modes h at = (at.0, (at.1.0, h))
+with_modes Kept b modes h at = (at.0, at.1, (at.2.0, h))
 
 -- two states whose modes are equal
 abbrev pub SameModes : Building → Building → Type 0
 SameModes b c = (c.mode ≡ b.mode) × (c.original ≡ b.original) × (c.template_modes ≡ b.template_modes)
 
+modes_same : (b c : Building) → SameModes b c → Modes b → Modes c
+modes_same b c same modes = (ap is_plain same.1 ∙ modes.0, ap (list_all enters_plainly) same.2 ∙ modes.1)
+
 at_same : (level : Level) (b c : Building) → SameModes b c → At level b → At level c
-at_same Fine b c same at = (λ h. ap enters_plainly same.1 ∙ at.0 (ap returns (sym same.0) ∙ h), ap (list_all enters_plainly) same.2 ∙ at.1)
-at_same Returning b c same at = (ap returns same.0 ∙ at.0, ap enters_plainly same.1 ∙ at.1, ap (list_all enters_plainly) same.2 ∙ at.2)
-at_same Settled b c same at = (ap enters_plainly same.0 ∙ at.0, ap (list_all enters_plainly) same.2 ∙ at.1)
-at_same Kept b c same at = (ap enters_plainly same.0 ∙ at.0, ap enters_plainly same.1 ∙ at.1, ap (list_all enters_plainly) same.2 ∙ at.2)
+at_same Fine b c same at = (λ h. ap enters_plainly same.1 ∙ at.0 (ap returns (sym same.0) ∙ h), modes_same b c same at.1)
+at_same Returning b c same at = (ap returns same.0 ∙ at.0, ap enters_plainly same.1 ∙ at.1, modes_same b c same at.2)
+at_same Settled b c same at = (ap enters_plainly same.0 ∙ at.0, modes_same b c same at.1)
+at_same Kept b c same at = (ap enters_plainly same.0 ∙ at.0, ap enters_plainly same.1 ∙ at.1, modes_same b c same at.2)
 
 abbrev pub after : List Test → Action → Building → Building
 after tests action b = elim (list_all (is_met b) tests) [ true ↦ perform action b | false ↦ b ]
@@ -247,9 +253,17 @@ switches Returning mode true y true false b e met new h at = never (met refl)
 switches Returning mode true y false w b e met new h at = cc
 switches Returning mode false y z w b e met new h at = cc
 
+entered_plain : (mode : Mode) → enters_plainly mode ≡ true → is_plain mode ≡ true
+entered_plain Initial h = cc
+entered_plain Dispatcher h = cc
+entered_plain ForeignContent h = cc
+entered_plain Text h = cc
+entered_plain InTableText h = cc
+entered_plain _ h = refl
+
 keeps : (level : Level) (z w : Bool) (b : Building) → (z ≡ true → w ≡ true) → (new : Level) → kept level z ≡ Some new → At level b →
     At new (elim w [ true ↦ record b { original = b.mode } | false ↦ b ])
-keeps Settled true true b met new h at = subst (λ l. At l (record b { original = b.mode })) (same_Some Kept new h) (at.0, at.0, at.1)
+keeps Settled true true b met new h at = subst (λ l. At l (record b { original = b.mode })) (same_Some Kept new h) (at.0, at.0, (entered_plain b.mode at.0, at.1.1))
 keeps Settled true false b met new h at = never (met refl)
 keeps Settled false w b met new h at = cc
 keeps Kept z w b met new h at = cc
@@ -269,7 +283,7 @@ resets_mode : (level : Level) (z w : Bool) (b : Building) → (z ≡ true → w 
     At new (elim w [ true ↦ record b { mode = reset_from b.tree b.template_modes b.tree.stack } | false ↦ b ])
 resets_mode level true true b met new h at =
     subst (λ l. At l (record b { mode = reset_from b.tree b.template_modes b.tree.stack })) (same_Some Settled new h)
-    (reset_from_passes enters_plainly refl refl b.tree b.template_modes (top_entered b.template_modes (modes_at level b at)) b.tree.stack, modes_at level b at)
+    (reset_from_passes enters_plainly refl refl b.tree b.template_modes (top_entered b.template_modes (modes_at level b at).1) b.tree.stack, modes_at level b at)
 resets_mode level true false b met new h at = never (met refl)
 resets_mode level false w b met new h at = cc
 
@@ -277,7 +291,7 @@ pushes : (level : Level) (mode : Mode) (x w : Bool) (b : Building) → enters_pl
     At new (elim w [ true ↦ record b { template_modes = mode ∷ b.template_modes } | false ↦ b ])
 pushes level mode true true b e new h at =
     subst (λ l. At l (record b { template_modes = mode ∷ b.template_modes })) (same_Some level new h)
-    (with_modes level b (mode ∷ b.template_modes) (ap (λ x. x && list_all enters_plainly b.template_modes) e ∙ modes_at level b at) at)
+    (with_modes level b (mode ∷ b.template_modes) (ap (λ x. x && list_all enters_plainly b.template_modes) e ∙ (modes_at level b at).1) at)
 pushes level mode true false b e new h at = subst (λ l. At l b) (same_Some level new h) at
 pushes level mode false w b e new h at = cc
 
@@ -285,7 +299,7 @@ drops : (level : Level) (w : Bool) (b : Building) (new : Level) → Some level �
     At new (elim w [ true ↦ record b { template_modes = drop 1 b.template_modes } | false ↦ b ])
 drops level true b new h at =
     subst (λ l. At l (record b { template_modes = drop 1 b.template_modes })) (same_Some level new h)
-    (with_modes level b (drop 1 b.template_modes) (dropped b.template_modes (modes_at level b at)) at)
+    (with_modes level b (drop 1 b.template_modes) (dropped b.template_modes (modes_at level b at).1) at)
 drops level false b new h at = subst (λ l. At l b) (same_Some level new h) at
 
 stays : (level : Level) (w : Bool) (b c : Building) → SameModes b c → (new : Level) → Some level ≡ Some new → At level b → At new (elim w [ true ↦ c | false ↦ b ])
@@ -362,20 +376,21 @@ enough Kept Kept b h at = cc
 
 -- ---- runs
 
-orderly : (b : Building) → Turns b → returns_plainly b ≡ true
-orderly b turns = by (returns b.mode) turns.0
+orderly : (b : Building) → Turns b → keeps_plainly b ≡ true
+orderly b turns = by (returns b.mode) (is_plain b.original) turns.1.0 turns.0
   where
-    by : (x : Bool) → (x ≡ true → enters_plainly b.original ≡ true) → not x || enters_plainly b.original ≡ true
-    by true h = h refl
-    by false h = refl
+    by : (x y : Bool) → y ≡ true → (x ≡ true → enters_plainly b.original ≡ true) → y && (not x || enters_plainly b.original) ≡ true
+    by true true e h = h refl
+    by false true e h = refl
+    by x false e h = cc
 
 -- what the one comes to, the other comes to, and that is so behind it
 abbrev pub Follows : (Building → Type 0) → Option Building → Option Building → Type 0
 Follows P o p = (c : Building) → o ≡ Some c → (p ≡ Some c) × P c
 
--- the state passes a test, and a mode that returns does so to one to which rules switch
+-- the state passes a test, and that is so of the original insertion mode
 abbrev pub returning_too : (Building → Bool) → Building → Bool
-returning_too test b = test b && returns_plainly b
+returning_too test b = test b && keeps_plainly b
 
 abbrev pub RunsOrderly : (Building → Bool) → ℕ → Type 0
 RunsOrderly test d = (mode : Mode) (b : Building) → Uses mode b → Follows Turns (run_while test d mode b) (run_while (returning_too test) d mode b)
@@ -536,7 +551,7 @@ passes_both true false z f g h = cc
 passes_both false y z f g h = cc
 
 barred_too : (test : Building → Bool) (mode : Mode) (b : Building) → Uses mode b → is_barred test mode b ≡ false → is_barred (returning_too test) mode b ≡ false
-barred_too test Dispatcher b uses h = passes_both (test b) (returns_plainly b) true (orderly b uses) (λ k. refl) h
+barred_too test Dispatcher b uses h = passes_both (test b) (keeps_plainly b) true (orderly b uses) (λ k. refl) h
 barred_too test _ b uses h = refl
 
 pub runs_orderly : (test : Building → Bool) (d : ℕ) → RunsOrderly test d
@@ -566,9 +581,31 @@ steps_orderly test d (token ∷ more) b turns =
     then_follows Turns Turns (λ after. tree_steps_while test d after more) (λ after. tree_steps_while (returning_too test) d after more)
     (λ x k. steps_orderly test d more x k) (tree_step_while test d b token) (tree_step_while (returning_too test) d b token) (step_orderly test d b token turns)
 
-start_turns : (scripting : Bool) → Turns (start scripting)
-start_turns scripting = (λ h. never h, refl)
+fragment_turns : (scripting : Bool) (around : Surroundings) → Turns (fragment_start scripting around)
+fragment_turns scripting around = by (is_template around.space around.name)
+  where
+    t : GrowingTree
+    t = (fragment_start scripting around).tree
 
-pub turns_return : (test : Building → Bool) (depth : ℕ) (scripting : Bool) (tokens : List Token) (end : Building) →
-    tree_steps_while test depth (start scripting) tokens ≡ Some end → tree_steps_while (returning_too test) depth (start scripting) tokens ≡ Some end
-turns_return test depth scripting tokens end h = (steps_orderly test depth tokens (start scripting) (start_turns scripting) end h).0
+    modes : Bool → List Mode
+    modes x = cond x (InTemplate ∷ []) []
+
+    begun : Bool → Building
+    begun x = record (start scripting) { tree = t; quirks = around.quirks; template_modes = modes x }
+
+    entered : (x : Bool) → list_all enters_plainly (modes x) ≡ true
+    entered true = refl
+    entered false = refl
+
+    by : (x : Bool) → Turns (reset (begun x))
+    by x = turns_at Settled (reset (begun x))
+        (reset_from_passes enters_plainly refl refl t (modes x) (top_entered (modes x) (entered x)) t.stack, (refl, entered x))
+
+first_turns : (beginning : Beginning) → Turns (first_building beginning)
+first_turns (OfPage scripting) = (λ h. never h, (refl, refl))
+first_turns (OfFragment scripting around) = fragment_turns scripting around
+
+pub turns_return : (test : Building → Bool) (depth : ℕ) (beginning : Beginning) (tokens : List Token) (end : Building) →
+    tree_steps_while test depth (first_building beginning) tokens ≡ Some end →
+    tree_steps_while (returning_too test) depth (first_building beginning) tokens ≡ Some end
+turns_return test depth beginning tokens end h = (steps_orderly test depth tokens (first_building beginning) (first_turns beginning) end h).0

@@ -16,6 +16,7 @@ use Rattle.standard_order.specs.Turns.{run_while}
 use Rattle.page_trees.specs.declared.builder.Mode.{Mode}
 use Rattle.page_trees.specs.declared.builder.Next.{Next}
 use Rattle.page_trees.specs.declared.builder.TreeBuilder.{TreeBuilder}
+use Rattle.page_trees.proofs.BoundedTurns.{covers_it}
 use Rattle.page_trees.proofs.NamesAgree.{both}
 use Rattle.page_trees.proofs.PendingTexts.{is_character, text_settles}
 use Rattle.page_trees.proofs.SettledTexts.{nothing_pending, text_stands}
@@ -54,13 +55,13 @@ pub taken_settled : (token : StandardToken) (old first mid new : TreeBuilder) �
     (keeps_characters mid.mode ≡ false → WithinLimits new → (b : Building) → b.token ≡ token → Constructs mid b → (depth : ℕ) (c : Building) →
     run_while covered_turn depth Dispatcher b ≡ Some c → Constructs new c) →
     TakesTokens (token ∷ []) old new
-taken_settled token old first mid new plain other e same settles limits asked rule quiet within b stands depth few c h =
+taken_settled token old first mid new plain other e same settles limits asked rule quiet within b stands depth c h =
     let next : Building = with_next token b in
     let begins : Constructs first next = begun old first token e quiet b stands in
     let runs = turns_of depth b c token plain h in
     elim (cases_Bool (keeps_characters first.mode)) [
       | inl on ↦ (let text : next.mode ≡ InTableText = begins.mode ∙ ap mode_of (keeps_is first.mode on) in
-          let suits = asked next text (turn_passes covered_turn depth next c runs) in
+          let suits = asked next text (covers_it next (turn_passes covered_turn depth next c runs)) in
           settled_turns depth token first mid new next c refl other text suits
           (text_stands first mid next settles (limits within) on (both (is_in_mode next) (suits_settling next) suits).1 begins)
           (λ early x is stood d turns. rule early within x is stood d c turns) runs)

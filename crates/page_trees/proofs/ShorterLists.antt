@@ -1,27 +1,11 @@
 -- The list of active formatting elements without some of its entries.
-use Rattle.std.proofs.Common.{◌≡◌, ℕ, ◌≤◌, ◌||◌, not, Bool, true, false, List, [], ◌∷◌, filter, refl, ap, ◌∙◌, length, suc, arith, if◌then◌else◌}
+use Rattle.std.proofs.Common.{◌≡◌, ℕ, ◌||◌, not, Bool, true, false, List, [], ◌∷◌, filter, refl, ap, ◌∙◌, if◌then◌else◌}
 use Rattle.std.specs.List.{list_any}
-use Rattle.std.proofs.lemmas.Bool.{lt-ltb, ltb-true}
 use Rattle.standard_trees.specs.Formatting.{is_entry}
 use Rattle.standard_trees.specs.GrowingTree.{Entry as StandardEntry, Formatting, Marker}
-use Rattle.page_trees.specs.Formatting.{are_few}
 use Rattle.page_trees.specs.Listing.{lists_once}
 use Rattle.page_trees.proofs.NamesAgree.{both}
 use Rattle.page_trees.proofs.SplitLists.{neither, not_true, true_both}
-
-left_long : {X : Type 0} (p : X → Bool) (xs : List X) → length (filter p xs) ≤ length xs
-left_long p [] = omega arith
-left_long p (x ∷ xs) = by (p x) (left_long p xs)
-  where
-    by : (b : Bool) → length (filter p xs) ≤ length xs → length (if b then x ∷ filter p xs else filter p xs) ≤ suc (length xs)
-    by true le = omega (arith, le)
-    by false le = omega (arith, le)
-
-pub left_few : (p : StandardEntry → Bool) (es : List StandardEntry) → are_few es ≡ true → are_few (filter p es) ≡ true
-left_few p es few =
-    let less = ltb-true (length es) 16 few in
-    let le = left_long p es in
-    lt-ltb (length (filter p es)) 16 (omega (arith, less, le))
 
 none_left : (p : StandardEntry → Bool) (n : ℕ) (es : List StandardEntry) → list_any (is_entry n) es ≡ false → list_any (is_entry n) (filter p es) ≡ false
 none_left p n [] h = refl

@@ -1,5 +1,5 @@
 -- In an orderly state each tag is covered, but where the list of active formatting elements is long.
-use Rattle.std.specs.Prelude.{◌≡◌, ◌||◌, ◌&&◌, refl, ℕ, Bool, true, false, not, List, [], ◌∷◌, Option, None, Some, codes, length, nat_eq, nat_lt}
+use Rattle.std.specs.Prelude.{◌≡◌, ◌||◌, ◌&&◌, refl, ℕ, Bool, true, false, not, List, [], ◌∷◌, Option, None, Some, codes, length, nat_eq}
 use Rattle.std.specs.List.{list_all}
 use Rattle.std.specs.Option.{option_map_or}
 use Rattle.std.specs.Str.{bytes_eq}
@@ -34,7 +34,7 @@ use Rattle.page_trees.specs.CoveredTurns.{tag_name, uses_current_mode}
 use Rattle.page_trees.specs.FosteredTags.{acts_in_body, comes_to_table, ends_there, fosters_tag, is_fostering, is_image, is_table_mode}
 use Rattle.page_trees.specs.FosteredTags.{names_image, suits_in_body}
 use Rattle.page_trees.specs.Groups.{group_named, is_part_name}
-use Rattle.page_trees.specs.Listing.{allows_agency, closes_nobr, has_few, lists_few}
+use Rattle.page_trees.specs.Listing.{allows_agency, closes_nobr}
 use Rattle.page_trees.specs.Names.{html_rows, name_of, rare_rows, text_of}
 use Rattle.page_trees.specs.OrderlyTurns.{TagsAreCovered, is_tag, opens_none_early}
 use Rattle.page_trees.specs.TableSteps.{covers_caption, covers_cell, covers_content, covers_input, covers_other, covers_row, covers_table}
@@ -44,7 +44,6 @@ use Rattle.page_trees.specs.TableTexts.{with_fostering}
 use Rattle.page_trees.specs.declared.modes.groups.Group.{Group}
 use Rattle.page_trees.specs.declared.name.Name.{Name}
 use Rattle.page_trees.proofs.BodyImages.{image_named}
-use Rattle.page_trees.proofs.FormattingRules.{reconstructed_long}
 use Rattle.page_trees.proofs.OrderlyTokens.{Orderly, orderly}
 use Rattle.page_trees.proofs.StandingNames.{text_again}
 use Rattle.page_trees.proofs.TagRules.{among_all, end_ends, end_fostered, input_fostered, none_among, start_ends, start_fostered}
@@ -53,10 +52,9 @@ use Rattle.page_trees.proofs.TokenRules.{taken_of}
 
 -- ---- a state
 
--- the list is short, and each element is in it once at most
-pub record Lists (b : Building) : Type 0 where
-  pub few : has_few b.tree ≡ true
-  pub once : Once b.tree
+-- each element is in the list once at most
+abbrev pub Lists : Building → Type 0
+Lists b = Once b.tree
 
 -- what is known of the state in which a tag is processed by the rules for a mode
 pub record Suits (b : Building) : Type 0 where
@@ -95,28 +93,22 @@ ends_all Group.Html = refl
 ends_all _ = refl
 
 agency_so : (b : Building) → Lists b → allows_agency b ≡ true
-agency_so b lists = both_so (has_few b.tree) (lists_once b.tree.listed) lists.few lists.once.0
+agency_so b lists = lists.0
 
 nobr_so : (b : Building) → Lists b → closes_nobr b ≡ true
-nobr_so b lists = both_so (lists_few b) (not (holds (InScope Scope (These (codes "nobr" ∷ []))) b) || allows_agency b) lists.few
-    (right_so (not (holds (InScope Scope (These (codes "nobr" ∷ []))) b)) (allows_agency b) (agency_so b lists))
+nobr_so b lists = right_so (not (holds (InScope Scope (These (codes "nobr" ∷ []))) b)) (allows_agency b) (agency_so b lists)
 
 reconstructed_so : (b : Building) → Lists b → Lists (perform ReconstructFormatting b)
 unfolding perform
-reconstructed_so b lists = record {
-  few = ap (λ n. nat_lt n 16) (reconstructed_long b.tree) ∙ lists.few;
-  once = once_reconstructed b.tree lists.once;
-}
+reconstructed_so b lists = once_reconstructed b.tree lists
 
 starts_suit : (group : Group) (b : Building) → Lists b → (group ≡ Group.Image → comes_back b ≡ true) → starts_in group b ≡ true
 starts_suit Group.A b lists image =
-    by (lists_few b) (holds (Listed (These (codes "a" ∷ []))) b) (allows_agency b) lists.few (agency_so b lists)
+    by (holds (Listed (These (codes "a" ∷ []))) b) (allows_agency b) (agency_so b lists)
   where
-    by : (x y z : Bool) → x ≡ true → z ≡ true → (x && not y) || (y && z) ≡ true
-    by true true z e f = f
-    by true false z e f = refl
-    by false y z e f = cc
-starts_suit Group.Formatting b lists image = lists.few
+    by : (y z : Bool) → z ≡ true → not y || (y && z) ≡ true
+    by true z f = f
+    by false z f = refl
 starts_suit Group.Nobr b lists image = nobr_so (perform ReconstructFormatting b) (reconstructed_so b lists)
 starts_suit Group.Image b lists image = image refl
 starts_suit _ b lists image = refl
@@ -174,7 +166,7 @@ start_acts w attrs closing b e lists again table = by (names_image (name_of w)) 
     on = with_fostering true b
 
     lists_on : Lists on
-    lists_on = record { few = lists.few; once = (lists.once.0, lists.once.1) }
+    lists_on = (lists.0, lists.1)
 
     by : (x : Bool) → names_image (name_of w) ≡ x → acts_in_body on || comes_to_table b ≡ true
     by true k = right_so (acts_in_body on) (comes_to_table b) (both_so (is_image b.token) (is_table_mode b.mode && goes_to_mode b.tree)
@@ -197,7 +189,7 @@ end_acts w b e lists other =
     on = with_fostering true b
 
     lists_on : Lists on
-    lists_on = record { few = lists.few; once = (lists.once.0, lists.once.1) }
+    lists_on = (lists.0, lists.1)
 
 -- the start tags that are in the rules for "in table" are covered, but for `input`, of which that depends on its attributes
 abbrev starts_there : List ℕ → Bool
@@ -420,7 +412,7 @@ popped_so b suits = record {
   nulls = suits.nulls;
   insertion = suits.insertion;
   tag = suits.tag;
-  lists = record { few = suits.lists.few; once = (suits.lists.once.0, suits.lists.once.1) };
+  lists = (suits.lists.0, suits.lists.1);
 }
   where
     html_kept : (x : Bool) → x || has_html b ≡ true →
@@ -534,14 +526,14 @@ tag_so b suits early = by (is_in_mode b) refl
         (right_so (is_start_tag b.token) (has_html b) (html_open b suits early e)) (acts_here b suits)
 
 pub tags_are_covered : TagsAreCovered
-tags_are_covered b h early tag few = tag_so b (record {
+tags_are_covered b h early tag = tag_so b (record {
   returning = o.returning;
   opened = o.opened;
   closed = o.closed;
   nulls = o.nulls;
   insertion = o.insertion;
   tag = tag;
-  lists = record { few = few; once = both (lists_once b.tree.listed) (list_all (is_below (length b.tree.nodes)) b.tree.listed) o.once };
+  lists = both (lists_once b.tree.listed) (list_all (is_below (length b.tree.nodes)) b.tree.listed) o.once;
 }) early
   where
     o : Orderly b

@@ -22,6 +22,7 @@ use Rattle.page_trees.specs.declared.builder.Next.{Next}
 use Rattle.page_trees.specs.declared.builder.TreeBuilder.{TreeBuilder}
 use Rattle.page_trees.specs.declared.fault.PageFault.{PageFault}
 use Rattle.page_trees.specs.declared.modes.Token.{Token}
+use Rattle.page_trees.proofs.BoundedTurns.{covers_it}
 use Rattle.page_trees.proofs.BuilderSteps.{was_ok}
 use Rattle.page_trees.proofs.NamesSpelled.{name_spelled}
 use Rattle.page_trees.proofs.ToldTokens.{tag_named}
@@ -100,7 +101,7 @@ pub tag_taken : (standard : StandardTag) (tag : Bor Tag) (old mid new : TreeBuil
     mid ≡ record old { skip_line_feed = false } → ProcessesToken (Token.Tag (name_of (string_bytes tag.now.name)) tag) mid new → TakesTokens (token_of standard ∷ []) old new
 tag_taken standard tag old mid new is plain e rule =
     taken_alone (token_of standard) old mid new (no_line_feed standard) (λ b stands covered. e)
-    (λ within b token attrs stands depth few c runs. rule within [] b (current b token attrs, refl) stands depth few c (ap (option_and_then (λ x. Some x)) runs))
+    (λ within b token attrs stands depth c runs. rule within [] b (current b token attrs, refl) stands depth c (ap (option_and_then (λ x. Some x)) runs))
   where
     current : (b : Building) → b.token ≡ token_of standard → b.attrs ≡ token_attrs (token_of standard) → IsCurrentTag (name_of (string_bytes tag.now.name)) tag.now b
     current b token attrs = record {
@@ -115,7 +116,7 @@ tag_taken standard tag old mid new is plain e rule =
 
 -- no memory for the name of the tag
 pub none_kept : (old new : TreeBuilder) (fault : PageFault) (token : Token) → new ≡ record old { fault = first_fault old.fault (Err fault) } → ProcessesToken token old new
-none_kept old new fault token e within others b current stands depth few c h =
+none_kept old new fault token e within others b current stands depth c h =
     absurd (was_ok old.fault (Err fault) ⊥ (sym (ap (λ (s : TreeBuilder). s.fault) e) ∙ within.fault) tt)
 
 -- ---- the end of the page
@@ -123,7 +124,7 @@ none_kept old new fault token e within others b current stands depth few c h =
 pub end_taken : (old mid new : TreeBuilder) → mid ≡ record old { skip_line_feed = false } → ProcessesToken Token.End mid new → TakesTokens (AnEof ∷ []) old new
 end_taken old mid new e rule =
     taken_alone AnEof old mid new refl (λ b stands covered. e)
-    (λ within b token attrs stands depth few c runs. rule within [] b (token, refl) stands depth few c (ap (option_and_then (λ x. Some x)) runs))
+    (λ within b token attrs stands depth c runs. rule within [] b (token, refl) stands depth c (ap (option_and_then (λ x. Some x)) runs))
 
 -- ---- comments and doctypes
 
@@ -137,7 +138,7 @@ comment_whole cs old first mid new e same settles limits rule =
     taken_settled (AComment cs) old first mid new refl refl e same settles limits
     (λ b keeps covered. subst (λ (m : StandardMode). covers_comment m b ≡ true) keeps covered)
     (λ early within b token stands depth c runs.
-    let covered : covers_comment b.mode b ≡ true = sym (ap (λ (t : StandardToken). covers t b) token) ∙ turn_passes covered_turn depth b c runs in
+    let covered : covers_comment b.mode b ≡ true = sym (ap (λ (t : StandardToken). covers t b) token) ∙ covers_it b (turn_passes covered_turn depth b c runs) in
     taken_at_once b c new depth (rule early within b (in_html b.mode b covered) token stands) runs)
 
 pub doctype_whole : (d : StandardDoctype) (old first mid new : TreeBuilder) → first ≡ record old { skip_line_feed = false } → (keeps_characters first.mode ≡ false → mid ≡ first) →

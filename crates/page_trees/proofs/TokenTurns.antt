@@ -11,7 +11,7 @@ use Rattle.standard_trees.specs.RuleWords.{Dispatcher, Mode as StandardMode}
 use Rattle.page_tokens.specs.declared.token.Tag.{Tag}
 use Rattle.page_trees.specs.CharacterSteps.{Completes as RunCompletes, IsRun, ProcessesRun, RunOutcome, fits_in, fits_mode, is_dropping, is_joining}
 use Rattle.page_trees.specs.Constructs.{Constructs, HaveOneToken, IsCurrentTag, Outcome, RemembersLimits, WithinLimits}
-use Rattle.page_trees.specs.CoveredTurns.{Completes, DispatchesCovered, FewTurns, IsCurrent, ProcessesOnce, ProcessesToken, Reprocesses, TakesTokens, TurnEnds, covered_turn, covers, covers_end}
+use Rattle.page_trees.specs.CoveredTurns.{AreEnoughTurns, Completes, DispatchesCovered, IsCurrent, ProcessesOnce, ProcessesToken, Reprocesses, TakesTokens, TurnEnds, covered_turn, covers, covers_end}
 use Rattle.page_trees.specs.Modes.{drops_letters, joins_spaces, mode_of}
 use Rattle.page_trees.specs.TableTexts.{LeavesText}
 use Rattle.page_trees.specs.TokenSteps.{EndsPlainly, ProcessesBy, keeps_characters}
@@ -22,6 +22,8 @@ use Rattle.page_trees.specs.declared.builder.TreeBuilder.{TreeBuilder}
 use Rattle.page_trees.specs.declared.chars.Run.{Run}
 use Rattle.page_trees.specs.declared.modes.Token.{Token}
 use Rattle.page_trees.specs.declared.name.Name.{Name}
+use Rattle.standard_trees.specs.Laws.{depth_at}
+use Rattle.page_trees.proofs.BoundedTurns.{comes_soon, covers_it}
 use Rattle.page_trees.proofs.CoveredRuns.{is_covered}
 use Rattle.page_trees.proofs.CoveredLemmas.{covers_a_tag, ends_plainly}
 use Rattle.page_trees.proofs.RulesRun.{only_some}
@@ -63,7 +65,7 @@ tag_ends name tag others b new Next.Again current o = record {
 pub tag_turn : (name : Name) (tag : Bor Tag) (old new : TreeBuilder) (next : Next) → DispatchesCovered name tag.now old new next → ProcessesOnce (Token.Tag name tag) old new next
 tag_turn name tag old new next rule within others b current covered stands =
     tag_ends name tag others b new next current
-    (rule within b current.0 (sym (ap (λ (t : StandardToken). covers t b) current.0.token ∙ covers_a_tag current.0.standard b) ∙ covered) stands)
+    (rule within b current.0 (sym (ap (λ (t : StandardToken). covers t b) current.0.token ∙ covers_a_tag current.0.standard b) ∙ covers_it b covered) stands)
 
 end_ends : (others : List StandardToken) (b : Building) (new : TreeBuilder) (next : Next) → IsCurrent Token.End others b → Outcome Dispatcher b new next →
     TurnEnds Token.End others b new next
@@ -78,7 +80,7 @@ end_ends others b new Next.Again current o = record {
 pub end_turn : (old new : TreeBuilder) (next : Next) → (EndsPlainly old → ProcessesBy Dispatcher AnEof old new next) → (keeps_characters old.mode ≡ true → LeavesText old new next) →
     ProcessesOnce Token.End old new next
 end_turn old new next rule pending within others b current covered stands =
-    let ends : covers_end b.mode b ≡ true = sym (ap (λ (t : StandardToken). covers t b) current.0) ∙ covered in
+    let ends : covers_end b.mode b ≡ true = sym (ap (λ (t : StandardToken). covers t b) current.0) ∙ covers_it b covered in
     end_ends others b new next current (elim (cases_Bool (keeps_characters old.mode)) [
       | inl keeps ↦ (let leaves = pending keeps in
           subst (λ (n : Next). Outcome Dispatcher b new n) (sym leaves.again) (text_ends old new b leaves.rule within keeps current.0 ends stands))
@@ -140,7 +142,7 @@ run_turn kind text old new next rule within others b current covered stands =
       run = current.run;
       fits = sym (ap (λ (m : StandardMode). fits_in m kind (current.first ∷ current.rest)) stands.mode ∙ fits_is old.mode kind (current.first ∷ current.rest)) ∙ current.fits;
     })
-    within b current.token (is_covered b (sym (ap (λ (t : StandardToken). covers t b) current.token) ∙ covered)).covered stands)
+    within b current.token (is_covered b (sym (ap (λ (t : StandardToken). covers t b) current.token) ∙ covers_it b covered)).covered stands)
 
 -- ---- several turns
 
@@ -186,11 +188,11 @@ under_way_ends token others depth turns last old new once within way c steps =
     once within others way.b way.current (turn_passes covered_turn way.left way.b last way.runs) way.stands depth c
     (ap (option_and_then (λ after. tree_steps_while covered_turn depth after others)) (deeper turns way.left depth way.b last way.count way.runs) ∙ steps)
 
-pub under_way_over : (token : Token) (others : List StandardToken) (depth turns : ℕ) (last : Building) (now : TreeBuilder) → FewTurns depth → 18446744073709551615 ≤ turns →
+pub under_way_over : (token : Token) (others : List StandardToken) (depth turns : ℕ) (last : Building) (now : TreeBuilder) → depth ≤ turns →
     IsUnderWay token others depth turns last now → ⊥
-under_way_over token others depth turns last now few many way =
+under_way_over token others depth turns last now many way =
     no_turn covered_turn Dispatcher way.b last
-    (subst (λ (n : ℕ). run_while covered_turn n Dispatcher way.b ≡ Some last) (omega (arith, way.count, few, many)) way.runs)
+    (subst (λ (n : ℕ). run_while covered_turn n Dispatcher way.b ≡ Some last) (omega (arith, way.count, many)) way.runs)
 
 -- ---- a token that stands alone
 
@@ -213,13 +215,13 @@ turns_of depth b c token plain h = sym (step_is depth b token plain) ∙ only_so
 -- where the code processes the token as the tests of turns ask
 pub taken_alone : (token : StandardToken) (old mid new : TreeBuilder) → is_line_feed token ≡ false →
     ((b : Building) → Constructs old b → covered_turn (with_next token b) ≡ true → mid ≡ record old { skip_line_feed = false }) →
-    (WithinLimits new → (b : Building) → b.token ≡ token → b.attrs ≡ token_attrs token → Constructs mid b → (depth : ℕ) → FewTurns depth → (c : Building) →
+    (WithinLimits new → (b : Building) → b.token ≡ token → b.attrs ≡ token_attrs token → Constructs mid b → (depth : ℕ) (c : Building) →
     run_while covered_turn depth Dispatcher b ≡ Some c → Constructs new c) →
     TakesTokens (token ∷ []) old new
-taken_alone token old mid new plain settled rule quiet within b stands depth few c h =
+taken_alone token old mid new plain settled rule quiet within b stands depth c h =
     let runs = turns_of depth b c token plain h in
     rule within (with_next token b) refl refl
-    (begun old mid token (settled b stands (turn_passes covered_turn depth (with_next token b) c runs)) quiet b stands) depth few c runs
+    (begun old mid token (settled b stands (turn_passes covered_turn depth (with_next token b) c runs)) quiet b stands) depth c runs
 
 -- the rules are done with it in one turn
 pub taken_at_once : (b c : Building) (new : TreeBuilder) (depth : ℕ) → Outcome Dispatcher b new Next.Done → run_while covered_turn depth Dispatcher b ≡ Some c → Constructs new c
@@ -244,16 +246,33 @@ goes_next token first old new turns next e limits once way within others b curre
 
 pub goes_done : (token : Token) (first old new : TreeBuilder) (turns : ℕ) (next : Next) → next ≡ Next.Done → RemembersLimits old new → ProcessesOnce token old new next →
     GoesOn token first old turns → ProcessesToken token first new
-goes_done token first old new turns next e limits once way within others b current stands depth few c h =
+goes_done token first old new turns next e limits once way within others b current stands depth c h =
     let parts = in_turn (run_while covered_turn depth Dispatcher b) (λ after. tree_steps_while covered_turn depth after others) c h in
     under_way_ends token others depth turns parts.0 old new (subst (λ (n : Next). ProcessesOnce token old new n) e once) within
     (way (limits within) others b current stands depth parts.0 parts.1) c parts.2
 
-pub goes_over : (token : Token) (first now : TreeBuilder) (turns : ℕ) → 18446744073709551615 ≤ turns → GoesOn token first now turns → ProcessesToken token first now
-goes_over token first now turns many way within others b current stands depth few c h =
+pub goes_over : (token : Token) (first now : TreeBuilder) (most turns : ℕ) → AreEnoughTurns first most → most ≤ turns → GoesOn token first now turns → ProcessesToken token first now
+goes_over token first now most turns enough many way within others b current stands depth c h =
     let parts = in_turn (run_while covered_turn depth Dispatcher b) (λ after. tree_steps_while covered_turn depth after others) c h in
-    absurd (under_way_over token others depth turns parts.0 now few many (way within others b current stands depth parts.0 parts.1))
+    let few : depth_at b ≤ turns = omega (arith, enough b stands, many) in
+    absurd (under_way_over token others (depth_at b) turns parts.0 now few
+    (way within others b current stands (depth_at b) parts.0 (comes_soon first b parts.0 depth stands parts.1)))
+
+-- done with in one turn, or processed again
+pub once_done : (token : Token) (old new : TreeBuilder) (next : Next) → next ≡ Next.Done → RemembersLimits old new → ProcessesOnce token old new next →
+    ProcessesToken token old new
+once_done token old new next e limits once = goes_done token old old new 0 next e limits once (goes_first token old)
+
+pub once_again : (token : Token) (old mid new : TreeBuilder) (next : Next) → next ≡ Next.Again → RemembersLimits mid new → ProcessesOnce token old mid next →
+    ProcessesToken token mid new → ProcessesToken token old new
+once_again token old mid new next e limits once again within others b current stands depth c h =
+    let parts = in_turn (run_while covered_turn depth Dispatcher b) (λ after. tree_steps_while covered_turn depth after others) c h in
+    let way : IsUnderWay token others depth 1 parts.0 mid =
+    under_way_next token others depth 0 parts.0 old mid (subst (λ (n : Next). ProcessesOnce token old mid n) e once) (limits within)
+    (under_way_first token others depth b parts.0 old current stands parts.1) in
+    again within others way.b way.current way.stands depth c
+    (ap (option_and_then (λ after. tree_steps_while covered_turn depth after others)) (deeper 1 way.left depth way.b parts.0 way.count way.runs) ∙ parts.2)
 
 -- past a limit nothing is said of the token
 pub goes_beyond : (token : Token) (first now new : TreeBuilder) → (WithinLimits now → ⊥) → RemembersLimits now new → ProcessesToken token first new
-goes_beyond token first now new beyond limits within others b current stands depth few c h = absurd (beyond (limits within))
+goes_beyond token first now new beyond limits within others b current stands depth c h = absurd (beyond (limits within))

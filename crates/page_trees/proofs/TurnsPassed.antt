@@ -7,7 +7,7 @@ use Rattle.standard_tokens.specs.Tokens.{Token}
 use Rattle.standard_trees.specs.Building.{Building, is_line_feed, performed, run, taken, tree_step, tree_steps, with_next}
 use Rattle.standard_trees.specs.RuleWords.{Dispatcher, Mode}
 use Rattle.standard_trees.specs.TreeRules.{rules}
-use Rattle.standard_order.specs.Turns.{is_barred, run_while, tree_step_while, tree_steps_while}
+use Rattle.standard_order.specs.Turns.{is_barred, is_dispatcher, run_while, tree_step_while, tree_steps_while}
 use Rattle.page_trees.proofs.DeeperRuns.{BelowIn, more, performed_below, run_left, run_right, then_below}
 
 -- ---- one turn
@@ -46,6 +46,38 @@ while_all_steps test d [] b c h = h
 while_all_steps test d (token ∷ tokens) b c h =
     then_below (λ after. tree_steps_while test d after tokens) (λ after. tree_steps d after tokens) (λ x y k. while_all_steps test d tokens x y k)
     (tree_step_while test d b token) (tree_step d b token) (λ x k. while_steps test d token b x k) c h
+
+-- ---- where turns pass any test, they come to what the rules come to
+
+abbrev pub always : Building → Bool
+always b = true
+
+unbarred_below : (x : Bool) (o p : Option Building) → ((c : Building) → o ≡ Some c → p ≡ Some c) → (c : Building) → o ≡ Some c →
+    elim (x && false) [ true ↦ None | false ↦ p ] ≡ Some c
+unbarred_below true o p below c h = below c h
+unbarred_below false o p below c h = below c h
+
+runs_always : (d : ℕ) → BelowIn (run d) (run_while always d)
+unfolding run run_while
+runs_always zero mode b c h = cc
+runs_always (suc d) mode b c h =
+    unbarred_below (is_dispatcher mode) (performed (run d) (taken b (rules mode)) b) (performed (run_while always d) (taken b (rules mode)) b)
+    (λ x k. performed_below (run d) (run_while always d) (runs_always d) (taken b (rules mode)) b x k) c h
+
+step_always : (d : ℕ) (token : Token) (b c : Building) → tree_step d b token ≡ Some c → tree_step_while always d b token ≡ Some c
+unfolding tree_step tree_step_while
+step_always d token b c h = by_skip (b.skip && is_line_feed token) h
+  where
+    by_skip : (x : Bool) → elim x [ true ↦ Some (with_next token b) | false ↦ run d Dispatcher (with_next token b) ] ≡ Some c →
+        elim x [ true ↦ Some (with_next token b) | false ↦ run_while always d Dispatcher (with_next token b) ] ≡ Some c
+    by_skip true h = h
+    by_skip false h = runs_always d Dispatcher (with_next token b) c h
+
+pub steps_always : (d : ℕ) (tokens : List Token) (b c : Building) → tree_steps d b tokens ≡ Some c → tree_steps_while always d b tokens ≡ Some c
+steps_always d [] b c h = h
+steps_always d (token ∷ tokens) b c h =
+    then_below (λ after. tree_steps d after tokens) (λ after. tree_steps_while always d after tokens) (λ x y k. steps_always d tokens x y k)
+    (tree_step d b token) (tree_step_while always d b token) (λ x k. step_always d token b x k) c h
 
 -- ---- a greater depth gives the same
 

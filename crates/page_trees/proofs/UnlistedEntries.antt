@@ -7,13 +7,14 @@ use Rattle.std.proofs.lemmas.Bool.{eqb-true}
 use Rattle.std.proofs.lemmas.List.{reverse-reverse}
 use Rattle.standard_trees.specs.Formatting.{is_entry, unlisted}
 use Rattle.standard_trees.specs.GrowingTree.{Entry as StandardEntry, Formatting, GrowingTree, Marker}
-use Rattle.page_trees.specs.Formatting.{are_few, is_of, last_place, place_from_end}
+use Rattle.page_trees.specs.Formatting.{is_of, last_place, place_from_end}
 use Rattle.page_trees.specs.Listing.{Unlists, lists_once}
 use Rattle.page_trees.specs.Stands.{Builds, EntryStands, entry_of}
 use Rattle.page_trees.specs.TreeState.{TreeState}
 use Rattle.page_trees.specs.declared.formatting.Entry.{Entry}
 use Rattle.page_trees.proofs.BuiltLists.{built_listed}
-use Rattle.page_trees.proofs.ListedEntries.{all_left, few_there, left_by, left_last, left_more}
+use Rattle.page_trees.proofs.HeldNumbers.{all_left}
+use Rattle.page_trees.proofs.ListedEntries.{left_by, left_last, left_more}
 use Rattle.page_trees.proofs.NamesAgree.{both}
 
 abbrev stays : ℕ → StandardEntry → Bool
@@ -72,13 +73,13 @@ unlisted_built s t n place b once at =
     })
 
 -- by what the calls do
-pub unlists_found : (old view new : TreeState) (n i : ℕ) (r : Option ℕ) → view ≡ old → (are_few view.formatting ≡ true → r ≡ last_place (is_of n) view.formatting) → r ≡ Some i →
+pub unlists_found : (old view new : TreeState) (n i : ℕ) (r : Option ℕ) → view ≡ old → r ≡ last_place (is_of n) view.formatting → r ≡ Some i →
     new ≡ record old { formatting = remove old.formatting i } → Unlists n old new
-unlists_found old view new n i r same at found e t few once b =
-    let place = at (ap (λ (s : TreeState). are_few s.formatting) same ∙ few_there old t b few) ∙ ap (λ (s : TreeState). last_place (is_of n) s.formatting) same in
+unlists_found old view new n i r same at found e t once b =
+    let place = at ∙ ap (λ (s : TreeState). last_place (is_of n) s.formatting) same in
     subst (λ (s : TreeState). Builds s (unlisted n t)) (sym e) (unlisted_built old t n (Some i) b once (sym found ∙ place))
 
-pub unlists_none : (old view : TreeState) (n : ℕ) (r : Option ℕ) → view ≡ old → (are_few view.formatting ≡ true → r ≡ last_place (is_of n) view.formatting) → r ≡ None → Unlists n old old
-unlists_none old view n r same at none t few once b =
-    let place = at (ap (λ (s : TreeState). are_few s.formatting) same ∙ few_there old t b few) ∙ ap (λ (s : TreeState). last_place (is_of n) s.formatting) same in
+pub unlists_none : (old view : TreeState) (n : ℕ) (r : Option ℕ) → view ≡ old → r ≡ last_place (is_of n) view.formatting → r ≡ None → Unlists n old old
+unlists_none old view n r same at none t once b =
+    let place = at ∙ ap (λ (s : TreeState). last_place (is_of n) s.formatting) same in
     unlisted_built old t n None b once (sym none ∙ place)

@@ -4,9 +4,7 @@ use Rattle.std.specs.Prelude.{IfOk, MatchResult, slice_get, option_and_then}
 use Rattle.std.proofs.lemmas.Bool.{cases_Bool, cond-false}
 use Rattle.std.proofs.lemmas.List.{length_push}
 use Rattle.dom_nodes.specs.Kinds.{contents_named, is_fragment, is_top}
-use Rattle.dom_nodes.specs.Changes.{with_attrs, with_missing}
 use Rattle.dom_nodes.specs.declared.fault.EditFault.{EditFault}
-use Rattle.dom_nodes.specs.declared.name.Attr.{Attr}
 use Rattle.dom_nodes.specs.declared.node_data.NodeData.{NodeData}
 use Rattle.dom_nodes.specs.Elements.{Element}
 use Rattle.dom_nodes.specs.declared.node_data.NodeData.TheVariants.{Element as AnElement, Fragment, Text}
@@ -21,7 +19,6 @@ use Rattle.dom_links.specs.declared.gap.InsertionPoint.{InsertionPoint}
 use Rattle.dom_links.specs.declared.gap.InsertionPoint.TheVariants.{After as after_node, Before as before_node, EndOf as end_of, FrontOf as front_of}
 use Rattle.dom_links.specs.Sound.{AtOrBelow, IsForest, IsHostAncestor, IsOpenGap, IsParentOrHost, children_allowed_at, contents_at, one_step, stays, target, then_step}
 use Rattle.dom_links.proofs.forest.Appends.{detach-alone, new_alone}
-use Rattle.dom_links.proofs.forest.Changing.{keeps_attrs as kind_with_attrs}
 use Rattle.dom_links.proofs.forest.Climbs.{fragment_is_top, no_way, one_above}
 use Rattle.dom_links.proofs.forest.Depth.{child_step, step_inside}
 use Rattle.dom_links.proofs.forest.Grown.{contents-more, forest-more, parent-more}
@@ -36,17 +33,18 @@ use Rattle.dom_links.proofs.moves.Cuts.{no_other, parent-detach}
 use Rattle.dom_links.proofs.texts.AddingTexts.{keeps_longer as kind_longer}
 use Rattle.dom_links.specs.declared.gap.MovedNodes.TheVariants.{Node}
 use Rattle.dom_trees.specs.Edits.{Edits, Makes, MayMove, appending}
-use Rattle.dom_trees.specs.TreeUnderConstruction.{adding_attrs, adding_text}
+use Rattle.dom_trees.specs.TreeUnderConstruction.{adding_text}
 use Rattle.std.specs.Option.{option_map_or, unwrap_or}
 use Rattle.page_trees.specs.Elements.{Grows, IsAround, IsCopy, IsElement, IsFresh, IsInside, IsMade, IsNew, IsRooted, limit_of}
 use Rattle.page_trees.specs.declared.fault.PageFault.{PageFault}
-use Rattle.page_trees.proofs.MadeNodes.{Keeps, element_opens, end_opens, copy_is_new, copy_put, element_known, forest_copied, from_new, keeps_attrs, keeps_contents, keeps_on, keeps_put, keeps_same, keeps_text, known_new, made_put, moves_new, none_above, not_root, one_allowed, one_of, element_no_top}
+use Rattle.page_trees.proofs.MadeNodes.{Keeps, element_opens, end_opens, copy_is_new, copy_put, element_known, forest_copied, from_new, keeps_contents, keeps_on, keeps_put, keeps_same, keeps_text, known_new, made_put, moves_new, none_above, not_root, one_allowed, one_of, element_no_top}
 
 -- ---- what grows
 
 grows_of : (f g : Forest) → Keeps f g → ((m n : ℕ) → m < length f.content → n < length f.content → IsHostAncestor g m n → IsHostAncestor f m n) → Grows f g
 grows_of f g keeps ways = record {
   elements = keeps.elements;
+  same = keeps.same;
   root = keeps.root;
   ways = λ m n one other way. ways m n (element_known f m one) (element_known f n other) way;
 }
@@ -385,7 +383,7 @@ is_inside f g h k id p good after element copy e e' = record {
           | inr both ↦ onto_element f h id p m (middle f g h id p good element copy e) known both.0
         ]
 
--- ---- texts, attributes, doctypes, and what is detached
+-- ---- texts, doctypes, and what is detached
 
 named_changed : (change : NodeData → NodeData) → KeepsKind change → (cs : List NodeData) (x n : ℕ) → option_and_then contents_named (slice_get (changed_at x change cs) n) ≡ option_and_then contents_named (slice_get cs n)
 named_changed change kind [] x n = refl
@@ -412,10 +410,6 @@ grows_more f g (Some n) gap text good opens keeps e = grows_changed f g n (lengt
 pub text_call : (r : Result Unit EditFault) (f g : Forest) (gap : InsertionPoint) (text : List ℕ) → IsForest f → IsOpenGap gap f → Edits r f g (adding_text gap text) → Grows f g
 text_call (Ok done) f g gap text good opens edits = grows_more f g (text_before gap f) gap text good opens (keeps_text f g gap text edits.ok) edits.ok
 text_call (Err fault) f g gap text good opens edits = grows_same f g edits.err
-
-pub attrs_call : (r : Result Unit EditFault) (f g : Forest) (x : ℕ) (attrs : List Attr) → Edits r f g (adding_attrs x attrs) → Grows f g
-attrs_call (Ok done) f g x attrs edits = grows_changed f g x (with_attrs (with_missing attrs)) (kind_with_attrs (with_missing attrs)) (keeps_attrs f g x (with_missing attrs) edits.ok) edits.ok
-attrs_call (Err fault) f g x attrs edits = grows_same f g edits.err
 
 -- a node without contents that stands alone is a forest's
 forest_alone : (f : Forest) (content : NodeData) → IsForest f → contents_named content ≡ None → IsForest (with_node content f)

@@ -5,7 +5,7 @@ use Rattle.std.specs.List.{list_any}
 use Rattle.standard_trees.specs.Formatting.{Climb, adopted_by, at_bookmark, climb, copied, is_entry, stacked_below, wrapped}
 use Rattle.standard_trees.specs.GrowingTree.{Entry as StandardEntry, GrowingTree, fresh, is_one, place_in, put, top}
 use Rattle.standard_trees.specs.TreeStore.{is_member, without}
-use Rattle.page_trees.specs.Formatting.{are_few, is_of, last_place}
+use Rattle.page_trees.specs.Formatting.{is_of, last_place}
 use Rattle.page_trees.specs.Listing.{LeadsTo}
 use Rattle.page_trees.specs.Reopening.{copy_open}
 use Rattle.page_trees.specs.SameNodes.{with_copy_around}
@@ -32,9 +32,9 @@ PutsBelow place foster old new =
     (last : Open) → slice_get old.stack (place + 1) ≡ Some last → (t : GrowingTree) → ArePassed t (ids_of (drop place old.stack)) →
     t.fostering ≡ foster → Builds old t → Builds new (put last.id (place_in t (top (ids_of (take place old.stack)))) t)
 
--- the last entry of the element with an id is at this index of a short list
+-- the last entry of the element with an id is at this index
 abbrev pub FindsAt : ℕ → ℕ → List Entry → Type 0
-FindsAt id index entries = (are_few entries ≡ true) × (Some index ≡ last_place (is_of id) entries)
+FindsAt id index entries = Some index ≡ last_place (is_of id) entries
 
 -- an index of a list once the entry at another one is removed
 abbrev pub IsIndexLeft : ℕ → ℕ → ℕ → Type 0

@@ -15,7 +15,7 @@ use Rattle.page_trees.specs.CharacterSteps.{goes_to_mode}
 use Rattle.page_trees.specs.Constructs.{Constructs, IsCurrentTag, Outcome, RemembersLimits, WithinLimits, all_performed}
 use Rattle.page_trees.specs.Groups.{closes_p, group_named, reconstructs, spoils_frameset}
 use Rattle.page_trees.specs.LateMerges.{HasHtml}
-use Rattle.page_trees.specs.Listing.{allows_agency, lists_few, starts_a, starts_nobr}
+use Rattle.page_trees.specs.Listing.{allows_agency, starts_a, starts_nobr}
 use Rattle.page_trees.specs.Modes.{is_start_kind}
 use Rattle.page_trees.specs.Names.{name_of}
 use Rattle.page_trees.specs.Stands.{popped_if, without_marker}
@@ -131,11 +131,10 @@ is_body_mode _ = false
 abbrev pub comes_back : Building → Bool
 comes_back b = is_body_mode b.mode && goes_to_mode b.tree
 
--- what is asked of the state in which the start tag of a group is processed: for formatting elements, of their list; for `image`, of the
--- insertion mode
+-- what is asked of the state in which the start tag of a group is processed: for `a` and `nobr`, of the list of active formatting
+-- elements; for `image`, of the insertion mode
 abbrev pub starts_in : Group → Building → Bool
 starts_in Group.A b = starts_a b
-starts_in Group.Formatting b = lists_few b
 starts_in Group.Nobr b = starts_nobr b
 starts_in Group.Image b = comes_back b
 starts_in _ b = true
@@ -181,12 +180,6 @@ abbrev pub ActsWhere : (Building → Bool) → Name → Tag → List Act → Tre
 ActsWhere test name tag acts old new =
     is_start_kind tag.kind ≡ true → WithinLimits new → (b : Building) → test b ≡ true → IsCurrentTag name tag b → Constructs old b →
     Constructs new (acted acts b)
-
--- within the limits, the list is short once these are performed
-abbrev pub LeavesFew : (Building → Bool) → Name → Tag → List Act → TreeBuilder → TreeBuilder → Type 0
-LeavesFew test name tag acts old new =
-    is_start_kind tag.kind ≡ true → WithinLimits new → (b : Building) → test b ≡ true → IsCurrentTag name tag b → Constructs old b →
-    lists_few (acted acts b) ≡ true
 
 -- ---- start tags
 

@@ -4,7 +4,7 @@ use Rattle.standard_tokens.specs.Tokens.{AChar}
 use Rattle.standard_trees.specs.Building.{Building, is_empty, is_space}
 use Rattle.page_trees.specs.CharacterSteps.{fits_mode, has_begun, has_no_null, is_run}
 use Rattle.page_trees.specs.Constructs.{Constructs, RemembersLimits, WithinLimits}
-use Rattle.page_trees.specs.CoveredTurns.{FewTurns, covered_turn}
+use Rattle.page_trees.specs.CoveredTurns.{covered_turn}
 use Rattle.standard_order.specs.Turns.{tree_steps_while}
 use Rattle.page_trees.specs.declared.builder.Mode.{Mode}
 use Rattle.page_trees.specs.declared.builder.TreeBuilder.{TreeBuilder}
@@ -41,7 +41,7 @@ is_text _ = false
 -- Within the limits, these characters are processed one after the other. None is to be skipped, and the tokenizer is not switched.
 abbrev pub TakesCharacters : List ℕ → TreeBuilder → TreeBuilder → Type 0
 TakesCharacters cs old new =
-    WithinLimits new → (b : Building) → has_begun b ≡ true → Constructs old b → (depth : ℕ) → FewTurns depth → (c : Building) →
+    WithinLimits new → (b : Building) → has_begun b ≡ true → Constructs old b → (depth : ℕ) (c : Building) →
     tree_steps_while covered_turn depth b (map (λ x. AChar x) cs) ≡ Some c → Constructs new c
 
 -- the characters of a text are processed, one after the other

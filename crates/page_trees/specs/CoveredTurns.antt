@@ -9,6 +9,7 @@ use Rattle.standard_trees.specs.RuleWords.{Act, AfterAfterBody, AfterAfterFrames
 use Rattle.standard_trees.specs.RuleWords.{BeforeHtml, Dispatcher, ForeignContent, InBody, InCaption, InCell, InColumnGroup, InFrameset}
 use Rattle.standard_trees.specs.RuleWords.{InHead, InHeadNoscript, InRow, InTable, InTableBody, InTableText, InTemplate, Initial}
 use Rattle.standard_trees.specs.RuleWords.{Mode as StandardMode, PopForeignElements, Text, UseCurrentMode, does, goes}
+use Rattle.standard_trees.specs.Laws.{depth_at, is_plain}
 use Rattle.standard_trees.specs.TreeRules.{rules}
 use Rattle.standard_order.specs.Turns.{run_while, tree_steps_while}
 use Rattle.page_trees.specs.CharacterSteps.{covers_characters, fits_in, goes_to_mode, has_no_null, is_run}
@@ -43,6 +44,10 @@ enters_plainly mode = not (returns mode)
 -- the mode to which the current one returns is one of these
 abbrev pub returns_plainly : Building → Bool
 returns_plainly b = not (returns b.mode) || enters_plainly b.original
+
+-- the original insertion mode is one in which a token of any kind may come, and that, too
+abbrev pub keeps_plainly : Building → Bool
+keeps_plainly b = is_plain b.original && returns_plainly b
 
 -- No pending table character token is a null, and the mode to return to is one that is entered plainly.
 abbrev pub suits_settling : Building → Bool
@@ -158,7 +163,7 @@ covers (AChar c) b = covers_character b
 
 -- the code is proved to process the current token by the rules
 abbrev pub covered_turn : Building → Bool
-covered_turn b = covers b.token b
+covered_turn b = is_plain b.original && covers b.token b
 
 -- ---- the tokens for which a token of the code stands
 
@@ -228,20 +233,20 @@ ProcessesOnce token old new next =
     WithinLimits new → (others : List StandardToken) (b : Building) → IsCurrent token others b → covered_turn b ≡ true → Constructs old b →
     TurnEnds token others b new next
 
--- The code reprocesses a token at least so often, and rules use rules at most so deep: 2^64 - 1 times.
-abbrev pub FewTurns : ℕ → Type 0
-FewTurns depth = depth ≤ 18446744073709551615
+-- The code reprocesses a token at least so often: rules use rules at most so deep.
+abbrev pub AreEnoughTurns : TreeBuilder → ℕ → Type 0
+AreEnoughTurns s turns = (b : Building) → Constructs s b → depth_at b ≤ turns
 
 -- within the limits, the token is processed to its end
 abbrev pub ProcessesToken : Token → TreeBuilder → TreeBuilder → Type 0
 ProcessesToken token old new =
     WithinLimits new → (others : List StandardToken) (b : Building) → IsCurrent token others b → Constructs old b →
-    (depth : ℕ) → FewTurns depth → (c : Building) →
+    (depth : ℕ) (c : Building) →
     option_and_then (λ after. tree_steps_while covered_turn depth after others) (run_while covered_turn depth Dispatcher b) ≡ Some c →
     Constructs new c
 
 -- Within the limits, these tokens are processed. The tokenizer has been switched since the token before them.
 abbrev pub TakesTokens : List StandardToken → TreeBuilder → TreeBuilder → Type 0
 TakesTokens tokens old new =
-    old.switch ≡ None → WithinLimits new → (b : Building) → Constructs old b → (depth : ℕ) → FewTurns depth → (c : Building) →
+    old.switch ≡ None → WithinLimits new → (b : Building) → Constructs old b → (depth : ℕ) (c : Building) →
     tree_steps_while covered_turn depth b tokens ≡ Some c → Constructs new c

@@ -2,8 +2,8 @@
 -- children, and the same mode.
 use Rattle.std.specs.Prelude.{◌≡◌, Bool, List, None, Option, Some, [], ◌∷◌, encode_utf8_all, false, map, slice_get, true, ℕ}
 use Rattle.standard_tokens.specs.Tokens.{Doctype as DoctypeToken}
-use Rattle.standard_trees.specs.Building.{Building}
-use Rattle.standard_trees.specs.Parsing.{Document, IsDocumentOf, document_of, nodes_of}
+use Rattle.standard_trees.specs.Building.{Building, Surroundings}
+use Rattle.standard_trees.specs.Parsing.{Document, IsDocumentOf, IsFragmentOf, document_of, nodes_of}
 use Rattle.standard_trees.specs.TreeStore.{CommentNode, DoctypeNode, ElementNode, Kind, NodeAttr, TextNode, Trees, comment_tree}
 use Rattle.standard_trees.specs.TreeStore.{doctype_tree, element_tree, no_trees, text_tree}
 use Rattle.dom_nodes.specs.declared.node_data.NodeData.{NodeData}
@@ -86,3 +86,9 @@ pub record IsParsedAs (scripting : Bool) (text : List ℕ) (forest : Forest) (qu
   pub document : Document
   pub parsed : IsDocumentOf scripting text document
   pub is : IsDocumentTree forest quirks document
+
+-- the children of the first element are the nodes as which the HTML Standard parses a text, as a fragment in that context
+pub record IsParsedAsFragment (scripting : Bool) (around : Surroundings) (text : List ℕ) (forest : Forest) : Type 0 where
+  pub nodes : Trees
+  pub parsed : IsFragmentOf scripting around text nodes
+  pub are : AreTrees forest (children_of forest 1) nodes

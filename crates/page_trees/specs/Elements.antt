@@ -2,6 +2,7 @@
 use Rattle.std.specs.Prelude.{ℕ, ◌≡◌, ◌+◌, ◌⊎◌, true, false, List, Option, Some, None, All, IfSome, length, slice_get}
 use Rattle.std.specs.List.{AllPairs}
 use Rattle.std.specs.Option.{option_map_or}
+use Rattle.dom_nodes.specs.Elements.{Element as ElementParts}
 use Rattle.dom_nodes.specs.Kinds.{contents_named, is_element, is_top}
 use Rattle.dom_nodes.specs.declared.node_data.NodeData.{NodeData}
 use Rattle.dom_nodes.specs.declared.fault.EditFault.{EditFault}
@@ -10,6 +11,8 @@ use Rattle.dom_links.specs.Forest.{Forest}
 use Rattle.dom_links.specs.ListMoves.{element_at}
 use Rattle.dom_links.specs.Sound.{AtOrBelow, IsHostAncestor, children_allowed_at}
 use Rattle.dom_links.specs.Growth.{with_lone_template, with_node}
+use Rattle.dom_trees.specs.Views.{node_element}
+use Rattle.page_trees.specs.Likeness.{KnowsLikes, Listed}
 use Rattle.page_trees.specs.declared.fault.PageFault.{PageFault}
 use Rattle.page_trees.specs.declared.fault.PageFault.TheVariants.{Memory as NoMemory, TooManyNodes as NoNumber}
 use Rattle.page_trees.specs.declared.formatting.Entry.{Entry}
@@ -50,12 +53,13 @@ IsForm forest _ = Unit {0}
 
 -- Every node id that tree construction keeps is the id of an element: in the stack of open elements, in the list of active
 -- formatting elements, in the head and form element pointers, and of the root that represents a context element. The stack is in
--- order.
-pub record AreElements (forest : Forest) (elements : List Open) (entries : List Entry) (the_head : Option ℕ) (the_form : FormPointer) (the_context : Option Open) : Type 0 where
+-- order, and what the list knows of like elements is right.
+pub record AreElements (forest : Forest) (elements : List Open) (listed : Listed) (the_head : Option ℕ) (the_form : FormPointer) (the_context : Option Open) : Type 0 where
   pub root : IsRooted forest
   pub stack : AreOpen forest elements
   pub order : IsInOrder forest elements
-  pub formatting : All (IsEntry forest) entries
+  pub formatting : All (IsEntry forest) listed.entries
+  pub likes : KnowsLikes forest listed
   pub head : IfSome the_head (IsElement forest)
   pub form : IsForm forest the_form
   pub context : IfSome the_context (λ o. IsElement forest o.id)
@@ -75,9 +79,11 @@ abbrev pub LiesAt : Forest → List Open → Place → Type 0
 LiesAt forest elements (EndOf n) = LiesIn forest elements n
 LiesAt forest elements (Table table other) = LiesIn forest elements table × LiesIn forest elements other
 
--- Elements stay elements, the root stays a document or a fragment, and no element becomes an ancestor of another.
+-- Elements stay elements and keep their names and attributes, the root stays a document or a fragment, and no element becomes an ancestor
+-- of another.
 pub record Grows (old new : Forest) : Type 0 where
   pub elements : (n : ℕ) → IsElement old n → IsElement new n
+  pub same : (n : ℕ) (e : ElementParts) → node_element old n ≡ Some e → node_element new n ≡ Some e
   pub root : IsRooted old → IsRooted new
   pub ways : (m n : ℕ) → IsElement old m → IsElement old n → IsHostAncestor new m n → IsHostAncestor old m n
 

@@ -1,5 +1,5 @@
 -- The list of active formatting elements (13.2.4.3).
-use Rattle.std.specs.Prelude.{ℕ, ◌≡◌, ◌⊎◌, Bool, false, ◌==◌, ◌&&◌, List, [], ◌∷◌, Option, None, Some, All, length, nat_lt, remove}
+use Rattle.std.specs.Prelude.{ℕ, ◌≡◌, ◌⊎◌, Bool, false, ◌==◌, ◌&&◌, List, [], ◌∷◌, Option, None, Some, All, length, remove}
 use Rattle.std.specs.Prelude.{reverse, slice_get, if◌then◌else◌}
 use Rattle.std.specs.List.{list_all, list_any}
 use Rattle.std.specs.Option.{option_map_or}
@@ -18,10 +18,6 @@ use Rattle.page_trees.specs.declared.stack.Open.{Open}
 abbrev pub element_in : Entry → Option Open
 element_in (AnEntry o) = Some o
 element_in Marker = None
-
--- there are fewer entries than are searched by an index
-abbrev pub are_few : {X : Type 0} → List X → Bool
-are_few xs = nat_lt (length xs) 16
 
 -- the elements up to the first marker
 abbrev pub up_to_marker : List Entry → List Open
@@ -89,10 +85,6 @@ places_alike forest id entries = alike_from_end forest id (reverse entries)
 -- the element": the index of the third, which is the earliest
 abbrev pub third_alike : Forest → ℕ → List Entry → Option ℕ
 third_alike forest id entries = slice_get (places_alike forest id entries) 2
-
--- at most one entry was removed
-abbrev pub IsWithout : List Entry → List Entry → Type 0
-IsWithout old new = (new ≡ old) ⊎ ((place : ℕ) × (new ≡ remove old place))
 
 -- "then remove the earliest such element from the list"
 abbrev pub with_room : Forest → ℕ → List Entry → List Entry

@@ -22,6 +22,7 @@ pub mod Stands
 pub mod SameNodes
 pub mod Insertions
 pub mod Constructs
+pub mod Contexts
 pub mod Resetting
 pub mod TagInsertions
 pub mod ForeignSteps
@@ -51,3 +52,8 @@ pub mod ShapeExamples
 pub mod StandardDocuments
 pub mod KeyPlaces
 pub mod ListIndex
+pub mod Likeness
+pub mod Depth
+pub mod DeepEdges
+pub mod Lifts
+pub mod StandardDepth

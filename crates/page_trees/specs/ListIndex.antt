@@ -1,13 +1,15 @@
 -- The index of the list of active formatting elements.
-use Rattle.std.specs.Prelude.{◌≡◌, ◌==◌, ◌<◌, ◌≤◌, IfSome, List, None, Option, Some, [], ◌∷◌, if◌then◌else◌, length, map, nat_lt, ℕ}
-use Rattle.std.specs.Option.{option_and_then}
+use Rattle.std.specs.Prelude.{◌≡◌, ◌<◌, ◌≤◌, IfSome, List, None, Option, Some, if◌then◌else◌, length, map, nat_lt, ℕ}
+use Rattle.std.specs.Option.{option_and_then, option_map}
+use Rattle.dom_links.specs.Forest.{Forest}
+use Rattle.page_trees.specs.Likeness.{AreKeysOf, HasNumber, Likes}
+use Rattle.page_trees.specs.NameNumbers.{numbers_of}
 use Rattle.page_trees.specs.KeyPlaces.{last_key}
 use denote.Enum.Declared.{tag_of}
 use Rattle.page_trees.specs.contracts.name.Name.{the_type}
 use Rattle.page_trees.specs.declared.formatting.Entry.{Entry}
 use Rattle.page_trees.specs.declared.formatting.Entry.TheVariants.{Element as AnEntry, Marker}
 use Rattle.page_trees.specs.declared.formatting.index.FormattingIndex.{FormattingIndex}
-use Rattle.page_trees.specs.declared.name.Name.{Name}
 
 -- the key of a marker, which is neither an id nor the number of a name
 abbrev pub marker_key : ℕ
@@ -51,3 +53,20 @@ after_marker place (Some marker) = if nat_lt place marker then None else Some pl
 -- the last place of a name after the last marker
 abbrev pub last_after_marker : ℕ → List ℕ → Option ℕ
 last_after_marker key keys = option_and_then (λ place. after_marker place (last_key marker_key keys)) (last_key key keys)
+
+-- the last place of a key, unless a marker comes after it
+abbrev pub last_like : ℕ → List ℕ → List ℕ → Option ℕ
+last_like key keys names = option_and_then (λ place. after_marker place (last_key marker_key names)) (last_key key keys)
+
+-- what an index knows of which elements are like others
+abbrev pub likes_in : FormattingIndex → Likes
+likes_in index = record { keys = index.likes; numbers = numbers_of index.numbers.entries }
+
+abbrev pub likes_of : Option FormattingIndex → Option Likes
+likes_of index = option_map likes_in index
+
+-- what the index of these entries needs to find those that are like an element: the numbers of the entries and of the element are right
+pub record FindsLikes (forest : Forest) (id number : ℕ) (entries : List Entry) (index : FormattingIndex) : Type 0 where
+  pub indexed : AreIndexed entries index
+  pub keys : AreKeysOf forest (likes_in index).numbers entries index.likes
+  pub element : HasNumber forest (likes_in index).numbers id number

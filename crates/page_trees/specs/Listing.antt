@@ -1,17 +1,15 @@
--- What is done to the list of active formatting elements (13.2.4.3) as the definition does it, where the list has fewer entries than are
--- searched by an index.
+-- What is done to the list of active formatting elements (13.2.4.3) as the definition does it.
 use Rattle.std.specs.Prelude.{◌≡◌, Bool, IfSome, None, Option, Some, [], ◌∷◌, List, codes, false, not, true, ℕ, ◌&&◌, ◌||◌, if◌then◌else◌}
 use Rattle.std.specs.Option.{option_map}
 use Rattle.standard_trees.specs.Building.{Building, holds, own_name, perform}
 use Rattle.standard_trees.specs.Formatting.{adopted_for, any_other_end, enlisted, is_listed, last_listed, unlisted}
 use Rattle.standard_trees.specs.GrowingTree.{GrowingTree, current, is_among, unstacked}
 use Rattle.standard_trees.specs.GrowingTree.{is_one as is_one_of}
-use Rattle.standard_trees.specs.RuleWords.{Act, Action, AdoptionAgency, DropFound, FindListed, InScope, Listed, Mode as StandardMode}
+use Rattle.standard_trees.specs.RuleWords.{Act, AdoptionAgency, DropFound, FindListed, InScope, Listed, Mode as StandardMode}
 use Rattle.standard_trees.specs.RuleWords.{ReconstructFormatting, Scope, These, does, is}
 pub use Rattle.standard_order.specs.ListedOnce.{lists_once}
 use Rattle.page_tokens.specs.declared.token.Tag.{Tag}
-use Rattle.page_trees.specs.Constructs.{Constructs, IsCurrentTag, Outcome, WithinLimits, all_performed}
-use Rattle.page_trees.specs.Formatting.{are_few}
+use Rattle.page_trees.specs.Constructs.{Constructs, IsCurrentTag, Outcome, ProcessesTag, WithinLimits}
 use Rattle.page_trees.specs.Modes.{is_start_kind}
 use Rattle.page_trees.specs.Names.{text_of}
 use Rattle.page_trees.specs.Stands.{Builds, EntryStands, formatting_names}
@@ -25,30 +23,25 @@ use Rattle.page_trees.specs.declared.stack.Open.{Open}
 
 -- ---- the tree
 
--- the list is short
-abbrev pub has_few : GrowingTree → Bool
-has_few t = are_few t.listed
-
 -- "push onto the list of active formatting elements that element": the current node, which is one of those that the rules add
 abbrev pub Enlists : TreeState → TreeState → Type 0
 Enlists old new =
-    (t : GrowingTree) → has_few t ≡ true → is_one_of t formatting_names (current t) ≡ true → Builds old t → Builds new (enlisted t)
+    (t : GrowingTree) → is_one_of t formatting_names (current t) ≡ true → Builds old t → Builds new (enlisted t)
 
 -- the last element of that name after the last marker
 abbrev pub FindsListed : Name → TreeState → Option Open → Type 0
 FindsListed name state found =
-    (t : GrowingTree) → has_few t ≡ true → Builds state t →
-    option_map (λ o. o.id) found ≡ last_listed t (text_of name ∷ []) t.listed
+    (t : GrowingTree) → Builds state t → option_map (λ o. o.id) found ≡ last_listed t (text_of name ∷ []) t.listed
 
 -- "remove the element from the list of active formatting elements"
 abbrev pub Unlists : ℕ → TreeState → TreeState → Type 0
 Unlists n old new =
-    (t : GrowingTree) → has_few t ≡ true → lists_once t.listed ≡ true → Builds old t → Builds new (unlisted n t)
+    (t : GrowingTree) → lists_once t.listed ≡ true → Builds old t → Builds new (unlisted n t)
 
 -- the element that is found is one of those that the rules add to the list
 abbrev pub FindsEntry : TreeState → Option Open → Type 0
 FindsEntry state found =
-    IfSome found (λ o. (t : GrowingTree) → has_few t ≡ true → Builds state t → EntryStands t.nodes (Entry.Element o))
+    IfSome found (λ o. (t : GrowingTree) → Builds state t → EntryStands t.nodes (Entry.Element o))
 
 -- "remove the element from the stack of open elements": one of those that the rules add to the list
 abbrev pub Unstacks : Open → TreeState → TreeState → Type 0
@@ -57,9 +50,9 @@ Unstacks o old new =
 
 -- ---- the adoption agency algorithm
 
--- the list is short, and no element is in it twice
+-- no element is in the list twice
 abbrev pub lists_well : GrowingTree → Bool
-lists_well t = has_few t && lists_once t.listed
+lists_well t = lists_once t.listed
 
 abbrev pub listed_named : List ℕ → GrowingTree → Option ℕ
 listed_named name t = last_listed t (name ∷ []) t.listed
@@ -113,7 +106,7 @@ AdoptsBy algorithm name foster old new handled =
 -- the current node has the name, and is not in the list
 abbrev pub TellsBare : Name → TreeState → Bool → Type 0
 TellsBare name state bare =
-    (t : GrowingTree) → has_few t ≡ true → Builds state t →
+    (t : GrowingTree) → Builds state t →
     bare ≡ (is_one_of t (text_of name ∷ []) (current t) && not (is_listed t (current t)))
 
 -- ---- the builder
@@ -122,22 +115,13 @@ TellsBare name state bare =
 abbrev pub is_formatting_name : Name → Bool
 is_formatting_name name = is_among (text_of name) formatting_names
 
-abbrev pub lists_few : Building → Bool
-lists_few b = has_few b.tree
-
 -- no `a` is in the list
 abbrev pub lists_no_a : Building → Bool
-lists_no_a b = lists_few b && not (holds (Listed (These (codes "a" ∷ []))) b)
+lists_no_a b = not (holds (Listed (These (codes "a" ∷ []))) b)
 
 -- nothing is done, where the old state passes a test
 abbrev pub StaysWhere : (Building → Bool) → TreeBuilder → TreeBuilder → Type 0
 StaysWhere test old new = (b : Building) → test b ≡ true → Constructs old b → new ≡ old
-
--- within the limits, these actions for a start tag lead from an old state that passes a test to the new one
-abbrev pub PerformsWhere : (Building → Bool) → Name → Tag → List Action → TreeBuilder → TreeBuilder → Type 0
-PerformsWhere test name tag actions old new =
-    is_start_kind tag.kind ≡ true → WithinLimits new → (b : Building) → test b ≡ true → IsCurrentTag name tag b → Constructs old b →
-    Constructs new (all_performed actions b)
 
 -- the list of active formatting elements is one that the adoption agency algorithm is proved for
 abbrev pub allows_agency : Building → Bool
@@ -149,7 +133,11 @@ AdoptsFor name old new =
     WithinLimits new → (b : Building) → allows_agency b ≡ true → own_name b.token ≡ text_of name → Constructs old b →
     Constructs new (perform AdoptionAgency b) × LeadsTo b.tree (perform AdoptionAgency b).tree new.tree
 
--- within the limits, a start tag is processed by the rules for a mode, if the old state passes a test
+-- within the limits, a start tag is processed by the rules for a mode
+abbrev pub ProcessesStart : StandardMode → Name → Tag → TreeBuilder → TreeBuilder → Next → Type 0
+ProcessesStart mode name tag old new next = is_start_kind tag.kind ≡ true → ProcessesTag mode name tag old new next
+
+-- the same, if the old state passes a test
 abbrev pub ProcessesStartWhere : (Building → Bool) → StandardMode → Name → Tag → TreeBuilder → TreeBuilder → Next → Type 0
 ProcessesStartWhere test mode name tag old new next =
     is_start_kind tag.kind ≡ true → WithinLimits new → (b : Building) → test b ≡ true → IsCurrentTag name tag b → Constructs old b →
@@ -178,7 +166,7 @@ closing_nobr = does AdoptionAgency (is (InScope Scope (These (codes "nobr" ∷ [
 
 -- if a `nobr` is in scope, the algorithm is run
 abbrev pub closes_nobr : Building → Bool
-closes_nobr b = lists_few b && (not (holds (InScope Scope (These (codes "nobr" ∷ []))) b) || allows_agency b)
+closes_nobr b = not (holds (InScope Scope (These (codes "nobr" ∷ []))) b) || allows_agency b
 
 -- The start tag `nobr` first reconstructs the active formatting elements.
 abbrev pub starts_nobr : Building → Bool

@@ -1,29 +1,42 @@
--- What reading a page to its end gives: the Document as which the HTML Standard parses the text.
-use Rattle.std.specs.Prelude.{◌≡◌, Bool, List, true, ℕ}
+-- What reading a text to its end gives: the Document, or the nodes of the fragment, as which the HTML Standard parses the text.
+use Rattle.std.specs.Prelude.{◌≡◌, List, true, ℕ}
 use Rattle.standard_tokens.specs.Tokens.{Token}
 use Rattle.standard_trees.specs.Building.{Building}
-use Rattle.standard_trees.specs.Parsing.{IsDocumentOf, document_of}
-use Rattle.standard_order.specs.PageTops.{has_one_root}
+use Rattle.standard_trees.specs.Parsing.{IsDocumentOf, IsFragmentOf, document_of, nodes_of}
+use Rattle.standard_order.specs.Beginnings.{Beginning, OfFragment, OfPage}
+use Rattle.standard_order.specs.PageShape.{is_page_of}
 use Rattle.dom_links.specs.Forest.{Forest}
 use Rattle.dom_trees.specs.declared.quirks.QuirksMode.{QuirksMode}
 use Rattle.page_trees.specs.DocumentTrees.{IsTreeOf}
-use Rattle.page_trees.specs.PagesRead.{HasBuilt, IsCovered}
+use Rattle.page_trees.specs.PagesRead.{HasBuilt, IsRead}
+use Rattle.page_trees.specs.StandardDepth.{IsWithinDepth}
 use Rattle.page_trees.specs.declared.growing.BuiltTree.{BuiltTree}
 use Rattle.page_trees.specs.declared.reading.PageReader.{PageReader}
 
--- what covered turns of tree construction come to is the Document as which the text is parsed
-abbrev pub CoveredPagesAreParsed : Type 0
-CoveredPagesAreParsed = (depth : ℕ) (scripting : Bool) (text : List ℕ) (all : List Token) (end : Building) →
-    IsCovered depth scripting text all end → IsDocumentOf scripting text (document_of end)
+-- the text is parsed as the Document of that state, or as the nodes of its fragment
+abbrev pub IsParsedTo : Beginning → List ℕ → Building → Type 0
+IsParsedTo (OfPage scripting) text end = IsDocumentOf scripting text (document_of end)
+IsParsedTo (OfFragment scripting around) text end = IsFragmentOf scripting around text (nodes_of end)
 
--- the text is parsed as the Document of the definition's state, the tree is that Document, and it has one element `html`
-pub record IsStandardTree (scripting : Bool) (text : List ℕ) (end : Building) (forest : Forest) (quirks : QuirksMode) : Type 0 where
+-- what tree construction builds of the tokens of a text is that as which the text is parsed
+abbrev pub TextsAreParsed : Type 0
+TextsAreParsed = (depth : ℕ) (beginning : Beginning) (text : List ℕ) (all : List Token) (end : Building) →
+    IsRead depth beginning text all end → IsParsedTo beginning text end
+
+-- the Document of a page has the shape of a page
+abbrev pub HasShape : Beginning → Building → Type 0
+HasShape (OfPage scripting) end = is_page_of end.tree ≡ true
+HasShape (OfFragment scripting around) end = Unit {0}
+
+-- the text is parsed as the definition's state says, and the tree is that of the state
+pub record IsStandardTree (beginning : Beginning) (text : List ℕ) (end : Building) (forest : Forest) (quirks : QuirksMode) : Type 0 where
   pub tree : IsTreeOf end forest quirks
-  pub parsed : IsDocumentOf scripting text (document_of end)
-  pub root : has_one_root end.tree ≡ true
+  pub parsed : IsParsedTo beginning text end
+  pub shape : HasShape beginning end
 
--- if what was read is a whole page that is covered, the tree is the one as which it is parsed
-abbrev pub FinishesPage : PageReader → BuiltTree → Type 0
-FinishesPage r built =
-    (scripting : Bool) (text : List ℕ) → HasBuilt scripting text r → (depth : ℕ) (all : List Token) (end : Building) →
-    IsCovered depth scripting text all end → IsStandardTree scripting text end built.tree built.quirks_mode
+-- if what was read is a whole text, and the elements of its Document nest no deeper than the limit, the tree is the one as which it is parsed
+abbrev pub FinishesText : PageReader → BuiltTree → Type 0
+FinishesText r built =
+    (beginning : Beginning) (text : List ℕ) → HasBuilt beginning text r → (depth : ℕ) (all : List Token) (end : Building) →
+    IsRead depth beginning text all end → IsWithinDepth r.options.max_depth (document_of end) →
+    IsStandardTree beginning text end built.tree built.quirks_mode

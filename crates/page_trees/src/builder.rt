@@ -4,6 +4,7 @@ ghost use Rattle.std.specs.Prelude.{◌≡◌, ◌||◌, None, OnOk, length, nat
 ghost use Rattle.std.specs.Option.{option_or};
 ghost use Rattle.standard_trees.specs.Building.{empty_tree, start};
 ghost use Rattle.page_trees.specs.Constructs.{WithinLimits, first_fault};
+ghost use Rattle.page_trees.specs.CoveredTurns.{AreEnoughTurns};
 ghost use Rattle.page_trees.specs.declared.builder.Next.TheVariants.{Again, Done as IsDone};
 
 use crate::fault::PageFault;
@@ -53,9 +54,6 @@ pub struct Met {
     too_deep: bool,
 }
 
-/// The smallest limit on depth: `html`, `body`, and one more element.
-const LEAST_DEPTH: usize = 3;
-
 /// The state of tree construction: the tree, the insertion mode and the flags of the standard.
 #[derive(Drop)]
 pub struct TreeBuilder {
@@ -97,7 +95,7 @@ impl TreeBuilder {
             placing: Placing {
                 foster: false,
                 in_head: false,
-                max_depth: options.max_depth.unwrap_or(usize::MAX).max(LEAST_DEPTH),
+                max_depth: usize::MAX,
             },
             mode: Mode::Initial,
             original: Mode::InBody,
@@ -186,6 +184,16 @@ impl TreeBuilder {
         ensures { result ≡ true → WithinLimits self.now → ⊥ }
     {
         self.fault.is_some() || self.too_deep
+    }
+
+    /// Returns how often the rules reprocess a token at most, whatever the token.
+    pub fn most_turns(&self) -> u128
+        ensures { AreEnoughTurns self.now result }
+    {
+        let open = self.tree.open().len() as u128;
+        let listed = self.tree.formatting_len() as u128;
+        let modes = self.template_modes.as_slice().len() as u128;
+        96 + 32 * (open + listed + modes)
     }
 
     /// Returns how often a token may be reprocessed past a limit.

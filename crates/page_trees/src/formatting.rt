@@ -1,19 +1,23 @@
 //! The list of active formatting elements (13.2.4.3).
 
-ghost use Rattle.std.specs.Prelude.{◌≡◌, ◌<◌, ◌≤◌, [], ◌∷◌, ◌++◌, Contains, IfNone, IfOk, IfSome};
-ghost use Rattle.std.specs.Prelude.{List, MatchOption, OnErr, OnOk, length, true};
+ghost use Rattle.std.specs.Prelude.{◌≡◌, ◌<◌, ◌≤◌, ◌^◌, [], ◌∷◌, ◌++◌, Contains, IfNone, IfSome};
+ghost use Rattle.std.specs.Prelude.{List, MatchOption, None, OnErr, OnOk, length, ℕ};
 ghost use Rattle.std.specs.Prelude.{insert, remove, slice_get, slice_set};
 ghost use Rattle.std.specs.List.{list_all};
 ghost use Rattle.std.specs.Option.{option_and_then, option_copied, option_to_list};
+ghost use Rattle.dom_links.specs.Forest.{Forest};
 ghost use Rattle.dom_trees.specs.Views.{node_element};
-ghost use Rattle.page_trees.specs.Formatting.{IsFirst, IsNamed, IsWithout, NoneHas, after_marker};
-ghost use Rattle.page_trees.specs.Formatting.{are_alike, are_few, element_in, has_attr, is_of};
+ghost use Rattle.page_trees.specs.Formatting.{IsFirst, IsNamed, NoneHas, after_marker};
+ghost use Rattle.page_trees.specs.Formatting.{are_alike, element_in, has_attr, is_of};
 ghost use Rattle.page_trees.specs.Formatting.{last_place, same_attr, same_element, third_alike};
 ghost use Rattle.page_trees.specs.Formatting.{with_room};
-ghost use Rattle.page_trees.specs.ListIndex.{AreIndexed, IsEntryIn, IsIndexOf, IsPlaceIn};
+ghost use Rattle.page_trees.specs.Likeness.{AreLikesOf, HasLikeness, IsLikeness, KnowsLikes};
+ghost use Rattle.page_trees.specs.ListIndex.{FindsLikes, IsEntryIn, IsIndexOf, IsPlaceIn};
+ghost use Rattle.page_trees.specs.ListIndex.{likes_of};
 ghost use Rattle.page_trees.specs.Popping.{before_last, is_a_marker};
 ghost use Rattle.page_trees.specs.declared.formatting.Entry.{Entry as AnyEntry};
 ghost use Rattle.page_trees.specs.declared.formatting.Entry.TheVariants.{Element as AnEntry};
+ghost use Rattle.page_trees.specs.declared.formatting.Entry.TheVariants.{Marker as AMarker};
 
 mod index;
 mod places;
@@ -201,9 +205,46 @@ fn third_like(entries: &[Entry], tree: &Tree, id: NodeId) -> Option<usize>
     None
 }
 
-/// Returns an index of a list. Fails when memory runs out.
-fn made_index(entries: &[Entry], tree: &Tree) -> Result<FormattingIndex, PageFault>
-    ensures { IfOk result (AreIndexed entries.now) }
+/// Returns the element of the entry at a place, if it is no marker.
+fn element_among(entries: &[Entry], place: usize) -> Option<Open>
+    ensures { result ≡ option_and_then element_in (slice_get entries.now place) }
+{
+    entries.get(place)?.element()
+}
+
+/// Returns the index of the third entry, from the end and after the last marker, whose element is
+/// like that one, by the index of the list.
+fn third_found(
+    index: &FormattingIndex,
+    entries: &[Entry],
+    tree: &Tree,
+    id: NodeId,
+    likeness: u32,
+) -> Option<usize>
+    requires { FindsLikes tree.now id likeness entries.now index.now }
+    ensures { result ≡ third_alike tree.now id entries.now }
+{
+    let mut to_pass: usize = 2;
+    let mut rest = entries;
+    while let Some(place) = index.last_like(likeness, rest.len()) {
+        let Some(other) = element_among(rest, place) else {
+            return None;
+        };
+        if are_same(tree, other.id, id) {
+            let Some(fewer) = to_pass.checked_sub(1) else {
+                return Some(place);
+            };
+            to_pass = fewer;
+        }
+        rest = &rest[..place];
+    }
+    None
+}
+
+/// Returns an index of a list, if memory suffices.
+fn made_index(entries: &[Entry], tree: &Tree) -> Option<FormattingIndex>
+    ensures indexed { IsIndexOf entries.now result }
+    ensures likes { AreLikesOf tree.now entries.now (likes_of result) }
 {
     let mut index = FormattingIndex::new(tree.allocator());
     for place in 0..entries.len() {
@@ -211,13 +252,15 @@ fn made_index(entries: &[Entry], tree: &Tree) -> Result<FormattingIndex, PageFau
             unreachable!();
         };
         let likeness = index.likeness_in(tree, entry)?;
-        index.add(place, entry, likeness)?;
+        let Ok(()) = index.add(place, entry, likeness) else {
+            return None;
+        };
     }
-    Ok(index)
+    Some(index)
 }
 
-/// Returns the index of a list into which an entry was inserted at a place, if there is one and
-/// memory suffices.
+/// Returns the index of a list into which an entry of that likeness was inserted at a place, if
+/// there is one and memory suffices.
 fn with_entry(
     index: Option<FormattingIndex>,
     place: usize,
@@ -225,8 +268,12 @@ fn with_entry(
     likeness: u32,
 ) -> Option<FormattingIndex>
     requires { IfSome index (λ index. IsPlaceIn index place) }
-    ensures { (entries : List AnyEntry) → place ≤ length entries →
+    ensures indexed { (entries : List AnyEntry) → place ≤ length entries →
         IsIndexOf entries index → IsIndexOf (insert entries place entry.now) result }
+    ensures likes { (forest : Forest) (entries : List AnyEntry) → place ≤ length entries →
+        IsLikeness forest entry.now likeness (likes_of index) →
+        AreLikesOf forest entries (likes_of index) →
+        AreLikesOf forest (insert entries place entry.now) (likes_of result) }
 {
     let mut known = index?;
     match known.add(place, entry, likeness) {
@@ -243,8 +290,14 @@ fn without_entry(
     left: usize,
 ) -> Option<FormattingIndex>
     requires { IfSome index (λ index. IsEntryIn index place) }
-    ensures { (entries : List AnyEntry) → place < length entries →
+    ensures indexed { (entries : List AnyEntry) → place < length entries →
         IsIndexOf entries index → IsIndexOf (remove entries place) result }
+    ensures likes { (forest : Forest) (entries : List AnyEntry) → place < length entries →
+        AreLikesOf forest entries (likes_of index) →
+        AreLikesOf forest (remove entries place) (likes_of result) }
+    ensures kept { (forest : Forest) (id likeness : ℕ) →
+        HasLikeness forest id likeness (likes_of index) →
+        HasLikeness forest id likeness (likes_of result) }
 {
     let mut known = index?;
     if left < MANY / 2 {
@@ -254,34 +307,43 @@ fn without_entry(
     Some(known)
 }
 
-/// Returns the index of a list in which an entry replaced the one at a place, if there is one and
-/// memory suffices.
-fn with_copy(index: Option<FormattingIndex>, place: usize, entry: &Entry) -> Option<FormattingIndex>
-    ensures { (entries : List AnyEntry) →
+/// Returns the index of a list in which an entry of that likeness replaced the one at a place, if
+/// there is one and memory suffices.
+fn with_copy(
+    index: Option<FormattingIndex>,
+    place: usize,
+    entry: &Entry,
+    likeness: u32,
+) -> Option<FormattingIndex>
+    ensures indexed { (entries : List AnyEntry) →
         IsIndexOf entries index → IsIndexOf (slice_set entries place entry.now) result }
+    ensures likes { (forest : Forest) (entries : List AnyEntry) →
+        IsLikeness forest entry.now likeness (likes_of index) →
+        AreLikesOf forest entries (likes_of index) →
+        AreLikesOf forest (slice_set entries place entry.now) (likes_of result) }
 {
     let mut known = index?;
-    match known.replace(place, entry) {
+    match known.replace(place, entry, likeness) {
         Ok(()) => Some(known),
         Err(_) => None,
     }
 }
 
+/// A contract sees the list as its entries, with what its index knows of their likeness.
 impl Model for ActiveFormatting {
-    ghost use Rattle.std.specs.Prelude.{List};
-    ghost use Rattle.page_trees.specs.ListIndex.{IsIndexOf};
-    ghost use Rattle.page_trees.specs.declared.formatting.Entry.{Entry};
+    ghost use Rattle.page_trees.specs.Likeness.{Listed};
+    ghost use Rattle.page_trees.specs.ListIndex.{IsIndexOf, likes_of};
 
-    ghost Value = { List Entry };
+    ghost Value = { Listed };
 
-    ghost view = { λ list. list.entries.items };
+    ghost view = { λ list. record { entries = list.entries.items; likes = likes_of list.index } };
 
     ghost invariant = { λ list. IsIndexOf list.entries.items list.index };
 }
 
 impl ActiveFormatting {
     pub fn new(alloc: Global) -> ActiveFormatting
-        ensures { result ≡ [] }
+        ensures { result ≡ record { entries = []; likes = None } }
     {
         ActiveFormatting {
             entries: Vec::new(alloc),
@@ -290,36 +352,61 @@ impl ActiveFormatting {
     }
 
     pub fn len(&self) -> usize
-        ensures { result ≡ length self.now }
+        ensures { result ≡ length self.now.entries }
     {
         self.entries.len()
     }
 
     /// Returns whether the list has fewer entries than are searched by an index.
-    fn is_short(&self) -> bool
-        ensures { result ≡ are_few self.now }
-    {
+    fn is_short(&self) -> bool {
         self.entries.len() < MANY
     }
 
     pub fn as_slice(&self) -> &[Entry]
-        ensures { result.now ≡ self.now }
+        ensures { result.now ≡ self.now.entries }
     {
         self.entries.as_slice()
     }
 
     pub fn get(&self, index: usize) -> Option<Entry>
-        ensures found { IfSome result (Contains self.now) }
-        ensures value { result ≡ slice_get self.now index }
+        ensures found { IfSome result (Contains self.now.entries) }
+        ensures value { result ≡ slice_get self.now.entries index }
     {
         self.entries.get(index).copied()
     }
 
-    /// Appends an entry. `likeness` is what `likeness_of` returned for its element. Fails only when
-    /// memory runs out.
-    pub fn push(&mut self, entry: Entry, likeness: u32) -> Result<(), PageFault>
-        ensures ok { OnOk result (self.new ≡ self.old ++ entry ∷ []) }
+    /// Appends an element. If three elements after the last marker have its name and attributes,
+    /// the earliest is removed (the Noah's Ark clause). Fails only when memory runs out.
+    pub fn enlist(&mut self, tree: &Tree, element: &Open) -> Result<(), PageFault>
+        requires { KnowsLikes tree.now self.old }
+        ensures ok { let roomy = with_room tree.now element.now.id self.old.entries in
+            OnOk result (self.new.entries ≡ roomy ++ AnEntry element.now ∷ []) }
+        ensures err { let roomy = with_room tree.now element.now.id self.old.entries in
+            OnErr result (self.new.entries ≡ roomy) }
+        ensures likes { KnowsLikes tree.now self.new }
+    {
+        let entry = Entry::Element(*element);
+        let likeness = self.likeness_of(tree, element.id);
+        self.make_room(tree, element.id, likeness);
+        self.push(entry, likeness)
+    }
+
+    /// Appends a marker. Fails only when memory runs out.
+    pub fn push_marker(&mut self) -> Result<(), PageFault>
+        ensures ok { OnOk result (self.new.entries ≡ self.old.entries ++ AMarker ∷ []) }
         ensures err { OnErr result (self.new ≡ self.old) }
+        ensures likes { (forest : Forest) → KnowsLikes forest self.old →
+            KnowsLikes forest self.new }
+    {
+        self.push(Entry::Marker, 0)
+    }
+
+    /// Appends an entry of that likeness. Fails only when memory runs out.
+    fn push(&mut self, entry: Entry, likeness: u32) -> Result<(), PageFault>
+        ensures ok { OnOk result (self.new.entries ≡ self.old.entries ++ entry ∷ []) }
+        ensures err { OnErr result (self.new ≡ self.old) }
+        ensures likes { (forest : Forest) → IsLikeness forest entry likeness self.old.likes →
+            KnowsLikes forest self.old → KnowsLikes forest self.new }
     {
         let place = self.entries.len();
         self.entries.push(entry)?;
@@ -330,45 +417,60 @@ impl ActiveFormatting {
     /// Returns the likeness of an element that is to be added: elements with the same name and the
     /// same attributes have the same. A list that grew long is indexed first. Without an index it
     /// returns 0, and `third_same` compares the elements themselves.
-    pub fn likeness_of(&mut self, tree: &Tree, id: NodeId) -> u32
-        ensures { self.new ≡ self.old }
+    fn likeness_of(&mut self, tree: &Tree, id: NodeId) -> u32
+        ensures entries { self.new.entries ≡ self.old.entries }
+        ensures likes { KnowsLikes tree.now self.old → KnowsLikes tree.now self.new }
+        ensures element { HasLikeness tree.now id result self.new.likes }
     {
-        if self.index.is_none() && self.entries.len() >= MANY {
-            self.index = made_index(self.entries.as_slice(), tree).ok();
-        }
+        self.index_if_long(tree);
         let Some(mut known) = self.index.take() else {
             return 0;
         };
-        match known.likeness_of(tree, id) {
-            Ok(likeness) => {
-                self.index = Some(known);
-                likeness
-            }
-            Err(_) => 0,
+        let Some(likeness) = known.likeness_of(tree, id) else {
+            return 0;
+        };
+        self.index = Some(known);
+        likeness
+    }
+
+    /// Makes the index of a list that grew long, if memory suffices.
+    fn index_if_long(&mut self, tree: &Tree)
+        ensures entries { self.new.entries ≡ self.old.entries }
+        ensures likes { KnowsLikes tree.now self.old → KnowsLikes tree.now self.new }
+    {
+        if self.index.is_some() {
+            return;
         }
+        if self.is_short() {
+            return;
+        }
+        self.index = made_index(self.entries.as_slice(), tree);
     }
 
     /// Returns the index of the third entry, from the end and after the last marker, with the same
-    /// name and attributes (the Noah's Ark clause). `likeness` is that of the element. The index of
-    /// a long list answers by the likeness alone; the contract says nothing of that answer.
-    pub fn third_same(&self, tree: &Tree, id: NodeId, likeness: u32) -> Option<usize>
-        ensures { are_few self.now ≡ true → result ≡ third_alike tree.now id self.now }
+    /// name and attributes (the Noah's Ark clause). `likeness` is that of the element.
+    fn third_same(&self, tree: &Tree, id: NodeId, likeness: u32) -> Option<usize>
+        requires list { KnowsLikes tree.now self.now }
+        requires element { HasLikeness tree.now id likeness self.now.likes }
+        ensures { result ≡ third_alike tree.now id self.now.entries }
     {
         if self.is_short() {
             return third_like(self.entries.as_slice(), tree, id);
         }
         match &self.index {
-            Some(index) => index.third_alike(likeness),
+            Some(index) => third_found(index, self.entries.as_slice(), tree, id, likeness),
             None => third_like(self.entries.as_slice(), tree, id),
         }
     }
 
-    /// Makes room for an element that is to be added: if three elements after the last marker have
-    /// its name and attributes, the earliest is removed (the Noah's Ark clause). At most one entry
-    /// is removed; the contract says which one for a short list.
-    pub fn make_room(&mut self, tree: &Tree, id: NodeId, likeness: u32)
-        ensures ark { are_few self.old ≡ true → self.new ≡ with_room tree.now id self.old }
-        ensures one { IsWithout self.old self.new }
+    /// Makes room for an element of that likeness: if three elements after the last marker have its
+    /// name and attributes, the earliest is removed (the Noah's Ark clause).
+    fn make_room(&mut self, tree: &Tree, id: NodeId, likeness: u32)
+        requires list { KnowsLikes tree.now self.old }
+        requires element { HasLikeness tree.now id likeness self.old.likes }
+        ensures ark { self.new.entries ≡ with_room tree.now id self.old.entries }
+        ensures likes { KnowsLikes tree.now self.new }
+        ensures element { HasLikeness tree.now id likeness self.new.likes }
     {
         if let Some(place) = self.third_same(tree, id, likeness) {
             self.remove_at(place);
@@ -377,8 +479,10 @@ impl ActiveFormatting {
 
     /// Removes the last entry and returns it.
     pub fn take(&mut self) -> Option<Entry>
-        ensures items { self.old ≡ self.new ++ option_to_list result }
-        ensures none { IfNone result (self.old ≡ []) }
+        ensures items { self.old.entries ≡ self.new.entries ++ option_to_list result }
+        ensures none { IfNone result (self.old.entries ≡ []) }
+        ensures likes { (forest : Forest) → KnowsLikes forest self.old →
+            KnowsLikes forest self.new }
     {
         let last = self.entries.pop()?;
         let left = self.entries.as_slice().len();
@@ -389,7 +493,9 @@ impl ActiveFormatting {
     /// Clears the list up to the last marker: removes the entries after it, and the marker. A list
     /// without a marker is empty afterwards.
     pub fn clear_to_marker(&mut self)
-        ensures { self.new ≡ before_last is_a_marker self.old }
+        ensures entries { self.new.entries ≡ before_last is_a_marker self.old.entries }
+        ensures likes { (forest : Forest) → KnowsLikes forest self.old →
+            KnowsLikes forest self.new }
     {
         while let Some(entry) = self.take() {
             if entry.is_marker() {
@@ -398,22 +504,28 @@ impl ActiveFormatting {
         }
     }
 
-    /// Replaces the element at an index of the list by a copy of it.
-    pub fn replace(&mut self, index: usize, element: &Open)
-        ensures { self.new ≡ slice_set self.old index (AnEntry element.now) }
+    /// Replaces the element at an index of the list.
+    pub fn replace(&mut self, tree: &Tree, index: usize, element: &Open)
+        ensures entries { let copy = AnEntry element.now in
+            self.new.entries ≡ slice_set self.old.entries index copy }
+        ensures likes { KnowsLikes tree.now self.old → KnowsLikes tree.now self.new }
     {
+        let likeness = self.likeness_of(tree, element.id);
         if let Some(entry) = self.entries.get_mut(index) {
             *entry = Entry::Element(*element);
-            self.index = with_copy(self.index.take(), index, &Entry::Element(*element));
+            let copy = Entry::Element(*element);
+            self.index = with_copy(self.index.take(), index, &copy, likeness);
         }
     }
 
-    /// Inserts an element of that likeness at an index of the list. Fails only when memory runs
-    /// out.
-    pub fn insert(&mut self, index: usize, element: &Open, likeness: u32) -> Result<(), PageFault>
-        ensures ok { OnOk result (self.new ≡ insert self.old index (AnEntry element.now)) }
-        ensures err { OnErr result (self.new ≡ self.old) }
+    /// Inserts an element at an index of the list. Fails only when memory runs out.
+    pub fn insert(&mut self, tree: &Tree, index: usize, element: &Open) -> Result<(), PageFault>
+        ensures ok { let entry = AnEntry element.now in
+            OnOk result (self.new.entries ≡ insert self.old.entries index entry) }
+        ensures err { OnErr result (self.new.entries ≡ self.old.entries) }
+        ensures likes { KnowsLikes tree.now self.old → KnowsLikes tree.now self.new }
     {
+        let likeness = self.likeness_of(tree, element.id);
         let place = index.min(self.entries.len());
         let entry = Entry::Element(*element);
         self.entries.insert(place, entry)?;
@@ -422,7 +534,12 @@ impl ActiveFormatting {
     }
 
     pub fn remove_at(&mut self, index: usize)
-        ensures { self.new ≡ remove self.old index }
+        ensures entries { self.new.entries ≡ remove self.old.entries index }
+        ensures likes { (forest : Forest) → KnowsLikes forest self.old →
+            KnowsLikes forest self.new }
+        ensures kept { (forest : Forest) (id likeness : ℕ) →
+            HasLikeness forest id likeness self.old.likes →
+            HasLikeness forest id likeness self.new.likes }
     {
         if index < self.entries.len() {
             let _ = self.entries.remove(index);
@@ -433,7 +550,8 @@ impl ActiveFormatting {
 
     /// Returns the index of an element's entry: the last one, if it had several.
     pub fn index_of(&self, id: NodeId) -> Option<usize>
-        ensures { result ≡ last_place (is_of id) self.now }
+        ensures place { result ≡ last_place (is_of id) self.now.entries }
+        ensures room { length self.now.entries < 2 ^ 64 }
     {
         match &self.index {
             Some(index) => index.position_of(id),
@@ -443,7 +561,7 @@ impl ActiveFormatting {
 
     /// Returns the last element with that name after the last marker.
     pub fn named(&self, name: Name) -> Option<Open>
-        ensures { let elements = after_marker self.now in
+        ensures { let elements = after_marker self.now.entries in
             MatchOption result (NoneHas (IsNamed name) elements) (IsFirst (IsNamed name) elements) }
     {
         let Some(index) = &self.index else {
@@ -454,7 +572,7 @@ impl ActiveFormatting {
 
     /// Returns the element of the entry at an index, if it is no marker.
     pub fn element_at(&self, index: usize) -> Option<Open>
-        ensures { result ≡ option_and_then element_in (slice_get self.now index) }
+        ensures { result ≡ option_and_then element_in (slice_get self.now.entries index) }
     {
         self.get(index)?.element()
     }

@@ -11,6 +11,7 @@ ghost use Rattle.dom_links.specs.Growth.{lone};
 ghost use Rattle.dom_links.specs.Sound.{IsOpenGap};
 ghost use Rattle.dom_nodes.specs.declared.node_data.NodeData.TheVariants.{Document as TheDocument};
 ghost use Rattle.dom_nodes.specs.declared.node_data.NodeData.TheVariants.{Fragment as TheFragment};
+ghost use Rattle.page_trees.specs.Contexts.{context_for, with_context, with_own_form};
 ghost use Rattle.page_trees.specs.DocumentTrees.{IsTreeOf};
 ghost use Rattle.page_trees.specs.Elements.{IsElement, IsRooted};
 ghost use Rattle.page_trees.specs.FormEnds.{without_form};
@@ -30,21 +31,22 @@ ghost use Rattle.page_trees.specs.SameNodes.{IsPointOf};
 ghost use Rattle.page_trees.specs.Sets.{local_for, space_of};
 ghost use Rattle.page_trees.specs.Stands.{AreParts, Builds, Does, DoesAtAnyDepth};
 ghost use Rattle.page_trees.specs.Stands.{DoesIn};
-ghost use Rattle.page_trees.specs.Stands.{IsCurrent, IsTagOf, Tells, cut};
+ghost use Rattle.page_trees.specs.Stands.{IsCurrent, IsOfKind, IsTagOf, Tells, cut};
 ghost use Rattle.page_trees.specs.Stands.{inserted_in, is_fragment, place_for, with_form};
 ghost use Rattle.page_trees.specs.Stands.{with_form_of_context, with_head};
 ghost use Rattle.page_trees.specs.TreeState.{adjusted_at, completed, fresh_state};
 ghost use Rattle.page_trees.specs.declared.fault.PageFault.TheVariants.{Memory as NoMemory};
 ghost use Rattle.page_trees.specs.declared.name.Name.TheVariants.{Other};
 ghost use Rattle.standard_tokens.specs.Tokens.{Doctype};
-ghost use Rattle.standard_trees.specs.Building.{Building, empty_tree, is_present, is_set};
+ghost use Rattle.standard_trees.specs.Building.{Building, empty_tree, is_empty, is_present};
+ghost use Rattle.standard_trees.specs.Building.{is_set};
 ghost use Rattle.standard_trees.specs.Formatting.{form_ended};
 ghost use Rattle.standard_trees.specs.GrowingTree.{FormAt, GrowingTree as StandardTree};
 ghost use Rattle.standard_trees.specs.GrowingTree.{adjusted_current, created_at, current};
 ghost use Rattle.standard_trees.specs.GrowingTree.{inserted_at, is_named, is_one};
 ghost use Rattle.standard_trees.specs.GrowingTree.{with_chars, with_comment};
 ghost use Rattle.standard_trees.specs.TreeStore.{EndOf as AtEnd, Html as HtmlSpace};
-ghost use Rattle.standard_trees.specs.TreeStore.{DoctypeNode, NodeAttr};
+ghost use Rattle.standard_trees.specs.TreeStore.{DoctypeNode, Kind, NodeAttr};
 
 mod adopting;
 mod edits;
@@ -113,7 +115,7 @@ impl Model for GrowingTree {
       forest = t.tree;
       stack = t.stack.elements.items;
       numbers = numbers_of t.others.numbers.entries;
-      formatting = t.formatting;
+      formatting = t.formatting.entries;
       head = t.head;
       form = t.form;
       context = t.context;
@@ -371,17 +373,29 @@ impl GrowingTree {
     }
 
     /// Sets the context element, which the current node represents.
-    pub fn set_context(&mut self, ns: ElementNamespace, name: Name) {
-        let Some(root) = self.stack.current() else {
-            return;
-        };
-        self.context = Some(Open {
-            id: root.id,
-            ns,
-            name,
-            number: 0,
-            holds_html: false,
-        });
+    pub fn set_context(&mut self, ns: ElementNamespace, name: Name)
+        ensures { (t : StandardTree) → is_empty t.stack ≡ false → (kind : Kind) →
+            IsOfKind (context_for ns name) kind → Builds self.old t →
+            Builds self.new (with_context kind t) }
+    {
+        if let Some(root) = self.stack.current() {
+            self.context = Some(Open {
+                id: root.id,
+                ns,
+                name,
+                number: 0,
+                holds_html: false,
+            });
+        }
+    }
+
+    /// Sets the form element pointer to the context element, if that is a form.
+    pub fn set_own_form(&mut self)
+        ensures { Does with_own_form self.old self.new }
+    {
+        if self.is_context(Name::Form) {
+            self.set_context_form();
+        }
     }
 
     /// Sets the head element pointer to the current node.
@@ -405,7 +419,7 @@ impl GrowingTree {
     }
 
     /// Sets the form element pointer to the context element.
-    pub fn set_context_form(&mut self)
+    fn set_context_form(&mut self)
         ensures { Does with_form_of_context self.old self.new }
     {
         self.form = FormPointer::Context;
@@ -532,6 +546,13 @@ impl GrowingTree {
         }
     }
 
+    /// Returns how many entries the list of active formatting elements has.
+    pub fn formatting_len(&self) -> usize
+        ensures { result ≡ length self.now.formatting }
+    {
+        self.formatting.len()
+    }
+
     /// Returns the element of the entry at an index of the list, if it is no marker.
     fn entry_element(&self, index: usize) -> Option<Open>
         ensures value { let entries = self.now.formatting in
@@ -558,7 +579,7 @@ impl GrowingTree {
         is_forest(&self.tree);
         let copy = put_copy(&mut self.tree, gap, open)?;
         self.stack.push(&copy)?;
-        self.formatting.replace(index, &copy);
+        self.formatting.replace(&self.tree, index, &copy);
         Ok(())
     }
 }

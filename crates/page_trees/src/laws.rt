@@ -1,11 +1,12 @@
-//! Laws about the documents of pages. The functions do nothing at run time; their contracts are the
-//! theorems.
+//! Laws about the documents of pages and fragments. The functions do nothing at run time; their
+//! contracts are the theorems.
 
 ghost use Rattle.page_trees.specs.DocumentTrees.{StandsForOneDocument};
 ghost use Rattle.page_trees.specs.OrderlyTurns.{OthersAreCovered, TagsAreCovered, TurnsAreOrderly};
-ghost use Rattle.page_trees.specs.OrderlyTurns.{TurnsWithFewAreCovered};
+ghost use Rattle.page_trees.specs.OrderlyTurns.{TurnsAreCovered};
+ghost use Rattle.page_trees.specs.PagesRead.{EveryTextIsRead};
 ghost use Rattle.page_trees.specs.ShapeExamples.{PagesAreShaped};
-ghost use Rattle.page_trees.specs.StandardDocuments.{CoveredPagesAreParsed};
+ghost use Rattle.page_trees.specs.StandardDocuments.{TextsAreParsed};
 
 use standard_agreement::texts_are_built_of_tokens;
 
@@ -23,10 +24,10 @@ pub fn pages_are_shaped()
     ensures { PagesAreShaped }
 {}
 
-/// If the turns of tree construction are covered, what they come to is the Document as which the
-/// HTML Standard parses the page.
-pub fn covered_pages_are_parsed()
-    ensures { CoveredPagesAreParsed }
+/// What tree construction builds of the tokens of a text is the Document as which the HTML Standard
+/// parses the page, or the nodes of the fragment.
+pub fn texts_are_parsed()
+    ensures { TextsAreParsed }
 {
     // A law, called for its contract alone.
     texts_are_built_of_tokens();
@@ -45,16 +46,20 @@ pub fn others_are_covered()
     ensures { OthersAreCovered }
 {}
 
-/// In an orderly state in which no element is open before `html`, every tag is covered, if the list
-/// of active formatting elements has fewer than 16 entries.
+/// In an orderly state in which no element is open before `html`, every tag is covered.
 #[tactic(auto, using(crate::proofs::TagsCovered::tags_are_covered))]
 pub fn tags_are_covered()
     ensures { TagsAreCovered }
 {}
 
-/// So each turn of a page is covered, if the list of active formatting elements has fewer than 16
-/// entries where turns begin with tags.
-#[tactic(auto, using(crate::proofs::FewListed::turns_with_few_are_covered))]
-pub fn turns_with_few_are_covered()
-    ensures { TurnsWithFewAreCovered }
+/// So each turn of a page or a fragment is covered.
+#[tactic(auto, using(crate::proofs::TurnsCovered::turns_are_covered))]
+pub fn turns_are_covered()
+    ensures { TurnsAreCovered }
+{}
+
+/// Every text of a page or a fragment is read as tokens of which tree construction builds something.
+#[tactic(auto, using(crate::proofs::TextsRead::every_text_is_read))]
+pub fn every_text_is_read()
+    ensures { EveryTextIsRead }
 {}

@@ -9,6 +9,7 @@ mod adjusting;
 mod attributes;
 mod builder;
 mod chars;
+mod depth;
 mod element_kinds;
 mod fault;
 mod foreign;

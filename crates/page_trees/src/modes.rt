@@ -78,7 +78,18 @@ impl TreeBuilder {
         ensures limits { RemembersLimits self.old self.new }
         ensures rule { ProcessesToken token.entry self.old self.new }
     {
-        for turn in 0..u64::MAX {
+        match self.step(token) {
+            Next::Done => {}
+            Next::Again => self.reprocess(token),
+        }
+    }
+
+    /// Processes a token again, as often as the rules ask for.
+    fn reprocess(&mut self, token: Token<'_>)
+        ensures limits { RemembersLimits self.old self.new }
+        ensures rule { ProcessesToken token.entry self.old self.new }
+    {
+        for turn in 0..self.most_turns() {
             match self.step(token) {
                 Next::Done => return,
                 Next::Again => {

@@ -4,15 +4,19 @@
 ghost use Rattle.std.specs.Prelude.{◌≡◌, ◌≤◌, ◌≢◌, ◌++◌, ◌-◌, None, false, if◌then◌else◌};
 ghost use Rattle.standard_trees.specs.Parsing.{state_among};
 ghost use Rattle.standard_trees.specs.TreeRules.{first_states};
+ghost use Rattle.page_tokens.specs.StandardPages.{IsTextState};
 ghost use Rattle.page_tokens.specs.StandardStates.{state_of};
 ghost use Rattle.page_tokens.specs.declared.tokenizer.state.State.TheVariants.{Data, Rawtext};
+ghost use Rattle.page_trees.specs.Contexts.{namespace_in, written_in};
 ghost use Rattle.page_trees.specs.Names.{text_of as local_name};
 
 use crate::builder::{Mode, TreeBuilder};
+use crate::depth::within_depth;
 use crate::fault::PageFault;
 use crate::growing::{BuiltTree, GrowingTree};
-use crate::laws::covered_pages_are_parsed;
+use crate::laws::texts_are_parsed;
 use crate::name::Name;
+use crate::shape::is_forest;
 use crate::stack::ElementNamespace;
 use dom_nodes::name::LocalName;
 use page_tokens::laws::{names, pages};
@@ -27,10 +31,10 @@ use std::alloc::{AllocError, Global};
 pub struct Options {
     /// Whether scripting is enabled. If it is, the content of `noscript` is text.
     pub scripting: bool,
-    /// The largest number of nested elements, at least 3; browsers take 512. An element whose start
-    /// tag comes deeper becomes a sibling of the element that it would be in; texts and comments
-    /// stay in their element. The adoption agency algorithm may still nest elements deeper, since
-    /// it moves what is already there, and so does the content of a template, by one.
+    /// The largest number of nested elements, at least 3; browsers take 512. In the finished tree
+    /// an element that nests deeper is moved behind the element that it is in; texts and comments
+    /// stay in their element. In template contents elements may nest deeper by one. A page that
+    /// nests no deeper is read as without a limit.
     pub max_depth: Option<usize>,
     /// Whether the tokenizer's parse errors are collected in the document. Each is a text with its
     /// byte offset and its name, such as `12: missing-attribute-value`.
@@ -55,6 +59,28 @@ pub enum Context<'a> {
     MathMl(&'a str),
 }
 
+impl Context<'_> {
+    /// Returns the namespace of the element.
+    fn namespace(&self) -> ElementNamespace
+        ensures { result ≡ namespace_in self.now }
+    {
+        match self {
+            Context::Html(_) => ElementNamespace::Html,
+            Context::Svg(_) => ElementNamespace::Svg,
+            Context::MathMl(_) => ElementNamespace::MathMl,
+        }
+    }
+
+    /// Returns the name of the element as it is written.
+    fn written(&self) -> &str
+        ensures { result.now ≡ written_in self.now }
+    {
+        match self {
+            Context::Html(name) | Context::Svg(name) | Context::MathMl(name) => name,
+        }
+    }
+}
+
 /// The parser of a page or a fragment: the tokenizer and tree construction.
 #[derive(Drop)]
 pub struct PageReader {
@@ -69,21 +95,24 @@ impl PageReader {
     ghost use Rattle.standard_tokens.specs.Tokens.{AChar, Token as StandardToken};
     ghost use Rattle.standard_trees.specs.Building.{empty_tree, start};
     ghost use Rattle.standard_trees.specs.GrowingTree.{in_foreign};
+    ghost use Rattle.standard_order.specs.Beginnings.{Beginning, OfFragment, OfPage};
     ghost use Rattle.page_tokens.specs.PlainNames.{has_plain_names};
     ghost use Rattle.page_tokens.specs.Reading.{text_of};
     ghost use Rattle.page_tokens.specs.Standard.{Told};
     ghost use Rattle.page_tokens.specs.StandardPages.{BeginsPage};
     ghost use Rattle.page_trees.specs.Constructs.{Constructs, RemembersLimits, WithinLimits};
+    ghost use Rattle.page_trees.specs.Contexts.{IsUnspaced, surroundings_of};
     ghost use Rattle.page_trees.specs.CoveredTurns.{TakesTokens};
-    ghost use Rattle.page_trees.specs.PagesRead.{HasBuilt, ReadsEnd, ReadsRest};
+    ghost use Rattle.page_trees.specs.Depth.{NestsWithin};
+    ghost use Rattle.page_trees.specs.PagesRead.{HasBuilt, IsNew, ReadsEnd, ReadsRest};
     ghost use Rattle.page_trees.specs.PagesRead.{ReadsSome, TellsAll, TellsLast, TellsRead};
-    ghost use Rattle.page_trees.specs.StandardDocuments.{FinishesPage};
+    ghost use Rattle.page_trees.specs.StandardDocuments.{FinishesText};
     ghost use Rattle.page_trees.specs.Stands.{Builds, Tells};
 
     /// Returns a parser for a page. Fails only when memory runs out.
     pub fn page(alloc: Global, options: Options) -> Result<PageReader, PageFault>
         ensures options { IfOk result (λ reader. reader.options ≡ options) }
-        ensures begins { IfOk result (λ reader. HasBuilt options.scripting [] reader) }
+        ensures begins { IfOk result (λ reader. HasBuilt (OfPage options.scripting) [] reader) }
     {
         // A law, called for its contract alone.
         pages();
@@ -96,7 +125,11 @@ impl PageReader {
         alloc: Global,
         context: Context<'_>,
         options: Options,
-    ) -> Result<PageReader, PageFault> {
+    ) -> Result<PageReader, PageFault>
+        ensures options { IfOk result (λ reader. reader.options ≡ options) }
+        ensures begins { let around = surroundings_of context.entry in IsUnspaced context.entry →
+            IfOk result (HasBuilt (OfFragment options.scripting around) []) }
+    {
         let tree = GrowingTree::fragment(alloc)?;
         let mut reader = PageReader::new(alloc, tree, options);
         reader.begin_fragment(context);
@@ -122,19 +155,24 @@ impl PageReader {
     }
 
     /// Sets the state for the content of the context element.
-    fn begin_fragment(&mut self, context: Context<'_>) {
+    fn begin_fragment(&mut self, context: Context<'_>)
+        ensures options { self.new.options ≡ self.old.options }
+        ensures begins { (scripting : Bool) → IsNew scripting self.old → IsUnspaced context.entry →
+            HasBuilt (OfFragment scripting (surroundings_of context.entry)) [] self.new }
+    {
+        // A law, called for its contract alone.
+        pages();
         self.builder.begin_fragment(context);
         self.tokens.switch_to(self.builder.first_state());
-        self.tokens
-            .set_in_foreign(self.builder.is_current_foreign());
+        self.set_in_foreign();
     }
 
     /// Parses a piece of the text. Fails with the first fault: memory or node ids ran out.
     pub fn feed(&mut self, piece: &str) -> Result<(), PageFault>
         ensures options { self.new.options ≡ self.old.options }
-        ensures builds { (scripting : Bool) (read : List ℕ) (cs : List ℕ) →
+        ensures builds { (beginning : Beginning) (read : List ℕ) (cs : List ℕ) →
             piece.now ≡ encode_utf8_all cs →
-            HasBuilt scripting read self.old → HasBuilt scripting (read ++ cs) self.new }
+            HasBuilt beginning read self.old → HasBuilt beginning (read ++ cs) self.new }
     {
         self.read(piece);
         self.settled()
@@ -155,19 +193,23 @@ impl PageReader {
     /// Returns the tree after the last piece. The tree of a page may not have the shape of a page
     /// yet; see `shape::make_page`. Fails with the first fault: memory or node ids ran out.
     pub fn finish(self) -> Result<BuiltTree, PageFault>
-        ensures { self.options.max_depth ≡ None → IfOk result (FinishesPage self) }
+        ensures text { IfOk result (FinishesText self) }
+        ensures nests { let max_depth = self.options.max_depth in
+            IfOk result (λ built. NestsWithin max_depth built.tree) }
     {
-        // A law, called for its contract alone.
-        covered_pages_are_parsed();
+        let max_depth = self.options.max_depth;
         let mut reader = self;
         reader.read_end()?;
-        reader.builder.into_built()
+        let built = reader.builder.into_built()?;
+        // Laws, called for their contracts alone.
+        texts_are_parsed();
+        is_forest(&built.tree);
+        within_depth(built, max_depth)
     }
 
     /// Processes the end of the text.
     fn read_end(&mut self) -> Result<(), PageFault>
-        ensures depth { OnOk result (self.old.options.max_depth ≡ None →
-            self.new.builder.too_deep ≡ false) }
+        ensures depth { OnOk result (self.new.builder.too_deep ≡ false) }
         ensures fault { OnOk result (self.new.builder.fault ≡ None) }
         ensures ends { OnOk result (ReadsEnd self.old self.new) }
     {
@@ -188,14 +230,13 @@ impl PageReader {
         }
     }
 
-    /// Fails with the first fault, if there was one. With no limit on depth, no stack is as long as
-    /// one that would meet it.
+    /// Fails with the first fault, if there was one. No stack is so long that elements would be
+    /// placed beside the current node.
     fn settled_whole(&self) -> Result<(), PageFault>
         ensures fault { OnOk result (self.now.builder.fault ≡ None) }
-        ensures depth { OnOk result (self.now.options.max_depth ≡ None →
-            self.now.builder.too_deep ≡ false) }
+        ensures depth { OnOk result (self.now.builder.too_deep ≡ false) }
     {
-        if self.builder.too_deep && self.options.max_depth.is_none() {
+        if self.builder.too_deep {
             return Err(PageFault::TooManyNodes);
         }
         self.builder.settled()
@@ -404,7 +445,8 @@ impl PageReader {
 
 /// Returns the tokenizer's state for the content of an HTML element with that name (13.4).
 fn state_in(name: Name, scripting: bool) -> State
-    ensures { state_of result ≡ state_among (first_states scripting) (local_name name) }
+    ensures state { state_of result ≡ state_among (first_states scripting) (local_name name) }
+    ensures text { IsTextState result }
 {
     match name {
         Name::Title | Name::Textarea => State::Rcdata,
@@ -419,7 +461,8 @@ fn state_in(name: Name, scripting: bool) -> State
 /// Returns the tokenizer's state for the content of a `noscript`, which is text if scripting is
 /// enabled.
 fn state_in_noscript(scripting: bool) -> State
-    ensures { result ≡ (if scripting then Rawtext else Data) }
+    ensures state { result ≡ (if scripting then Rawtext else Data) }
+    ensures text { IsTextState result }
 {
     if scripting {
         State::Rawtext
@@ -429,14 +472,22 @@ fn state_in_noscript(scripting: bool) -> State
 }
 
 impl TreeBuilder {
-    ghost use Rattle.std.specs.Prelude.{IfErr, IfOk};
-    ghost use Rattle.standard_trees.specs.Building.{Building};
+    ghost use Rattle.std.specs.Prelude.{Bool, IfErr, IfOk};
+    ghost use Rattle.standard_trees.specs.Building.{Building, fragment_start, is_empty, start};
+    ghost use Rattle.standard_trees.specs.TreeStore.{Kind};
     ghost use Rattle.page_trees.specs.Constructs.{Constructs, RemembersLimits, WithinLimits};
+    ghost use Rattle.page_trees.specs.Contexts.{IsUnspaced, begun_in, context_for};
+    ghost use Rattle.page_trees.specs.Contexts.{state_in_context, surroundings_of, with_own_mode};
     ghost use Rattle.page_trees.specs.DocumentTrees.{IsTreeOf};
+    ghost use Rattle.page_trees.specs.Stands.{IsOfKind};
     ghost use Rattle.page_trees.specs.declared.fault.PageFault.TheVariants.{Memory as NoMemory};
 
     /// Returns the tokenizer's state for the content of the context element.
-    fn first_state(&self) -> State {
+    fn first_state(&self) -> State
+        ensures rule { (b : Building) → Constructs self.now b →
+            state_of result ≡ state_in_context b }
+        ensures text { IsTextState result }
+    {
         let Some(context) = self.tree.context() else {
             return State::Data;
         };
@@ -476,28 +527,40 @@ impl TreeBuilder {
     }
 
     /// Inserts the element `html` of a fragment, and sets the state for its context element (13.4).
-    fn begin_fragment(&mut self, context: Context<'_>) {
+    fn begin_fragment(&mut self, context: Context<'_>)
+        ensures limits { RemembersLimits self.old self.new }
+        ensures rule { let around = surroundings_of context.entry in IsUnspaced context.entry →
+            WithinLimits self.new → (scripting : Bool) → Constructs self.old (start scripting) →
+            Constructs self.new (fragment_start scripting around) }
+    {
         self.insert_implied(Name::Html, "html");
-        let (ns, written) = match context {
-            Context::Html(name) => (ElementNamespace::Html, name),
-            Context::Svg(name) => (ElementNamespace::Svg, name),
-            Context::MathMl(name) => (ElementNamespace::MathMl, name),
-        };
-        match LocalName::folded(self.alloc, written) {
-            Ok(local) => self.begin_in(ns, Name::of(&local.by_ref())),
+        match LocalName::folded(self.alloc, context.written()) {
+            Ok(local) => self.begin_in(context.namespace(), Name::of(&local.by_ref())),
             Err(_) => self.keep(Err(PageFault::Memory)),
         }
     }
 
     /// Sets the state for a context element with that name.
-    fn begin_in(&mut self, ns: ElementNamespace, name: Name) {
+    fn begin_in(&mut self, ns: ElementNamespace, name: Name)
+        ensures limits { RemembersLimits self.old self.new }
+        ensures rule { WithinLimits self.new → (b : Building) → is_empty b.tree.stack ≡ false →
+            (kind : Kind) → IsOfKind (context_for ns name) kind → Constructs self.old b →
+            Constructs self.new (begun_in kind b) }
+    {
         self.tree.set_context(ns, name);
-        if ns == ElementNamespace::Html && name == Name::Template {
-            self.push_template_mode(Mode::InTemplate);
-        }
+        self.tree.set_own_form();
+        self.push_own_mode();
         self.reset_mode();
-        if ns == ElementNamespace::Html && name == Name::Form {
-            self.tree.set_context_form();
+    }
+
+    /// Pushes a template insertion mode, if the context element is a template.
+    fn push_own_mode(&mut self)
+        ensures limits { RemembersLimits self.old self.new }
+        ensures rule { WithinLimits self.new → (b : Building) → Constructs self.old b →
+            Constructs self.new (with_own_mode b) }
+    {
+        if self.tree.is_context(Name::Template) {
+            self.push_template_mode(Mode::InTemplate);
         }
     }
 }

@@ -118,7 +118,7 @@ pub fn is_page(tree: &Tree) -> Result<bool, PageFault>
 
 /// Every tree is a well-formed forest. The function does nothing at run time; a call of it brings
 /// its `ensures` clauses into the caller's proof.
-fn is_forest(tree: &Tree)
+pub(crate) fn is_forest(tree: &Tree)
     ensures { IsForest tree.now }
 {
     let _ = tree.nodes();

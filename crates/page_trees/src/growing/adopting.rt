@@ -269,7 +269,7 @@ impl GrowingTree {
         };
         is_forest(&self.tree);
         let copy = put_into_copy(&mut self.tree, node, last.id)?;
-        self.formatting.replace(index, &copy);
+        self.formatting.replace(&self.tree, index, &copy);
         self.stack.replace(place, &copy);
         Ok(())
     }
@@ -331,8 +331,7 @@ impl GrowingTree {
             }) }
     {
         let index = self.take_entry(element, bookmark);
-        let likeness = self.likeness_of(copy.id);
-        self.insert_entry(index, copy, likeness)
+        self.insert_entry(index, copy)
     }
 
     /// Removes an element's entry from the list, and returns the index of the bookmark after that.
@@ -349,8 +348,8 @@ impl GrowingTree {
         bookmark.without(gone).index
     }
 
-    /// Inserts an entry of that likeness at an index of the list.
-    fn insert_entry(&mut self, index: usize, element: &Open, likeness: u32) -> Result<(), PageFault>
+    /// Inserts an entry at an index of the list.
+    fn insert_entry(&mut self, index: usize, element: &Open) -> Result<(), PageFault>
         requires { IsElement self.old.forest element.now.id }
         ensures ok { OnOk result (self.new ≡ record self.old {
           formatting =
@@ -358,6 +357,6 @@ impl GrowingTree {
         }) }
         ensures err { OnErr result (self.new ≡ self.old) }
     {
-        self.formatting.insert(index, element, likeness)
+        self.formatting.insert(&self.tree, index, element)
     }
 }

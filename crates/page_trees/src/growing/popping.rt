@@ -1,14 +1,13 @@
 //! Removing elements from the stack of open elements and from the list of active formatting
 //! elements. A call that returns a `Result` fails only when memory runs out.
 
-ghost use Rattle.std.specs.Prelude.{IfNone, IfSome, IsSome, List, OnOk, [], codes, false, length};
-ghost use Rattle.std.specs.Prelude.{remove, slice_get, take, true, ◌++◌, ◌-◌, ◌∷◌, ◌≡◌, ℕ};
-ghost use Rattle.std.specs.Option.{option_map, option_to_list};
+ghost use Rattle.std.specs.Prelude.{IfNone, IfSome, IsSome, List, OnOk, [], codes, false};
+ghost use Rattle.std.specs.Prelude.{remove, take, ◌++◌, ◌∷◌, ◌≡◌, ℕ};
+ghost use Rattle.std.specs.Option.{option_to_list};
 ghost use Rattle.standard_trees.specs.GrowingTree.{GrowingTree as StandardTree, has_in_scope};
 ghost use Rattle.standard_trees.specs.GrowingTree.{implied_of};
 ghost use Rattle.standard_trees.specs.GrowingTree.{popped_until, popped_up_to};
 ghost use Rattle.standard_trees.specs.NameLists.{headings, implied};
-ghost use Rattle.page_trees.specs.Formatting.{IsWithout, are_few, with_room};
 ghost use Rattle.page_trees.specs.Listing.{Enlists, Unlists, Unstacks};
 ghost use Rattle.standard_trees.specs.RuleWords.{Scope as DefaultScope};
 ghost use Rattle.page_trees.specs.Closing.{closed_before, ends_items_node, is_special_node};
@@ -23,13 +22,11 @@ ghost use Rattle.page_trees.specs.Stands.{Builds, Does, IsOtherName, Tells, clos
 ghost use Rattle.page_trees.specs.Stands.{popped_if};
 ghost use Rattle.page_trees.specs.Stands.{scope_kind, text_list, with_marker, without_foreign};
 ghost use Rattle.page_trees.specs.Stands.{without_marker};
-ghost use Rattle.page_trees.specs.declared.formatting.Entry.TheVariants.{Element as AnEntry};
 ghost use Rattle.page_trees.specs.TableSteps.{is_a_cell};
 ghost use Rattle.page_trees.specs.declared.name.Name.TheVariants.{Other};
 
 use super::GrowingTree;
 use crate::fault::PageFault;
-use crate::formatting::Entry;
 use crate::name::Name;
 use crate::sets::{Scope, TableContext, is_cell_element};
 use crate::stack::Open;
@@ -274,47 +271,15 @@ impl GrowingTree {
         let Some(open) = self.stack.current() else {
             return Ok(());
         };
-        let likeness = self.likeness_of(open.id);
-        self.make_room(open.id, likeness);
-        self.push_current(likeness)?;
+        self.formatting.enlist(&self.tree, &open)?;
         Ok(())
-    }
-
-    /// Makes room in the list for an element of that likeness (the Noah's Ark clause).
-    fn make_room(&mut self, id: NodeId, likeness: u32)
-        ensures ark { let old = self.old.formatting in are_few old ≡ true →
-            self.new.formatting ≡ with_room self.old.forest id old }
-        ensures one { IsWithout self.old.formatting self.new.formatting }
-        ensures rest { self.new ≡ record self.old { formatting = self.new.formatting } }
-    {
-        self.formatting.make_room(&self.tree, id, likeness);
-    }
-
-    /// Returns the likeness of an element that is to be added to the list.
-    pub fn likeness_of(&mut self, id: NodeId) -> u32
-        ensures { self.new ≡ self.old }
-    {
-        self.formatting.likeness_of(&self.tree, id)
-    }
-
-    /// Appends the current node, of that likeness, to the list.
-    fn push_current(&mut self, likeness: u32) -> Result<(), PageFault>
-        ensures { let current = slice_get self.old.stack (length self.old.stack - 1) in
-            OnOk result (self.new ≡ record self.old {
-              formatting = self.old.formatting ++ option_to_list (option_map AnEntry current);
-            }) }
-    {
-        let Some(open) = self.stack.current() else {
-            return Ok(());
-        };
-        self.formatting.push(Entry::Element(open), likeness)
     }
 
     pub fn push_marker(&mut self) -> Result<(), PageFault>
         ensures rule { OnOk result (Does with_marker self.old self.new) }
         ensures quirks { self.new.quirks ≡ self.old.quirks }
     {
-        self.formatting.push(Entry::Marker, 0)?;
+        self.formatting.push_marker()?;
         Ok(())
     }
 

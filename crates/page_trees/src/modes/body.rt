@@ -9,7 +9,7 @@ ghost use Rattle.standard_trees.specs.RuleWords.{ReconstructFormatting, SetFormP
 ghost use Rattle.standard_trees.specs.RuleWords.{SkipNextLineFeed, SwitchTo, TemplateOpen, These};
 ghost use Rattle.standard_trees.specs.RuleWords.{TokenizerTo, does, is, isnt};
 ghost use Rattle.page_trees.specs.BodyTags.{Acts, ActsFor, Begins, ChangesThen, Continues};
-ghost use Rattle.page_trees.specs.BodyTags.{ActsWhere, LeavesFew};
+ghost use Rattle.page_trees.specs.BodyTags.{ActsWhere};
 ghost use Rattle.page_trees.specs.BodyTags.{ProcessesInBody, implied_in, is_inline, is_phrase};
 ghost use Rattle.page_trees.specs.BodyTags.{is_texty, only_if};
 ghost use Rattle.page_trees.specs.Closing.{item_texts};
@@ -17,9 +17,9 @@ ghost use Rattle.page_trees.specs.Constructs.{Performs, PerformsFor, RemembersLi
 ghost use Rattle.page_trees.specs.Groups.{closes_p, group_named, reconstructs, spoils_frameset};
 ghost use Rattle.page_trees.specs.HeadSteps.{reading_text};
 ghost use Rattle.page_trees.specs.Images.{FostersImage, StartsImage};
-ghost use Rattle.page_trees.specs.Listing.{PerformsWhere, ProcessesStartWhere, StaysWhere};
+ghost use Rattle.page_trees.specs.Listing.{ProcessesStart, ProcessesStartWhere, StaysWhere};
 ghost use Rattle.page_trees.specs.Listing.{closes_nobr, closing_nobr, dropping_a, drops_a};
-ghost use Rattle.page_trees.specs.Listing.{is_formatting_name, lists_few, lists_no_a, starts_a};
+ghost use Rattle.page_trees.specs.Listing.{is_formatting_name, lists_no_a, starts_a};
 ghost use Rattle.page_trees.specs.Listing.{starts_nobr};
 ghost use Rattle.page_trees.specs.Modes.{is_start_kind};
 ghost use Rattle.page_trees.specs.Scopes.{is_name};
@@ -340,7 +340,6 @@ impl TreeBuilder {
         ensures limits { RemembersLimits self.old self.new }
         ensures none { StaysWhere lists_no_a self.old self.new }
         ensures rule { ActsWhere drops_a TheA tag.now dropping_a self.old self.new }
-        ensures few { LeavesFew drops_a TheA tag.now dropping_a self.old self.new }
     {
         if let Some(open) = self.tree.formatting_named(Name::A) {
             self.adopt(Name::A, tag);
@@ -364,7 +363,6 @@ impl TreeBuilder {
     fn close_nobr(&mut self, tag: &Tag)
         ensures limits { RemembersLimits self.old self.new }
         ensures rule { ActsWhere closes_nobr TheNobr tag.now closing_nobr self.old self.new }
-        ensures few { LeavesFew closes_nobr TheNobr tag.now closing_nobr self.old self.new }
     {
         if self.tree.open().in_scope(Name::Nobr, Scope::Default) {
             self.adopt(Name::Nobr, tag);
@@ -378,7 +376,7 @@ impl TreeBuilder {
         ensures limits { RemembersLimits self.old self.new }
         ensures rule { let list = ReconstructFormatting ∷ InsertElement ∷ ListElement ∷ [] in
             is_formatting_name name ≡ true →
-            PerformsWhere lists_few name tag.now list self.old self.new }
+            PerformsFor name tag.now list self.old self.new }
     {
         self.insert_inline(name, tag);
         let pushed = self.tree.push_formatting();
@@ -390,7 +388,7 @@ impl TreeBuilder {
         ensures next { result ≡ IsDone }
         ensures limits { RemembersLimits self.old self.new }
         ensures rule { group_named name ≡ Plain →
-            ProcessesStartWhere lists_few InBody name tag.now self.old self.new result }
+            ProcessesStart InBody name tag.now self.old self.new result }
     {
         self.start_listed(name, tag)
     }

@@ -1,10 +1,18 @@
-use Rattle.std.proofs.Common.{ℕ, ◌≡◌, Option, subst, sym}
-use Rattle.page_trees.specs.ListIndex.{IsIndexOf}
+use Rattle.std.proofs.Common.{Option, subst}
+use Rattle.page_trees.specs.Likeness.{AreLikesOf, IsLikeness}
+use Rattle.page_trees.specs.ListIndex.{IsIndexOf, likes_of}
 use Rattle.page_trees.specs.declared.formatting.index.FormattingIndex.{FormattingIndex}
 use Rattle.page_trees.proofs.IndexedLists.{indexed_with}
+use Rattle.page_trees.proofs.LikeKeys.{likes_with}
 use Rattle.page_trees.proofs.formatting.with_entry.Goals as goal
 
-pub returns-in-Ok : goal.returns-in-Ok
-returns-in-Ok c entries le at =
-    indexed_with entries c.args.place c.args.entry.now c.in_ok-known.known c.add.new.self
+pub returns-in-Ok-clause-indexed : goal.returns-in-Ok-clause-indexed
+returns-in-Ok-clause-indexed c entries le at =
+    indexed_with entries c.args.place c.args.entry.now c.args.likeness c.in_ok-known.known c.add.new.self
     (subst (λ (o : Option FormattingIndex). IsIndexOf entries o) c.in_ok-known.was at) c.in-Ok.ensures.ids c.in-Ok.ensures.names c.in-Ok.ensures.likes
+
+pub returns-in-Ok-clause-likes : goal.returns-in-Ok-clause-likes
+returns-in-Ok-clause-likes c forest entries le one are =
+    likes_with forest entries c.args.place c.args.entry.now c.args.likeness c.in_ok-known.known c.add.new.self c.in-Ok.ensures.likes c.add.ensures.numbers
+    (subst (λ (o : Option FormattingIndex). IsLikeness forest c.args.entry.now c.args.likeness (likes_of o)) c.in_ok-known.was one)
+    (subst (λ (o : Option FormattingIndex). AreLikesOf forest entries (likes_of o)) c.in_ok-known.was are)

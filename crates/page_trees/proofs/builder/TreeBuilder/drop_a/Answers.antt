@@ -3,7 +3,7 @@ use Rattle.std.specs.Prelude.{Option}
 use Rattle.page_trees.specs.Listing.{FindsEntry, FindsListed}
 use Rattle.page_trees.specs.declared.name.Name.{Name}
 use Rattle.page_trees.specs.declared.stack.Open.{Open}
-use Rattle.page_trees.proofs.DroppedElements.{a_dropped, a_left_few, none_dropped, none_left_few}
+use Rattle.page_trees.proofs.DroppedElements.{a_dropped, none_dropped}
 use Rattle.page_trees.proofs.FormattingRules.{none_to_drop}
 use Rattle.page_trees.proofs.builder.TreeBuilder.drop_a.Goals as goal
 
@@ -24,10 +24,3 @@ returns-in-Some-clause-rule c =
 pub returns-in_default-clause-rule : goal.returns-in_default-clause-rule
 returns-in_default-clause-rule c =
     none_dropped c.args.tag.now c.args.self.now (subst (λ (r : Option Open). FindsListed Name.A c.args.self.now.tree r) c.in_default.is (c.formatting_named.ensures.rule refl))
-
-pub returns-in-Some-clause-few : goal.returns-in-Some-clause-few
-returns-in-Some-clause-few c = a_left_few c.args.tag.now c.args.self.now c.adopt.new.self _ c.remove.new.self refl (c.adopt.ensures.rule refl)
-
-pub returns-in_default-clause-few : goal.returns-in_default-clause-few
-returns-in_default-clause-few c =
-    none_left_few c.args.tag.now c.args.self.now (subst (λ (r : Option Open). FindsListed Name.A c.args.self.now.tree r) c.in_default.is (c.formatting_named.ensures.rule refl))

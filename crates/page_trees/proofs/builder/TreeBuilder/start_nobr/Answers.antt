@@ -6,4 +6,4 @@ pub returns-clause-rule : goal.returns-clause-rule
 returns-clause-rule c =
     nobr_started c.args.tag.now c.args.self.now c.reconstruct.new.self c.close_nobr.new.self c.start_listed.new.self c.start_listed.result c.start_listed.ensures.next
     c.close_nobr.ensures.limits (λ within. c.start_listed.ensures.limits (record { fault = within.fault; depth = within.depth })) c.reconstruct.ensures.rule
-    c.close_nobr.ensures.rule c.close_nobr.ensures.few (c.start_listed.ensures.rule refl)
+    c.close_nobr.ensures.rule (c.start_listed.ensures.rule refl)

@@ -8,4 +8,4 @@ returns-then-not-is_html c known =
 pub returns : goal.returns
 returns c known =
     bare_found _ c.args.self.now c.args.name c.in-Some.current c.index_of.result c.is_none.result c.is_html.result known c.self.view_is c.in-Some.ensures.value c.if-not-is_html.false c.is_html.ensures
-    (λ _. c.index_of.ensures) c.is_none.ensures
+    c.index_of.ensures.place c.is_none.ensures

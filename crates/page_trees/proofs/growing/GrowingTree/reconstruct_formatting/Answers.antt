@@ -13,7 +13,7 @@ invariant_of-self-in_err-push c =
 pub invariant_of-self-2 : goal.invariant_of-self-2
 invariant_of-self-2 c = (
   entry_renewed _ _ _ _ _ _ _ _ _
-      (stack_pushed _ _ _ _ _ _ _ _ _ _ c.self.invariant.0 c.put_copy.ensures.grows c.in_ok-copy.ensures.element c.push.ensures.ok c.push.ensures.err) c.in_ok-copy.ensures.element.element c.replace.ensures,
+      (stack_pushed _ _ _ _ _ _ _ _ _ _ c.self.invariant.0 c.put_copy.ensures.grows c.in_ok-copy.ensures.element c.push.ensures.ok c.push.ensures.err) c.in_ok-copy.ensures.element.element c.replace.ensures.entries c.replace.ensures.likes,
   c.push.ensures.index c.self.invariant.1,
 )
 
@@ -23,6 +23,6 @@ returns-in_default-clause-rule c before o closed listed at in_head within t fost
 
 pub returns-clause-rule : goal.returns-clause-rule
 returns-clause-rule c before o closed listed at in_head within t fosters b all =
-    reopens _ c.args.self.now c.args.placing c.put_copy.new.tree c.gap-gap.result c.args.index before o c.in-Some.open c.in_ok-copy.copy closed c.push.new.self.elements.items c.replace.new.self
+    reopens _ c.args.self.now c.args.placing c.put_copy.new.tree c.gap-gap.result c.args.index before o c.in-Some.open c.in_ok-copy.copy closed c.push.new.self.elements.items c.replace.new.self.entries
     c.entry_element.result t c.self.view_is c.entry_element.ensures.value c.in-Some.is listed at in_head within fosters b all c.self.invariant.0.formatting c.is_forest.ensures c.gap-gap.ensures.open c.gap-gap.ensures.rule
-    c.in_ok-copy.ensures.made c.in_ok-copy.ensures.shape c.in_ok-push.ensures.ok c.replace.ensures
+    c.in_ok-copy.ensures.made c.in_ok-copy.ensures.shape c.in_ok-push.ensures.ok c.replace.ensures.entries

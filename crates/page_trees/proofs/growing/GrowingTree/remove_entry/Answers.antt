@@ -3,4 +3,4 @@ use Rattle.page_trees.proofs.growing.GrowingTree.remove_entry.Goals as goal
 
 pub invariant_of-self : goal.invariant_of-self
 invariant_of-self c =
-    (entries_removed _ _ _ _ _ _ _ _ c.self.invariant.0 c.remove_at.ensures, c.self.invariant.1)
+    (entries_removed _ _ _ _ _ _ _ _ c.self.invariant.0 c.remove_at.ensures.entries (c.remove_at.ensures.likes _), c.self.invariant.1)

@@ -14,12 +14,12 @@ invariant_of-self c =
 
 pub invariant_of-self-2 : goal.invariant_of-self-2
 invariant_of-self-2 c =
-    (stack_renewed _ _ _ _ _ _ _ _ _ _ _ _ c.in-Some-behind.last c.self.invariant.0 c.put_into_copy.ensures.grows c.in_ok-copy.ensures.element (sym c.in-Some-behind.ensures) c.replace-2.ensures.items c.replace.ensures, c.replace-2.ensures.index c.self.invariant.1)
+    (stack_renewed _ _ _ _ _ _ _ _ _ _ _ _ c.in-Some-behind.last c.self.invariant.0 c.put_into_copy.ensures.grows c.in_ok-copy.ensures.element (sym c.in-Some-behind.ensures) c.replace-2.ensures.items c.replace.ensures.entries c.replace.ensures.likes, c.replace-2.ensures.index c.self.invariant.1)
 
 pub returns : goal.returns
 returns c =
     renews _ c.args.self.now _ c.args.place c.args.index c.in-Some.node c.in-Some-behind.last c.in_ok-copy.copy _ _ c.self.view_is c.is_forest.ensures c.self.invariant.0.stack c.in-Some.ensures.value
-    c.in-Some-behind.ensures c.in_ok-copy.ensures.made c.in_ok-copy.ensures.shape c.replace-2.ensures.items c.replace.ensures
+    c.in-Some-behind.ensures c.in_ok-copy.ensures.made c.in_ok-copy.ensures.shape c.replace-2.ensures.items c.replace.ensures.entries
 
 pub returns-in_default : goal.returns-in_default
 returns-in_default c = none_renewed _ c.args.self.now c.args.place c.args.index c.args.place c.self.view_is c.in_default.ensures.value refl
