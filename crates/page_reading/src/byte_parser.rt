@@ -67,8 +67,8 @@ impl PageByteParser {
 
     /// Returns the page after the last piece. Its document always has the shape of a page. It is
     /// the one as which the HTML Standard parses the text of the bytes in the encoding that is
-    /// returned, as far as the code is proved to read it by the rules (`standard`). Fails with the
-    /// error of an earlier call, or with `Memory` or `TooManyNodes`.
+    /// returned, if it nests no deeper than the options allow (`standard`). Fails with the error of
+    /// an earlier call, or with `Memory` or `TooManyNodes`.
     pub fn finish(self) -> Result<ReadPage, PageFault>
         ensures page { IfOk result (λ read. IsPage read.document.tree) }
         ensures standard { IfOk result (ParsesPage self) }

@@ -33,8 +33,8 @@ pub struct ReadPage {
 /// finds it: from a byte order mark, or else from the transport, or else from what the page
 /// declares, or else from the fallback. The byte order mark isn't part of the page's text. A calm
 /// page is parsed as `parse_page` parses it: its text, and a page that comes as UTF-8 and is UTF-8.
-/// Any other page is parsed as the HTML Standard parses its text, as far as the code is proved to
-/// read it by the rules (`text`).
+/// Every page is parsed as the HTML Standard parses its text, if it nests no deeper than the options
+/// allow (`text`).
 /// Fails only with `Memory` or `TooManyNodes`.
 ///
 /// `PageByteParser` parses a page whose bytes come in pieces.

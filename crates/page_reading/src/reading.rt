@@ -11,11 +11,14 @@ ghost use Rattle.dom_trees.specs.SameTree.{SameTree};
 ghost use Rattle.calm_pages.specs.Calm.{IsCalmPage, ReadsCalm, SpellsCalmPage};
 ghost use Rattle.page_reading.specs.Parsers.{ReadsPage};
 ghost use Rattle.page_reading.specs.StandardPages.{EndsBytes, HasParsed, HasParsedBytes};
-ghost use Rattle.page_reading.specs.StandardPages.{IsCoveredPage, IsStandardPage, KeepsParsed};
-ghost use Rattle.page_reading.specs.StandardPages.{ParsesBytesOn, ParsesCovered};
-ghost use Rattle.page_reading.specs.StandardPages.{ParsesCoveredBytes, ParsesOn, ParsesWhole};
+ghost use Rattle.page_reading.specs.StandardPages.{IsFragmentInLimit, IsPageInLimit};
+ghost use Rattle.page_reading.specs.StandardPages.{IsStandardFragment, IsStandardPage, KeepsParsed};
+ghost use Rattle.page_reading.specs.StandardPages.{ParsesBytesOn, ParsesText};
+ghost use Rattle.page_reading.specs.StandardPages.{ParsesBytes, ParsesOn, ParsesWhole};
 ghost use Rattle.page_reading.specs.Utf8Pages.{utf8_text};
+ghost use Rattle.page_trees.specs.Contexts.{IsUnspaced, surroundings_of};
 ghost use Rattle.page_trees.specs.Shape.{IsPage};
+ghost use Rattle.standard_order.specs.Beginnings.{OfFragment, OfPage};
 ghost use Rattle.standard_laws.specs.Pages.{IsParsedPage, IsWrittenPage};
 
 use crate::utf8_pieces::{Utf8Pieces, without_mark};
@@ -39,19 +42,19 @@ pub struct PageParser {
 /// is not an error: it is repaired by the rules of the HTML Standard. Fails only with `Memory` or
 /// `TooManyNodes`.
 ///
-/// A calm page, which is explicit markup that tree construction would leave as it is, is parsed as
-/// `Document::parse` does, if depth is not limited and errors are not collected. This is the tree
-/// that the HTML Standard gives. So is the tree of any other page, as far as the code is proved to
-/// read it by the rules (`other`).
+/// The document is the one as which the HTML Standard parses the page, its tree and its quirks mode,
+/// whatever the page is (`standard`). If the options limit the depth, that is so of a page whose
+/// elements nest no deeper. A calm page is the tree that is written down (`calm`); it is read as
+/// `Document::parse` reads it, if depth is not limited and errors are not collected.
 pub fn parse_page(alloc: Global, source: &str, options: Options) -> Result<Document, PageFault>
     ensures page { IfOk result (λ document. IsPage document.tree) }
     ensures calm { (trees : ValueTrees) → IsCalmPage source.now trees → ReadsCalm options
         → IfOk result (λ document. document.tree ≡ document_of trees) }
     ensures same { (forest : Forest) → SpellsCalmPage source.now forest → ReadsCalm options
         → IfOk result (λ document. SameTree forest 0 document.tree 0) }
-    ensures standard { IsWrittenPage source.now → ReadsCalm options
+    ensures written { IsWrittenPage source.now → ReadsCalm options
         → IfOk result (λ document. IsParsedPage source.now document.tree) }
-    ensures other { IsCoveredPage options (chars source.now)
+    ensures standard { IsPageInLimit options (chars source.now)
         → IfOk result (IsStandardPage options (chars source.now)) }
 {
     // A law, called for its contract alone.
@@ -64,7 +67,7 @@ fn parse_text(alloc: Global, source: &str, options: Options) -> Result<Document,
     ensures page { IfOk result (λ document. IsPage document.tree) }
     ensures calm { (trees : ValueTrees) → IsCalmPage source.now trees → ReadsCalm options
         → IfOk result (λ document. document.tree ≡ document_of trees) }
-    ensures other { IsCoveredPage options (chars source.now)
+    ensures standard { IsPageInLimit options (chars source.now)
         → IfOk result (IsStandardPage options (chars source.now)) }
 {
     if !reads_calm(options) {
@@ -88,7 +91,7 @@ fn reads_calm(options: Options) -> bool
 /// Parses a page by tree construction and returns its document.
 fn parse_any_page(alloc: Global, source: &str, options: Options) -> Result<Document, PageFault>
     ensures page { IfOk result (λ document. IsPage document.tree) }
-    ensures standard { IsCoveredPage options (chars source.now)
+    ensures standard { IsPageInLimit options (chars source.now)
         → IfOk result (IsStandardPage options (chars source.now)) }
 {
     let parser = PageParser::new(alloc, options)?;
@@ -108,9 +111,9 @@ pub fn parse_page_bytes(
         → ReadsCalm options → IfOk result (λ document. document.tree ≡ document_of trees) }
     ensures same { (forest : Forest) → IsUtf8 source.now → SpellsCalmPage source.now forest
         → ReadsCalm options → IfOk result (λ document. SameTree forest 0 document.tree 0) }
-    ensures standard { IsUtf8 source.now → IsWrittenPage source.now → ReadsCalm options
+    ensures written { IsUtf8 source.now → IsWrittenPage source.now → ReadsCalm options
         → IfOk result (λ document. IsParsedPage source.now document.tree) }
-    ensures other { IsCoveredPage options (utf8_text source.now)
+    ensures standard { IsPageInLimit options (utf8_text source.now)
         → IfOk result (IsStandardPage options (utf8_text source.now)) }
 {
     if let Ok(text) = str::from_utf8(source) {
@@ -123,12 +126,20 @@ pub fn parse_page_bytes(
 /// Parses a text as the content of the context element (13.4) and returns a fragment: below the
 /// root is an element `html`, and below that are the nodes. Fails only with `Memory` or
 /// `TooManyNodes`.
+///
+/// These are the nodes as which the HTML Standard parses the text in an element of that name, if
+/// they nest no deeper than the options allow (`standard`). The name has no space; it is taken in
+/// lower case, or as SVG spells it.
 pub fn parse_page_fragment(
     alloc: Global,
     source: &str,
     context: Context<'_>,
     options: Options,
-) -> Result<Document, PageFault> {
+) -> Result<Document, PageFault>
+    ensures standard { let around = surroundings_of context.entry in IsUnspaced context.entry
+        → IsFragmentInLimit options around (chars source.now)
+        → IfOk result (IsStandardFragment options around (chars source.now)) }
+{
     let parser = PageParser::for_fragment(alloc, context, options)?;
     parser.read_whole(source)
 }
@@ -160,8 +171,8 @@ impl PageParser {
     /// Returns a parser for a page. Fails only when memory runs out.
     pub fn new(alloc: Global, options: Options) -> Result<PageParser, PageFault>
         ensures page { IfOk result ReadsPage }
-        ensures begins { IfOk result (HasParsed options []) }
-        ensures bytes { IfOk result (HasParsedBytes options []) }
+        ensures begins { IfOk result (HasParsed options (OfPage options.scripting) []) }
+        ensures bytes { IfOk result (HasParsedBytes options (OfPage options.scripting) []) }
     {
         let reader = PageReader::page(alloc, options)?;
         Ok(PageParser {
@@ -177,9 +188,15 @@ impl PageParser {
         alloc: Global,
         context: Context<'_>,
         options: Options,
-    ) -> Result<PageParser, PageFault> {
+    ) -> Result<PageParser, PageFault>
+        ensures begins { let around = surroundings_of context.entry in IsUnspaced context.entry →
+            IfOk result (HasParsed options (OfFragment options.scripting around) []) }
+        ensures bytes { let around = surroundings_of context.entry in IsUnspaced context.entry →
+            IfOk result (HasParsedBytes options (OfFragment options.scripting around) []) }
+    {
+        let reader = PageReader::fragment(alloc, context, options)?;
         Ok(PageParser {
-            reader: PageReader::fragment(alloc, context, options)?,
+            reader,
             is_fragment: true,
             bytes: Utf8Pieces::new(alloc),
         })
@@ -254,13 +271,13 @@ impl PageParser {
     }
 
     /// Returns the document after the last piece. Fails with the error of an earlier call, or with
-    /// `Memory` or `TooManyNodes`. The document of a page is the one as which the HTML Standard
-    /// parses it, as far as the code is proved to read it by the rules: of a page that came as text
-    /// (`standard`), and of one that came as bytes (`bytes`).
+    /// `Memory` or `TooManyNodes`. The document is the one as which the HTML Standard parses the
+    /// page or the fragment, if it nests no deeper than the options allow: of a text that came as
+    /// such (`standard`), and of one that came as bytes (`bytes`).
     pub fn finish(self) -> Result<Document, PageFault>
         ensures page { ReadsPage self → IfOk result (λ document. IsPage document.tree) }
-        ensures standard { IfOk result (ParsesCovered self) }
-        ensures bytes { IfOk result (ParsesCoveredBytes self) }
+        ensures standard { IfOk result (ParsesText self) }
+        ensures bytes { IfOk result (ParsesBytes self) }
     {
         let mut parser = self;
         parser.end_bytes()?;

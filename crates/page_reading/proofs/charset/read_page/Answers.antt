@@ -1,7 +1,7 @@
 use Rattle.std.proofs.Common.{◌≡◌, ◌∙◌, subst, sym}
 use Rattle.std.specs.Str.{chars}
 use Rattle.calm_pages.specs.Calm.{IsCalmPage, SpellsCalmPage}
-use Rattle.page_reading.specs.StandardPages.{IsCoveredPage, IsStandardPage}
+use Rattle.page_reading.specs.StandardPages.{IsPageInLimit, IsStandardPage}
 use Rattle.text_decoding.specs.Pages.{page_text}
 use Rattle.text_decoding.proofs.PageTexts.{replaced_is, text_is}
 use Rattle.page_reading.proofs.PageLemmas.{utf8_written}
@@ -18,8 +18,8 @@ returns-clause-text c =
         calm = λ trees page. c.in_ok-document.ensures.calm trees (subst (λ t. IsCalmPage t trees) text page) calm;
         same = λ forest page. c.in_ok-document.ensures.same forest (subst (λ t. SpellsCalmPage t forest) text page) calm;
       };
-      standard = λ covered. subst (λ t. IsStandardPage c.args.options (chars t) c.in_ok-document.document) (sym text)
-          (c.in_ok-document.ensures.other (subst (λ t. IsCoveredPage c.args.options (chars t)) text covered));
+      standard = λ limit. subst (λ t. IsStandardPage c.args.options (chars t) c.in_ok-document.document) (sym text)
+          (c.in_ok-document.ensures.standard (subst (λ t. IsPageInLimit c.args.options (chars t)) text limit));
     }
 
 pub returns-clause-utf8 : goal.returns-clause-utf8

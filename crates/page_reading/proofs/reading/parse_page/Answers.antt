@@ -12,8 +12,8 @@ returns-clause-same c = λ forest page reads.
     IfOk-weaker c.parse_text.result (λ (document : Document). document.tree ≡ document_of page.trees) (λ (document : Document). SameTree forest 0 document.tree 0)
     (λ document is. subst (λ (tree : Forest). SameTree forest 0 tree 0) (sym is) page.same) (c.parse_text.ensures.calm page.trees page.page reads)
 
-pub returns-clause-standard : goal.returns-clause-standard
-returns-clause-standard c = λ page reads.
+pub returns-clause-written : goal.returns-clause-written
+returns-clause-written c = λ page reads.
     IfOk-weaker c.parse_text.result (λ (document : Document). document.tree ≡ document_of page.trees) (λ (document : Document). IsParsedPage c.args.source.now document.tree)
     (λ document is. record { trees = page.trees; is = is; parsed = c.written_pages_are_parsed.ensures c.args.source.now page.trees c.utf8.source page.page page.written })
     (c.parse_text.ensures.calm page.trees page.page reads)

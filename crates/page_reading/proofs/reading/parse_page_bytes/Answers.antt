@@ -27,25 +27,25 @@ returns-in-Ok-clause-same c = λ forest utf8 page calm.
     let framed = c.without_mark.ensures.framed (subst IsFramed (sym same) page.page.framed) ∙ same in
     c.parse_page.ensures.same forest (subst (λ (text : List ℕ). SpellsCalmPage text forest) (sym framed) page) calm
 
-pub returns-in-Ok-clause-standard : goal.returns-in-Ok-clause-standard
-returns-in-Ok-clause-standard c = λ utf8 page calm.
+pub returns-in-Ok-clause-written : goal.returns-in-Ok-clause-written
+returns-in-Ok-clause-written c = λ utf8 page calm.
     let same = c.in-Ok.ensures.cases.0 in
     let framed = c.without_mark.ensures.framed (subst IsFramed (sym same) page.page.framed) ∙ same in
     subst (λ (text : List ℕ). IfOk c.parse_page.result (λ (document : Document). IsParsedPage text document.tree)) framed
-    (c.parse_page.ensures.standard (subst IsWrittenPage (sym framed) page) calm)
+    (c.parse_page.ensures.written (subst IsWrittenPage (sym framed) page) calm)
 
 -- its characters, without a byte order mark, are parsed
-pub returns-in-Ok-clause-other : goal.returns-in-Ok-clause-other
-returns-in-Ok-clause-other c =
+pub returns-in-Ok-clause-standard : goal.returns-in-Ok-clause-standard
+returns-in-Ok-clause-standard c =
     let bytes = c.args.source.now in
     let spelt = c.in-Ok.ensures.cases.0 ∙ sym (encodes-chars bytes c.in-Ok.ensures.cases.1) in
     by_rules c.parse_page.result c.args.options c.without_mark.result.now (utf8_text bytes) (search rules)
     (c.without_mark.ensures.rest (chars bytes) spelt ∙ ap (λ cs. encode_utf8_all (unmarked cs)) (sym (utf8_chars bytes c.in-Ok.ensures.cases.1)))
-    c.parse_page.ensures.other
+    c.parse_page.ensures.standard
 
-pub returns-clause-other : goal.returns-clause-other
-returns-clause-other c =
+pub returns-clause-standard : goal.returns-clause-standard
+returns-clause-standard c =
     let bytes = c.args.source.now in
     let spelt = is_spelt _ (characters Utf8 bytes) (c.as_str.ensures ∙ text_is _ _ c.in_ok-text.ensures) in
     by_rules c.parse_page-2.result c.args.options c.without_mark-2.result.now (utf8_text bytes) (search rules)
-    (c.without_mark-2.ensures.rest (with_replacements (characters Utf8 bytes)) spelt) c.parse_page-2.ensures.other
+    (c.without_mark-2.ensures.rest (with_replacements (characters Utf8 bytes)) spelt) c.parse_page-2.ensures.standard

@@ -10,8 +10,8 @@ use Rattle.page_trees.specs.DocumentTrees.{IsParsedAs}
 use Rattle.page_reading.proofs.reading.parse_text.Goals as goal
 
 -- what is read as it is written is a calm page, which is parsed as its document
-pub returns-in-Some-clause-other : goal.returns-in-Some-clause-other
-returns-in-Some-clause-other c = λ covered.
+pub returns-in-Some-clause-standard : goal.returns-in-Some-clause-standard
+returns-in-Some-clause-standard c = λ limit.
     let text = chars c.args.source.now in
     let scripting = c.args.options.scripting in
     let read : IsReadCalm c.args.source.now c.in-Some.document = subst (λ (found : Option Document). IfSome found (IsReadCalm c.args.source.now)) c.in-Some.is c.in_ok-document.ensures.read in

@@ -1,6 +1,7 @@
 use Rattle.std.proofs.Common.{rules, sym, ◌∙◌, ◌++◌}
 use Rattle.std.specs.Str.{IsUtf8, chars}
 use Rattle.std.proofs.lemmas.Str.{encodes-chars}
+use Rattle.standard_order.specs.Beginnings.{OfPage}
 use Rattle.page_reading.specs.BytePages.{ParsesPageOn}
 use Rattle.page_reading.proofs.StandardLemmas.{on_ok}
 use Rattle.page_reading.proofs.byte_parser.PageByteParser.feed.Goals as goal
@@ -16,6 +17,6 @@ returns-in-Ok c =
     record {
       options_are = c.feed-in-Ok.ensures.options ∙ has.options_are;
       read = has.read ++ cs;
-      built = c.feed-in-Ok.ensures.builds options.scripting has.read cs spelt has.built;
+      built = c.feed-in-Ok.ensures.builds (OfPage options.scripting) has.read cs spelt has.built;
       decoded = c.in-Ok.ensures bytes has.read cs has.decoded (sym c.as_str.ensures ∙ spelt);
     })

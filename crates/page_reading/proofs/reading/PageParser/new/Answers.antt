@@ -6,7 +6,7 @@ use Rattle.page_reading.proofs.reading.PageParser.new.Goals as goal
 
 pub returns-clause-begins : goal.returns-clause-begins
 returns-clause-begins c = record {
-  page = refl;
+  kind = refl;
   options_are = c.in_ok-reader.ensures.options;
   built = c.in_ok-reader.ensures.begins;
   no_bytes = nothing_behind c.new.result.decoder c.new.ensures.decoder;
@@ -14,7 +14,7 @@ returns-clause-begins c = record {
 
 pub returns-clause-bytes : goal.returns-clause-bytes
 returns-clause-bytes c = record {
-  page = refl;
+  kind = refl;
   options_are = c.in_ok-reader.ensures.options;
   read = [];
   built = c.in_ok-reader.ensures.begins;
