@@ -32,6 +32,7 @@ pub mod SoundNames
 pub mod SpelledCuts
 pub mod Spellings
 pub mod Splitting
+mod StandardSources
 pub mod Tidy
 pub mod TidyAttrs
 pub mod Totals

@@ -1,7 +1,8 @@
 -- What a policy takes out of trees, in the order of the source.
-use Rattle.std.specs.Prelude.{ℕ, ◌≡◌, ◌<◌, ◌&&◌, Bool, true, false, is_none, List, [], ◌∷◌, ◌++◌, Option, Some, slice_get}
-use Rattle.std.specs.Prelude.{string_bytes, if◌then◌else◌}
+use Rattle.std.specs.Prelude.{ℕ, ◌≡◌, ◌<◌, ◌&&◌, ◌||◌, Bool, true, false, is_none, List, [], ◌∷◌, ◌++◌, Option, Some, slice_get}
+use Rattle.std.specs.Prelude.{codes, string_bytes, if◌then◌else◌}
 use Rattle.std.specs.Option.{option_map_or}
+use Rattle.std.specs.Str.{bytes_eq}
 use Rattle.dom_nodes.specs.Words.{is_among}
 use Rattle.dom_nodes.specs.declared.name.Attr.{Attr}
 use Rattle.dom_nodes.specs.declared.node_data.NodeData.{NodeData}
@@ -13,8 +14,8 @@ use Rattle.dom_markup.specs.Names.{void_names}
 use Rattle.dom_markup.specs.ValueTrees.{Attribute as Left}
 use Rattle.dom_clean.specs.Ahead.{AreKnown, weight}
 use Rattle.dom_clean.specs.Cleaned.{in_body}
-use Rattle.dom_clean.specs.Fates.{cleaned_address, cleaned_attr, fate_of, is_nowhere, place_below, spellable}
-use Rattle.dom_clean.specs.Policy.{Policy, address_names}
+use Rattle.dom_clean.specs.Fates.{cleaned_address, cleaned_attr, fate_of, is_named, is_nowhere, place_below, spellable}
+use Rattle.dom_clean.specs.Policy.{Policy, address_names, link_names}
 use Rattle.dom_clean.specs.declared.fates.Fate.{Fate}
 use Rattle.dom_clean.specs.declared.fates.Fate.TheVariants.{Stays, Unwrapped}
 use Rattle.dom_clean.specs.declared.fates.Place.{Place}
@@ -47,10 +48,15 @@ abbrev pub is_refused_address : Policy → Attr → Bool
 is_refused_address policy attr = is_nowhere attr.name.ns
     && (is_among attr.name.local address_names && is_none (cleaned_address policy (spellable attr.value)))
 
+-- a `rel` with the value that the policy gives to such an element: it is there afterwards, too
+abbrev pub is_given_rel : Policy → List ℕ → Attr → Bool
+is_given_rel policy element attr = is_named (codes "rel") attr
+    && (is_among element link_names && option_map_or (λ rel. bytes_eq attr.value rel) policy.rel false)
+
 -- an attribute after those, if nothing is left of it
 abbrev pub removed_attr : Policy → List ℕ → List Attr → Attr → List Removal
 removed_attr policy element before attr =
-    if is_left (cleaned_attr policy element before attr) then []
+    if is_left (cleaned_attr policy element before attr) || is_given_rel policy element attr then []
     else (if is_refused_address policy attr then an_address attr.name.local else an_attribute attr.name.local) ∷ []
 
 abbrev pub removed_behind : Policy → List ℕ → List Attr → List Attr → List Removal

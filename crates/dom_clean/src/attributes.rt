@@ -68,7 +68,7 @@ pub(crate) fn is_address_name(name: &str) -> bool
 
 /// Returns whether elements of that name are links.
 #[tactic(auto, unfolding(crate::specs::Policy::link_names))]
-fn is_link_name(name: &str) -> bool
+pub(crate) fn is_link_name(name: &str) -> bool
     ensures { result ≡ is_among name.now link_names }
 {
     is_one_of(name, &["a", "area"])
@@ -186,7 +186,7 @@ fn has_named(attrs: &[Attr], name: &str) -> bool
     false
 }
 
-fn is_named(attr: &Attr, name: &str) -> bool
+pub(crate) fn is_named(attr: &Attr, name: &str) -> bool
     ensures { result ≡ is_named name.now attr.now }
 {
     if !is_nowhere(attr) {

@@ -6,14 +6,15 @@ ghost use Rattle.dom_clean.specs.Ahead.{AreKnown};
 ghost use Rattle.dom_clean.specs.Cleaned.{body_of};
 ghost use Rattle.dom_clean.specs.Fates.{cleaned_attr};
 ghost use Rattle.dom_clean.specs.Policies.{policy_of};
-ghost use Rattle.dom_clean.specs.Removals.{Notes, is_left, is_refused_address, removal_of};
+ghost use Rattle.dom_clean.specs.Removals.{Notes, is_given_rel, is_left};
+ghost use Rattle.dom_clean.specs.Removals.{is_refused_address, removal_of};
 ghost use Rattle.dom_clean.specs.Removals.{removed_attr, removed_behind, removed_below, removed_of};
 ghost use Rattle.dom_clean.specs.Removals.Removal.{an_address, an_attribute, an_element};
 ghost use Rattle.dom_clean.specs.declared.writer.Entry.TheVariants.{Row};
 ghost use Rattle.dom_links.specs.Sound.{IsForest};
 
 use crate::addresses::cleaned_address;
-use crate::attributes::{is_address_name, is_nowhere, push_attr};
+use crate::attributes::{is_address_name, is_link_name, is_named, is_nowhere, push_attr};
 use crate::cleaning::body_of;
 use crate::fates::{Fate, Place, fate_of, in_body};
 use crate::lists::Lists;
@@ -212,6 +213,9 @@ fn push_removed_attr(
     if is_left(alloc, lists, element, (before, attr))? {
         return Ok(());
     }
+    if is_given_rel(lists, element, attr) {
+        return Ok(());
+    }
     let local = attr.name.local();
     if is_refused_address(alloc, lists, attr)? {
         return push_address(alloc, made, local.as_str());
@@ -232,6 +236,22 @@ fn is_left(
     let mut text = String::new(alloc);
     push_attr(alloc, lists, element, place, &mut text)?;
     Ok(!text.as_str().is_empty())
+}
+
+/// Returns whether an attribute is a `rel` with the value that the policy gives to such an element.
+fn is_given_rel(lists: &Lists, element: &str, attr: &Attr) -> bool
+    ensures { result ≡ is_given_rel (policy_of lists.now) element.now attr.now }
+{
+    if !is_named(attr, "rel") {
+        return false;
+    }
+    if !is_link_name(element) {
+        return false;
+    }
+    match &lists.rel {
+        Some(rel) => attr.value.as_str() == rel.as_str(),
+        None => false,
+    }
 }
 
 /// Returns whether the value of an attribute is an address of which nothing is left.

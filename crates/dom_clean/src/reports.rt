@@ -8,7 +8,7 @@ ghost use Rattle.calm_pages.specs.Calm.{IsCalmPage};
 ghost use Rattle.dom_markup.specs.Numbered.{document_of};
 ghost use Rattle.dom_markup.specs.ValueTrees.{ValueTrees};
 
-use crate::cleaning::{calm_body, calm_page, clean_node, read_fragment, top_of};
+use crate::cleaning::{calm_body, calm_page, clean_node, fragment_top, read_fragment};
 use crate::counting::{RemovedCounts, count_removed};
 use crate::policy::Policy;
 use crate::removals::removed_below;
@@ -52,7 +52,7 @@ fn report_fragment(alloc: Global, source: &str, policy: &Policy) -> Result<Clean
     ensures { IfOk result (λ made. IsReport policy.now made) }
 {
     let document = read_fragment(alloc, source)?;
-    report_node(&document.tree, top_of(&document.tree), policy)
+    report_node(&document.tree, fragment_top(), policy)
 }
 
 /// Returns the report of the children of a node.

@@ -1,9 +1,13 @@
-use Rattle.std.proofs.Common.{ap, ◌∙◌}
+use Rattle.std.proofs.Common.{Option, ap, false, inr, subst, ◌∙◌}
+use Rattle.std.specs.Prelude.{IfSome}
+use Rattle.std.specs.Str.{chars}
 use Rattle.std.proofs.lemmas.Result.{IfOk-weaker}
 use Rattle.dom_links.specs.Forest.{Forest}
 use Rattle.dom_markup.specs.Numbered.{document_of}
+use Rattle.dom_markup.specs.declared.document.Document.{Document}
+use Rattle.page_trees.specs.DocumentTrees.{IsParsedAs}
 use Rattle.dom_clean.specs.Cleaned.{cleaned_below}
-use Rattle.dom_clean.specs.Laws.{left_below, page_of}
+use Rattle.dom_clean.specs.Laws.{left_below, page_around, page_of}
 use Rattle.dom_clean.specs.Written.{text_of}
 use Rattle.dom_clean.proofs.Again.{page_read, text_stays}
 use Rattle.dom_clean.proofs.Found.{found_is, found_none}
@@ -12,7 +16,7 @@ use Rattle.dom_clean.proofs.cleaning.clean.Goals as goal
 pub returns-in-Some-clause-calm : goal.returns-in-Some-clause-calm
 returns-in-Some-clause-calm c = λ body calm.
     let policy = c.args.policy.now in
-    let read = found_is c.in_ok-document.field-0 c.in-Some.document (document_of (page_of body)) c.in-Some.is (c.in_ok-document.ensures body calm) in
+    let read = found_is c.in_ok-document.field-0 c.in-Some.document (document_of (page_of body)) c.in-Some.is (c.in_ok-document.ensures.calm body calm) in
     IfOk-weaker c.clean_node.result _ _
     (λ text is. is ∙ ap (λ n. text_of (cleaned_below policy c.in-Some.document.tree n)) c.calm_body.ensures ∙ ap (λ (forest : Forest). text_of (cleaned_below policy forest 5)) read)
     c.clean_node.ensures.text
@@ -25,16 +29,29 @@ returns-in-Some-clause-again c = λ left.
     let policy = c.args.policy.now in
     let sound = c.lists.ensures.sound in
     let page = document_of (page_of (left_below policy left.0 left.1)) in
-    let read = found_is c.in_ok-document.field-0 c.in-Some.document page c.in-Some.is (c.in_ok-document.ensures (left_below policy left.0 left.1) (page_read policy sound c.args.source.now left)) in
+    let read = found_is c.in_ok-document.field-0 c.in-Some.document page c.in-Some.is (c.in_ok-document.ensures.calm (left_below policy left.0 left.1) (page_read policy sound c.args.source.now left)) in
     IfOk-weaker c.clean_node.result _ _
     (λ text is. is ∙ ap (λ n. text_of (cleaned_below policy c.in-Some.document.tree n)) c.calm_body.ensures ∙ ap (λ (forest : Forest). text_of (cleaned_below policy forest 5)) read ∙ text_stays policy sound c.args.source.now left)
     c.clean_node.ensures.text
 
 pub returns-in-None-clause-calm : goal.returns-in-None-clause-calm
-returns-in-None-clause-calm c = λ body calm. absurd (found_none c.in_ok-document.field-0 (document_of (page_of body)) c.in-None.is (c.in_ok-document.ensures body calm))
+returns-in-None-clause-calm c = λ body calm. absurd (found_none c.in_ok-document.field-0 (document_of (page_of body)) c.in-None.is (c.in_ok-document.ensures.calm body calm))
 
 pub returns-in-None-clause-again : goal.returns-in-None-clause-again
 returns-in-None-clause-again c = λ left.
     let policy = c.args.policy.now in
     let body = left_below policy left.0 left.1 in
-    absurd (found_none c.in_ok-document.field-0 (document_of (page_of body)) c.in-None.is (c.in_ok-document.ensures body (page_read policy c.lists.ensures.sound c.args.source.now left)))
+    absurd (found_none c.in_ok-document.field-0 (document_of (page_of body)) c.in-None.is (c.in_ok-document.ensures.calm body (page_read policy c.lists.ensures.sound c.args.source.now left)))
+
+pub returns-in-Some-clause-standard : goal.returns-in-Some-clause-standard
+returns-in-Some-clause-standard c = λ limit.
+    let document = c.in-Some.document in
+    let parsed = subst (λ (found : Option Document). IfSome found (λ (d : Document). IsParsedAs false (chars (page_around c.args.source.now)) d.tree d.quirks_mode)) c.in-Some.is c.in_ok-document.ensures.parsed in
+    IfOk-weaker c.clean_node.result _ _
+    (λ text is. inr (record {
+      forest = document.tree;
+      quirks = document.quirks_mode;
+      parsed = parsed;
+      is = is ∙ ap (λ n. text_of (cleaned_below c.args.policy.now document.tree n)) c.calm_body.ensures;
+    }))
+    c.clean_node.ensures.text

@@ -16,7 +16,7 @@ returns-clause-cleaned c =
 pub returns-clause-calm : goal.returns-clause-calm
 returns-clause-calm c = λ trees calm.
     let policy = c.args.policy.now in
-    let read : c.in_ok-document.document.tree ≡ document_of trees = c.in_ok-document.ensures trees calm in
+    let read : c.in_ok-document.document.tree ≡ document_of trees = c.in_ok-document.ensures.calm trees calm in
     c.in_ok-page_around.ensures ∙ ap page_around (c.as_str.ensures.value ∙ c.in_ok-text.ensures.text ∙ ap (λ n. text_of (cleaned_below policy c.in_ok-document.document.tree n)) c.body_of.ensures
     ∙ ap (λ (forest : Forest). text_of (cleaned_body policy forest)) read)
 
@@ -33,6 +33,15 @@ returns-clause-again c = λ left.
     let sound = c.lists.ensures.sound in
     let body = left_below policy left.2.0 left.2.1 in
     let calm : IsCalmPage c.args.source.now (page_of body) = subst (λ (t : List ℕ). IsCalmPage t (page_of body)) (sym left.1) (page_read policy sound left.0 left.2) in
-    let read : c.in_ok-document.document.tree ≡ document_of (page_of body) = c.in_ok-document.ensures (page_of body) calm in
+    let read : c.in_ok-document.document.tree ≡ document_of (page_of body) = c.in_ok-document.ensures.calm (page_of body) calm in
     c.in_ok-page_around.ensures ∙ ap page_around (c.as_str.ensures.value ∙ c.in_ok-text.ensures.text ∙ ap (λ n. text_of (cleaned_below policy c.in_ok-document.document.tree n)) c.body_of.ensures
     ∙ ap (λ (forest : Forest). text_of (cleaned_body policy forest)) read ∙ ap text_of (body_again policy body) ∙ text_stays policy sound left.0 left.2) ∙ sym left.1
+
+pub returns-clause-standard : goal.returns-clause-standard
+returns-clause-standard c = λ limit. record {
+  forest = c.in_ok-document.document.tree;
+  quirks = c.in_ok-document.document.quirks_mode;
+  parsed = c.in_ok-document.ensures.standard limit;
+  is = c.in_ok-page_around.ensures ∙ ap page_around (c.as_str.ensures.value ∙ c.in_ok-text.ensures.text
+      ∙ ap (λ n. text_of (cleaned_below c.args.policy.now c.in_ok-document.document.tree n)) c.body_of.ensures);
+}
