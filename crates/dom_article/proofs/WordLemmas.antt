@@ -1,6 +1,6 @@
 -- The words in a class or an id.
 use Rattle.std.proofs.Common.{ℕ, zero, suc, ◌≡◌, ◌<◌, ◌≤◌, ◌⊎◌, ◌+◌, ◌-◌, ◌∙◌, Bool, true, false, true≢false, List, [], ◌∷◌, inl, inr, refl, sym, ap, subst, arith, add-one, length, drop, take, get_or, replicate, set}
-use Rattle.std.specs.Prelude.{◌==◌, ◌&&◌, not, nat_le, ◌*◌, map}
+use Rattle.std.specs.Prelude.{◌==◌, ◌&&◌, ◌||◌, not, nat_le, ◌*◌, codes, map}
 use Rattle.std.specs.Char.{to_ascii_lowercase}
 use Rattle.std.specs.List.{list_all}
 use Rattle.std.specs.Str.{bytes_eq}
@@ -10,7 +10,7 @@ use Rattle.std.proofs.lemmas.Bool.{cases_Bool, cases_lt, eq-eqb, eqb-true}
 use Rattle.std.proofs.lemmas.Bool.Decides.{nat_tests}
 use Rattle.std.proofs.lemmas.List.{drop-map, get_or-drop, get_or-set_other, get_or-set_same, length-drop, length-replicate, length-set, take_all}
 use Rattle.std.proofs.lemmas.Slice.Eq.{bytes_eq-Decides}
-use Rattle.dom_article.specs.Words.{Entry, IsIndexTo, begins, found_after, has_capital, is_capital, is_here, is_letter_or_digit, is_small, letter_number, lowered, pair_at, pair_of, scan, skip_after, table, with_start, with_word, with_words}
+use Rattle.dom_article.specs.Words.{Entry, IsIndexTo, begins, found_after, has_capital, is_capital, is_here, is_letter_or_digit, is_small, letter_number, look_length, lowered, may_be_look, pair_at, pair_of, scan, skip_after, table, with_start, with_word, with_words}
 use Rattle.dom_article.specs.declared.tables.Way.{Way}
 use Rattle.dom_article.specs.declared.words.Found.{Found}
 use Rattle.dom_article.proofs.FoldLemmas.{TableWord}
@@ -245,3 +245,42 @@ lowered_same (c ∷ cs) after_small none = elim (cases_Bool (is_capital c)) [
   | inr f ↦ (let rest : has_capital cs ≡ false = rw f at none in
       rw f (ap (λ (k : ℕ). k ∷ lowered (is_small c) cs) (lower_kept c f) ∙ ap (λ ks. c ∷ ks) (lowered_same cs (is_small c) rest)))
 ]
+
+-- ---- classes that say how something looks
+
+-- a text that begins with another letter doesn't begin with a word
+other_letter : (w c : ℕ) (word text : List ℕ) → (c == w) ≡ false → begins (w ∷ word) (c ∷ text) ≡ false
+other_letter w c word text other = elim (cases_Bool (begins (w ∷ word) (c ∷ text))) [
+  | inl same ↦ absurd (true≢false (sym (eq-eqb c w (heads c w (take (length word) text) word ((bytes_eq-Decides (c ∷ take (length word) text) (w ∷ word)).0 same))) ∙ other))
+  | inr f ↦ f
+]
+  where
+    heads : (a b : ℕ) (xs ys : List ℕ) → a ∷ xs ≡ b ∷ ys → a ≡ b
+    heads a b xs ys e = cc
+
+-- and none begins with one at its end
+no_letter : (w : ℕ) (word : List ℕ) → begins (w ∷ word) [] ≡ false
+no_letter w word = elim (cases_Bool (begins (w ∷ word) [])) [
+  | inl same ↦ absurd (nothing w word ((bytes_eq-Decides [] (w ∷ word)).0 same))
+  | inr f ↦ f
+]
+  where
+    nothing : (b : ℕ) (bs : List ℕ) → [] ≡ b ∷ bs → ⊥
+    nothing b bs e = cc
+
+-- without such a word at the start there is no such class
+no_class : (text : List ℕ) → begins (codes "text-") text ≡ false → begins (codes "justify-") text ≡ false → begins (codes "content-") text ≡ false → look_length text ≡ 0
+no_class text first second third = rw (first, second, third) refl
+
+all_false : (a b c : Bool) → (a || b || c) ≡ false → (a ≡ false) × (b ≡ false) × (c ≡ false)
+all_false false false false e = (refl, refl, refl)
+all_false true b c e = absurd (true≢false e)
+all_false false true c e = absurd (true≢false e)
+all_false false false true e = absurd (true≢false e)
+
+-- A text that begins with no first letter of such a class begins with no such class.
+pub no_look : (text : List ℕ) → may_be_look text ≡ false → look_length text ≡ 0
+no_look [] is = no_class [] (no_letter 116 (codes "ext-")) (no_letter 106 (codes "ustify-")) (no_letter 99 (codes "ontent-"))
+no_look (c ∷ cs) is =
+    let others = all_false (c == 116) (c == 99) (c == 106) is in
+    no_class (c ∷ cs) (other_letter 116 c (codes "ext-") cs others.0) (other_letter 106 c (codes "ustify-") cs others.2) (other_letter 99 c (codes "ontent-") cs others.1)

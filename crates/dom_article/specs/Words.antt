@@ -110,6 +110,11 @@ length_to text rest looks = if has_look looks rest false then class_length text 
 abbrev pub without_justify : List ℕ → List ℕ
 without_justify text = if begins (codes "justify-") text then drop 8 text else text
 
+-- Whether a text begins with the first letter of a class that says how something looks.
+abbrev pub may_be_look : List ℕ → Bool
+may_be_look [] = false
+may_be_look (c ∷ cs) = (c == 116) || (c == 99) || (c == 106)
+
 -- The length of a class such as `text-center`, `content-between` or `justify-content-between` at the start, or 0.
 abbrev pub look_length : List ℕ → ℕ
 look_length text =

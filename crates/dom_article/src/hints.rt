@@ -38,7 +38,7 @@ pub(crate) fn is_main(tag: Tag, attributes: &Attributes<'_>) -> bool
     says_main(attributes)
 }
 
-fn is_main_tag(tag: Tag) -> bool
+pub(crate) fn is_main_tag(tag: Tag) -> bool
     ensures { result ≡ is_main_tag tag }
 {
     matches!(tag, Tag::Main | Tag::Article)
@@ -127,7 +127,7 @@ pub(crate) fn is_input(tag: Tag, attributes: &Attributes<'_>) -> bool
     attributes.input != "hidden"
 }
 
-fn is_input_tag(tag: Tag) -> bool
+pub(crate) fn is_input_tag(tag: Tag) -> bool
     ensures { result ≡ is_input_tag tag }
 {
     matches!(tag, Tag::Input | Tag::Textarea)

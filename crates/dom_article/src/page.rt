@@ -1,6 +1,6 @@
 //! What is known of each node of a page before it is judged in rounds.
 
-ghost use Rattle.std.specs.Prelude.{◌≡◌, false, length, IfOk, List};
+ghost use Rattle.std.specs.Prelude.{◌≡◌, [], false, length, IfOk, List};
 ghost use Rattle.dom_links.specs.Forest.{parent};
 ghost use Rattle.dom_links.specs.Trees.{descendants_in_order};
 ghost use Rattle.dom_nodes.specs.declared.name.Attr.{Attr};
@@ -13,12 +13,12 @@ ghost use Rattle.dom_article.specs.Known.{AreAlike, AreEachKnown, IsLookedAt, wi
 ghost use Rattle.dom_article.specs.Names.{AreKinds};
 ghost use Rattle.dom_article.specs.Nodes.{IsOrdered};
 ghost use Rattle.dom_article.specs.Texts.{page_nodes};
-ghost use Rattle.dom_article.specs.Words.{IsIndex};
+ghost use Rattle.dom_article.specs.Words.{IsIndex, words_in};
 
 use crate::attributes::Attributes;
 use crate::hints::{
-    has_letters, has_role, is_byline, is_date, is_hidden, is_input, is_link, is_main, is_unlikely,
-    points_of_words, says_main,
+    has_letters, has_role, is_byline, is_date, is_hidden, is_input, is_input_tag, is_link, is_main,
+    is_main_tag, is_unlikely, points_of_words, says_main,
 };
 use crate::kinds::{Kind, Kinds, Tag};
 use crate::marking::forest_laws;
@@ -358,10 +358,35 @@ fn facts_of_element(
     ensures facts { IfOk result (λ facts. IsNode (AnElement element.now) facts) }
 {
     let kind = kinds.kind_of(&element.name().local());
+    if element.attrs().as_slice().is_empty() {
+        return Ok(plain_facts(kind));
+    }
     let attributes = Attributes::of(element);
     let class = words.find(attributes.class)?;
     let id = words.find(attributes.id)?;
     Ok(element_facts(kind, &attributes, &class, &id))
+}
+
+/// Returns what is known of an element of this kind without attributes.
+fn plain_facts(kind: Kind) -> Facts
+    ensures { IsElement kind [] (words_in []) (words_in []) result }
+{
+    Facts {
+        kind,
+        text: TextFacts::NONE,
+        weight: 0,
+        is_main: is_main_tag(kind.tag),
+        holds: false,
+        is_hidden: kind.is_never,
+        has_role: false,
+        is_unlikely: false,
+        has_class: false,
+        is_byline: false,
+        is_date: false,
+        is_raised: false,
+        is_link: false,
+        is_input: is_input_tag(kind.tag),
+    }
 }
 
 /// Returns what is known of an element of this kind with these attributes, in whose class and id

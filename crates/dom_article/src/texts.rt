@@ -1,8 +1,8 @@
 //! What counts of a text: its size, its commas, and how it ends.
 
 ghost use Rattle.std.specs.Prelude.{◌≡◌};
-ghost use Rattle.dom_article.specs.Contents.{ends_sentence, is_comma, size_of, text_facts};
-ghost use Rattle.dom_article.specs.Contents.{with_char};
+ghost use Rattle.dom_article.specs.Contents.{ends_sentence, is_comma, no_text, size_of};
+ghost use Rattle.dom_article.specs.Contents.{text_facts, with_char, with_chars};
 ghost use Rattle.dom_article.specs.Texts.{is_blank, is_visible};
 
 use crate::sums::one_if;
@@ -32,9 +32,30 @@ impl TextFacts {
     pub(crate) fn of(text: &str) -> TextFacts
         ensures { result ≡ text_facts text.now }
     {
+        if text.is_ascii() {
+            return TextFacts::of_ascii(text.as_bytes());
+        }
+        TextFacts::of_chars(text)
+    }
+
+    /// Returns what counts of the characters of a text.
+    fn of_chars(text: &str) -> TextFacts
+        ensures { result ≡ text_facts text.now }
+    {
         let mut facts = TextFacts::NONE;
         for c in text.chars() {
             facts.add(c);
+        }
+        facts
+    }
+
+    /// Returns what counts of a text of which each byte is a character.
+    fn of_ascii(text: &[u8]) -> TextFacts
+        ensures { result ≡ with_chars no_text text.now }
+    {
+        let mut facts = TextFacts::NONE;
+        for byte in text {
+            facts.add(char::from(*byte));
         }
         facts
     }

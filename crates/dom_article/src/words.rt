@@ -9,7 +9,7 @@ ghost use Rattle.dom_article.specs.Words.{ends_word, found_after, has_capital, h
 ghost use Rattle.dom_article.specs.Words.{is_capital, is_here, is_in_class, is_letter_or_digit};
 ghost use Rattle.dom_article.specs.Words.{is_look, is_small};
 ghost use Rattle.dom_article.specs.Words.{is_whole, length_to, letter_number, look_at, look_length};
-ghost use Rattle.dom_article.specs.Words.{lowered, no_words, pair_at, pair_of, scan, skip_after};
+ghost use Rattle.dom_article.specs.Words.{lowered, may_be_look, no_words, pair_at, pair_of, scan, skip_after};
 ghost use Rattle.dom_article.specs.Words.{table, with_list, with_start, with_word, with_words};
 ghost use Rattle.dom_article.specs.Words.{without_justify, words_in};
 
@@ -402,6 +402,26 @@ fn look_at(text: &[u8], first: bool) -> usize
 /// Returns the length of a class at the start that only says how something looks, such as
 /// `text-center` and `justify-content-between`; 0 if there is none.
 fn look_length(text: &[u8]) -> usize
+    ensures { result ≡ look_length text.now }
+{
+    if !may_be_look(text) {
+        return 0;
+    }
+    length_of_look(text)
+}
+
+/// Returns whether a text begins with the first letter of such a class.
+fn may_be_look(text: &[u8]) -> bool
+    ensures { result ≡ may_be_look text.now }
+{
+    match text.first() {
+        Some(byte) => *byte == b't' || *byte == b'c' || *byte == b'j',
+        None => false,
+    }
+}
+
+/// Returns the length of such a class at the start, whatever the first letter is.
+fn length_of_look(text: &[u8]) -> usize
     ensures { result ≡ look_length text.now }
 {
     if let Some(rest) = text.strip_prefix(b"text-") {
