@@ -4,9 +4,8 @@
 // for what it uses: without the mending, parse5 reads a `noframes` in a body as markup.
 "use strict";
 const { spawnSync } = require("child_process");
-const parse5 = require("parse5");
 const { maker } = require("./fragments.js");
-const { clean, policyOf, readIn, PLACES } = require("./model.js");
+const { clean, policyOf, readIn, PLACES, activeParts } = require("./model.js");
 const [program, count, seed] = [process.argv[2], Number(process.argv[3]), Number(process.argv[4] || 1)];
 
 const { fragment, policyLines } = maker(seed);
@@ -15,24 +14,6 @@ function byProgram(lines, sources) {
   const ran = spawnSync(program, ["clean", "each", ...lines], { input: sources.join("\x1e"), maxBuffer: 1 << 30 });
   if (ran.status !== 0) throw new Error(`status ${ran.status} for ${lines}: ${ran.stdout}`);
   return ran.stdout.toString().split("\x1e").slice(0, -1);
-}
-const ADDRESSES = "action background cite classid codebase data dynsrc formaction href icon longdesc lowsrc manifest poster profile src usemap".split(" ");
-const ACTIVE = "script style iframe svg math object embed template noscript base meta link".split(" ");
-// what could run or bring in a script, in the tree that parse5 reads
-function activeParts(text) {
-  const found = [];
-  const open = [parse5.parseFragment(text)];
-  while (open.length) {
-    const node = open.pop();
-    open.push(...(node.childNodes || []));
-    if (ACTIVE.includes(node.tagName)) found.push(node.tagName);
-    for (const { name, value } of node.attrs || []) {
-      if (name.startsWith("on") || ["style", "srcdoc", "srcset"].includes(name)) found.push(name);
-      if (!ADDRESSES.includes(name)) continue;
-      try { const { protocol } = new URL(value, "http://base.example/"); if (["javascript:", "data:", "vbscript:"].includes(protocol)) found.push(`${name} ${protocol}`); } catch (fault) { /* leads nowhere */ }
-    }
-  }
-  return found;
 }
 const fails = { model: 0, again: 0, read: 0, active: 0 };
 const shown = [];

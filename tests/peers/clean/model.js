@@ -128,12 +128,18 @@ function common() {
   const own = COMMON.own.split("|").flatMap((part) => part.split(":")[1].split(" ").map((name) => [part.split(":")[0], name, []]));
   return { ...none(), elements: words(COMMON.elements), dropped: words("script style"), attributes: words("lang title"), own, schemes: words(COMMON.schemes), relative: "keep", rel: "noopener noreferrer", depth: 256 };
 }
+const PRESETS = {
+  text: () => none(),
+  inline: () => ({ ...none(), elements: words("a abbr b bdi bdo br cite code data del dfn em i ins kbd mark q s samp small span strong sub sup time u var wbr"), attributes: words("lang title"), own: [["a", "href", []], ["bdo", "dir", []], ["time", "datetime", []]], schemes: words("http https mailto"), relative: "keep", rel: "noopener noreferrer" }),
+  comment: () => ({ ...none(), elements: words("a abbr b blockquote br code del em i li ol p pre q s strong sub sup ul"), own: [["a", "href", []], ["ol", "start", []]], schemes: words("http https mailto"), rel: "nofollow noopener noreferrer", depth: 64 }),
+  common,
+};
 function policyOf(lines) {
   let policy = none();
   for (const line of lines) {
     const [call, ...rest] = line.split(" ");
     const value = rest.join(" ");
-    if (call === "common") policy = common();
+    if (PRESETS[call]) policy = PRESETS[call]();
     else if (call === "element") policy.elements.add(value);
     else if (call === "drop") policy.dropped.add(value);
     else if (call === "attribute") policy.attributes.add(value);
@@ -184,4 +190,21 @@ function readIn(place, text, scriptingEnabled) {
   return written(html.childNodes[1].childNodes);
 }
 const PLACES = ["page", "div", "body", "td", "li"];
-module.exports = { clean, policyOf, readIn, PLACES, written };
+const ACTIVE = words("script style iframe svg math object embed template noscript base meta link");
+// what could run or bring in a script, in the tree that parse5 reads
+function activeParts(text) {
+  const found = [];
+  const open = [parse5.parseFragment(text)];
+  while (open.length) {
+    const node = open.pop();
+    open.push(...(node.childNodes || []));
+    if (ACTIVE.has(node.tagName)) found.push(node.tagName);
+    for (const { name, value } of node.attrs || []) {
+      if (name.startsWith("on") || ["style", "srcdoc", "srcset"].includes(name)) found.push(name);
+      if (!ADDRESSES.has(name)) continue;
+      try { const { protocol } = new URL(value, "http://base.example/"); if (["javascript:", "data:", "vbscript:"].includes(protocol)) found.push(`${name} ${protocol}`); } catch (fault) { /* leads nowhere */ }
+    }
+  }
+  return found;
+}
+module.exports = { clean, policyOf, readIn, PLACES, written, activeParts };
