@@ -98,7 +98,8 @@ FUNCTIONS = {
     "mode_named": ["fragment"],
     "state_in": ["fragment"],
     "begin_fragment": ["fragment"],
-    "begin_in": ["fragment"],
+    "push_own_mode": ["fragment"],
+    "set_own_form": ["fragment"],
     # "in body"
     "end_paragraph": ["in body"],
     "close_nobr": ["in body"],
@@ -157,6 +158,7 @@ OTHER_ARRAYS = {
 OTHER_OPTIONS = {
     "in-place": "it writes files; tests/checks/documents.py runs it in docs/HQ.md",
     "verbose": "it writes to standard error; tests/rows/hq/charset.jsonl",
+    "report": "it writes to standard error; tests/rows/hq/reports.jsonl",
     "progress": "it prints a time; tests/rows/hq/lines.jsonl and tests/checks/documents.py",
 }
 
